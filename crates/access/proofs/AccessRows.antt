@@ -18,7 +18,8 @@ no_row = refl
 
 -- of cell 102, octal, which is 66: MAIN reads at 1716 and writes at 1717, T5RUPT, interrupt 2, at 1720 and 1721, and T4RUPT, interrupt 4,
 -- reads at 1724; the main program while interrupts are inhibited writes at 1739
-numbers : slot 66 0 0 ∷ slot 66 0 1 ∷ slot 66 2 0 ∷ slot 66 2 1 ∷ slot 66 4 0 ∷ slot 66 11 1 ∷ [] ≡ 1716 ∷ 1717 ∷ 1720 ∷ 1721 ∷ 1724 ∷ 1739 ∷ []
+numbers : slot 66 0 0 ∷ slot 66 0 1 ∷ slot 66 2 0 ∷ slot 66 2 1 ∷ slot 66 4 0 ∷ slot 66 11 1 ∷ []
+    ≡ 1716 ∷ 1717 ∷ 1720 ∷ 1721 ∷ 1724 ∷ 1739 ∷ []
 numbers = refl
 
 abbrev once : List ℕ → Figures

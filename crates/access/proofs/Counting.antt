@@ -1,5 +1,6 @@
 -- The counts of a run, step by step.
-use Rattle.std.proofs.Common.{◌≡◌, ℕ, zero, suc, ◌+◌, ◌*◌, ◌<◌, ◌≤◌, ◌^◌, List, [], ◌∷◌, ◌++◌, length, replicate, get_or, set, refl, sym, ap, ◌∙◌, inl, inr, arith, add-one, subst}
+use Rattle.std.proofs.Common.{◌≡◌, ℕ, zero, suc, ◌+◌, ◌*◌, ◌<◌, ◌≤◌, ◌^◌, List, [], ◌∷◌, ◌++◌, length, replicate, get_or, set, refl, sym}
+use Rattle.std.proofs.Common.{ap, ◌∙◌, inl, inr, arith, add-one, subst}
 use Rattle.std.proofs.lemmas.Bool.Decides.{eqb_tells}
 use Rattle.std.specs.List.{flat_map}
 use Rattle.std.proofs.lemmas.List.Concat.{flat_map-append}
@@ -23,7 +24,8 @@ none_held (suc n) zero = refl
 none_held (suc n) (suc k) = none_held n k
 
 -- before the first step
-pub none_counted : (view : View) (scenario : Scenario) (t : Tallied) → t.view ≡ view → t.counts ≡ replicate (slot_count view) 0 → t.last ≡ 0 → Counts view scenario 0 t
+pub none_counted : (view : View) (scenario : Scenario) (t : Tallied) → t.view ≡ view → t.counts ≡ replicate (slot_count view) 0 → t.last ≡ 0
+    → Counts view scenario 0 t
 unfolding times last_entered
 none_counted view scenario t same e last = record {
   same = same;
@@ -39,7 +41,8 @@ counted_at : (counts : List ℕ) (i j : ℕ) → j < length counts → get_or (c
 counted_at counts i j within =
     elim (eqb_tells i j) [
       | inl same ↦
-          let at : get_or (counted counts j) i 0 ≡ get_or counts j 0 + 1 = rw same.1 (get_or-set_same counts j (get_or counts j 0 + 1) 0 within) in
+          let at : get_or (counted counts j) i 0 ≡ get_or counts j 0
+          + 1 = rw same.1 (get_or-set_same counts j (get_or counts j 0 + 1) 0 within) in
           let is : get_or counts i 0 ≡ get_or counts j 0 = ap (λ k. get_or counts k 0) same.1 in
           rw same.0 (omega (arith, at, is))
       | inr apart ↦
@@ -52,10 +55,12 @@ length_counted [] counts = refl
 length_counted (i ∷ is) counts = length_counted is (counted counts i) ∙ length-set counts i (get_or counts i 0 + 1)
 
 -- several are
-pub all_counted_at : (is counts : List ℕ) (i : ℕ) → AreBelow (length counts) is → get_or (all_counted counts is) i 0 ≡ get_or counts i 0 + times_in i is
+pub all_counted_at : (is counts : List ℕ) (i : ℕ) → AreBelow (length counts) is
+    → get_or (all_counted counts is) i 0 ≡ get_or counts i 0 + times_in i is
 all_counted_at [] counts i below = omega arith
 all_counted_at (j ∷ is) counts i below =
-    let rest : AreBelow (length (counted counts j)) is = subst (λ (n : ℕ). AreBelow n is) (sym (length-set counts j (get_or counts j 0 + 1))) below.1 in
+    let rest : AreBelow (length (counted counts j)) is = subst (λ (n : ℕ). AreBelow n is)
+    (sym (length-set counts j (get_or counts j 0 + 1))) below.1 in
     let later = all_counted_at is (counted counts j) i rest in
     let first = counted_at counts i j below.0 in
     omega (arith, later, first)
@@ -79,7 +84,8 @@ few_times i (j ∷ is) =
       | inr apart ↦ rw apart.0 (omega (arith, rest))
     ]
 
-pub at_most_more : (counts is : List ℕ) (most k : ℕ) → AreBelow (length counts) is → length is ≤ k → AreAtMost counts most → AreAtMost (all_counted counts is) (most + k)
+pub at_most_more : (counts is : List ℕ) (most k : ℕ) → AreBelow (length counts) is → length is ≤ k → AreAtMost counts most
+    → AreAtMost (all_counted counts is) (most + k)
 at_most_more counts is most k below few small i =
     let at = all_counted_at is counts i below in
     let before = small i in
@@ -89,7 +95,8 @@ at_most_more counts is most k below few small i =
 pub at_most_longer : (counts : List ℕ) (most more : ℕ) → most ≤ more → AreAtMost counts most → AreAtMost counts more
 at_most_longer counts most more le small i = let before = small i in omega (arith, before, le)
 
-known_more : (view : View) (scenario : Scenario) (n : ℕ) → ((t : ℕ) → t < n → AreBelow (slot_count view) (slots_at view scenario t)) → AreBelow (slot_count view) (slots_at view scenario n)
+known_more : (view : View) (scenario : Scenario) (n : ℕ) → ((t : ℕ) → t < n → AreBelow (slot_count view) (slots_at view scenario t))
+    → AreBelow (slot_count view) (slots_at view scenario n)
     → (t : ℕ) → t < n + 1 → AreBelow (slot_count view) (slots_at view scenario t)
 known_more view scenario n before here t lt =
     elim (eqb_tells t n) [
@@ -97,25 +104,31 @@ known_more view scenario n before here t lt =
       | inr apart ↦ before t (omega (arith, lt, apart.1))
     ]
 
-times_more : (view : View) (scenario : Scenario) (n i : ℕ) → times view scenario (n + 1) i ≡ times view scenario n i + times_in i (slots_at view scenario n)
+times_more : (view : View) (scenario : Scenario) (n i : ℕ)
+    → times view scenario (n + 1) i ≡ times view scenario n i + times_in i (slots_at view scenario n)
 unfolding times
 times_more view scenario n i = rw (add-one n) refl
 
-last_more : (scenario : Scenario) (n : ℕ) → last_entered scenario (n + 1) ≡ entered_by (next_step scenario (run scenario n)) (last_entered scenario n)
+last_more : (scenario : Scenario) (n : ℕ) → last_entered scenario (n + 1)
+    ≡ entered_by (next_step scenario (run scenario n)) (last_entered scenario n)
 unfolding last_entered
 last_more scenario n = rw (add-one n) refl
 
 -- a step more
-pub counts_more : (view : View) (scenario now : Scenario) (n : ℕ) (s : State) (old new : Tallied) → now ≡ scenario → s ≡ run scenario n → Counts view scenario n old
-    → new.view ≡ old.view → new.last ≡ entered_by (next_step now s) old.last → AreBelow (slot_count old.view) (slots_after old.view now s old.last)
+pub counts_more : (view : View) (scenario now : Scenario) (n : ℕ) (s : State) (old new : Tallied) → now ≡ scenario → s ≡ run scenario n
+    → Counts view scenario n old
+    → new.view ≡ old.view → new.last ≡ entered_by (next_step now s) old.last
+    → AreBelow (slot_count old.view) (slots_after old.view now s old.last)
     → length (slots_after old.view now s old.last) ≤ 18
     → new.counts ≡ all_counted old.counts (slots_after old.view now s old.last) → Counts view scenario (n + 1) new
 counts_more view scenario now n s old new same at before kept last known few counts =
     let here : AreBelow (slot_count view) (slots_at view scenario n) = rw (before.same, same, at, before.last) at known in
     let is : new.counts ≡ all_counted old.counts (slots_at view scenario n) = rw (before.same, same, at, before.last) at counts in
-    let below : AreBelow (length old.counts) (slots_at view scenario n) = subst (λ (k : ℕ). AreBelow k (slots_at view scenario n)) (sym before.each) here in
+    let below : AreBelow (length old.counts) (slots_at view scenario n) = subst (λ (k : ℕ). AreBelow k (slots_at view scenario n))
+    (sym before.each) here in
     let short : length (slots_at view scenario n) ≤ 18 = rw (before.same, same, at, before.last) at few in
-    let entered : new.last ≡ entered_by (next_step scenario (run scenario n)) (last_entered scenario n) = rw (same, at, before.last) at last in
+    let entered : new.last ≡ entered_by (next_step scenario (run scenario n)) (last_entered scenario n) = rw (same, at, before.last) at last
+    in
     record {
       same = kept ∙ before.same;
       each = ap length is ∙ length_counted (slots_at view scenario n) old.counts ∙ before.each;
@@ -124,7 +137,8 @@ counts_more view scenario now n s old new same at before kept last known few cou
           ap (λ cs. get_or cs i 0) is ∙ all_counted_at (slots_at view scenario n) old.counts i below
           ∙ ap (λ k. k + times_in i (slots_at view scenario n)) (before.times i) ∙ sym (times_more view scenario n i);
       known = known_more view scenario n before.known here;
-      small = rw is (at_most_longer (all_counted old.counts (slots_at view scenario n)) (18 * n + 18) (18 * (n + 1)) (omega arith) (at_most_more old.counts (slots_at view scenario n) (18 * n) 18 below short before.small));
+      small = rw is (at_most_longer (all_counted old.counts (slots_at view scenario n)) (18 * n + 18) (18 * (n + 1)) (omega arith)
+          (at_most_more old.counts (slots_at view scenario n) (18 * n) 18 below short before.small));
     }
 
 -- each count may grow
@@ -133,10 +147,12 @@ small view scenario n t few counts = at_most_longer t.counts (18 * n) (2 ^ 62) (
 
 -- what is read of one spot more, and what is written of one cell more
 pub reads_more : (view : View) (number level : ℕ) (spots before : List Spot) (spot : Spot) → spots ≡ before ++ spot ∷ []
-    → flat_map (slots view number level 0) (flat_map cell_in spots) ≡ flat_map (slots view number level 0) (flat_map cell_in before) ++ flat_map (slots view number level 0) (cell_in spot)
+    → flat_map (slots view number level 0) (flat_map cell_in spots)
+    ≡ flat_map (slots view number level 0) (flat_map cell_in before) ++ flat_map (slots view number level 0) (cell_in spot)
 reads_more view number level spots before spot e =
     ap (λ xs. flat_map (slots view number level 0) (flat_map cell_in xs)) e
-    ∙ ap (flat_map (slots view number level 0)) (flat_map-append cell_in before (spot ∷ []) ∙ ap (λ ys. flat_map cell_in before ++ ys) (append-nil (cell_in spot)))
+    ∙ ap (flat_map (slots view number level 0)) (flat_map-append cell_in before (spot ∷ [])
+    ∙ ap (λ ys. flat_map cell_in before ++ ys) (append-nil (cell_in spot)))
     ∙ flat_map-append (slots view number level 0) (flat_map cell_in before) (cell_in spot)
 
 pub writes_more : (view : View) (number level : ℕ) (cells before : List ℕ) (c : ℕ) → cells ≡ before ++ c ∷ []
@@ -146,8 +162,10 @@ writes_more view number level cells before c e =
     ∙ ap (λ ys. flat_map (slots view number level 1) before ++ ys) (append-nil (slots view number level 1 c))
 
 -- the counts before, of what was counted first, and then of the rest
-pub counts_on : (start now new before part all : List ℕ) → now ≡ all_counted start before → new ≡ all_counted now part → all ≡ before ++ part → new ≡ all_counted start all
-counts_on start now new before part all a b c = b ∙ ap (λ cs. all_counted cs part) a ∙ sym (counted_append before part start) ∙ ap (all_counted start) (sym c)
+pub counts_on : (start now new before part all : List ℕ) → now ≡ all_counted start before → new ≡ all_counted now part
+    → all ≡ before ++ part → new ≡ all_counted start all
+counts_on start now new before part all a b c = b ∙ ap (λ cs. all_counted cs part) a ∙ sym (counted_append before part start)
+    ∙ ap (all_counted start) (sym c)
 
 pub below_on : (most : ℕ) (before part all : List ℕ) → AreBelow most before → AreBelow most part → all ≡ before ++ part → AreBelow most all
 below_on most before part all a b c = subst (AreBelow most) (sym c) (below_append most before part a b)
@@ -159,5 +177,6 @@ short_on before part all k a b c =
     omega (arith, a, b, both, long)
 
 -- the counts are the run's
-pub times_are : (view : View) (scenario : Scenario) (n : ℕ) (t : Tallied) → Counts view scenario n t → (λ i. get_or t.counts i 0) ≡ times view scenario n
+pub times_are : (view : View) (scenario : Scenario) (n : ℕ) (t : Tallied) → Counts view scenario n t
+    → (λ i. get_or t.counts i 0) ≡ times view scenario n
 times_are view scenario n t counts = λ p i. counts.times i p

@@ -3,4 +3,5 @@ use Rattle.std.proofs.Common.{◌≡◌, arith}
 use Rattle.access.specs.Accesses.{SlotsDiffer}
 
 pub slots_differ : SlotsDiffer
-slots_differ row level kind other_row other_level other_kind a b c d e = (omega (arith, a, b, c, d, e), omega (arith, a, b, c, d, e), omega (arith, a, b, c, d, e))
+slots_differ row level kind other_row other_level other_kind a b c d e
+    = (omega (arith, a, b, c, d, e), omega (arith, a, b, c, d, e), omega (arith, a, b, c, d, e))

@@ -1,5 +1,6 @@
 -- All counts add up to the reads and writes of a run.
-use Rattle.std.proofs.Common.{◌≡◌, ℕ, zero, suc, ◌+◌, ◌<◌, ◌≤◌, ◌==◌, List, [], ◌∷◌, ◌++◌, length, refl, sym, ap, ◌∙◌, inl, inr, arith, if◌then◌else◌}
+use Rattle.std.proofs.Common.{◌≡◌, ℕ, zero, suc, ◌+◌, ◌<◌, ◌≤◌, ◌==◌, List, [], ◌∷◌, ◌++◌, length, refl, sym, ap, ◌∙◌, inl, inr, arith}
+use Rattle.std.proofs.Common.{if◌then◌else◌}
 use Rattle.std.specs.List.{flat_map}
 use Rattle.std.proofs.lemmas.Bool.Decides.{eqb_tells}
 use Rattle.std.proofs.lemmas.List.{length-append}
@@ -9,7 +10,8 @@ use Rattle.cpu.specs.Run.{run}
 use Rattle.cpu.specs.State.{Scenario}
 use Rattle.cover.specs.Tallies.{account_number}
 use Rattle.access.specs.declared.view.View.TheVariants.{All}
-use Rattle.access.specs.Accesses.{accesses, AccessesAddUp, account_in, read_cells, slot, slot_count, slots, slots_after, slots_at, sum_below, times, times_in}
+use Rattle.access.specs.Accesses.{accesses, AccessesAddUp, account_in, read_cells, slot, slot_count, slots, slots_after, slots_at}
+use Rattle.access.specs.Accesses.{sum_below, times, times_in}
 use Rattle.access.specs.Levels.{last_entered, level_by}
 use Rattle.access.specs.Tallies.{AreBelow, Counts, Tallied}
 
@@ -54,7 +56,8 @@ length_of_each : (level kind : ℕ) (number : ℕ) (cells : List ℕ) → length
 length_of_each level kind number [] = refl
 length_of_each level kind number (c ∷ cells) = ap suc (length_of_each level kind number cells)
 
-length_at : (scenario : Scenario) (n : ℕ) → length (slots_at All scenario n) ≡ length (read_cells (link scenario (run scenario n))) + length (targets (link scenario (run scenario n)))
+length_at : (scenario : Scenario) (n : ℕ) → length (slots_at All scenario n)
+    ≡ length (read_cells (link scenario (run scenario n))) + length (targets (link scenario (run scenario n)))
 unfolding slots_after
 length_at scenario n =
     let s = run scenario n in
@@ -68,7 +71,8 @@ length_at scenario n =
     let second = length_of_each level 1 number (targets (link scenario s)) in
     omega (arith, both, first, second)
 
-pub add_up : (scenario : Scenario) (n : ℕ) → ((t : ℕ) → t < n → AreBelow (slot_count All) (slots_at All scenario t)) → AccessesAddUp scenario n
+pub add_up : (scenario : Scenario) (n : ℕ) → ((t : ℕ) → t < n → AreBelow (slot_count All) (slots_at All scenario t))
+    → AccessesAddUp scenario n
 unfolding times accesses
 add_up scenario zero known = sum_of_none (slot_count All)
 add_up scenario (suc n) known =
@@ -76,4 +80,5 @@ add_up scenario (suc n) known =
     let here = sum_of_times (slot_count All) (slots_at All scenario n) (known n (omega arith)) in
     let both = sum_of_sums (times All scenario n) (λ i. times_in i (slots_at All scenario n)) (slot_count All) in
     let long = length_at scenario n in
-    both ∙ ap (λ k. k + sum_below (λ i. times_in i (slots_at All scenario n)) (slot_count All)) before ∙ ap (λ k. accesses scenario n + k) (here ∙ long)
+    both ∙ ap (λ k. k + sum_below (λ i. times_in i (slots_at All scenario n)) (slot_count All)) before
+    ∙ ap (λ k. accesses scenario n + k) (here ∙ long)

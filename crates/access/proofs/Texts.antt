@@ -10,7 +10,8 @@ use Rattle.access.specs.Tallies.{Counts, Tallied}
 use Rattle.access.proofs.Counting.{times_are}
 
 pub text_is : (view : View) (symbols : SymbolTable) (scenario : Scenario) (n : ℕ) (t : Tallied) (words : Words)
-    → Counts view scenario n t → words ≡ scenario.rope → rows_text t.view symbols words (λ i. get_or t.counts i 0) ≡ access_text view symbols scenario n
+    → Counts view scenario n t → words ≡ scenario.rope
+    → rows_text t.view symbols words (λ i. get_or t.counts i 0) ≡ access_text view symbols scenario n
 text_is view symbols scenario n t words counts e =
     ap (λ v. rows_text v symbols words (λ i. get_or t.counts i 0)) counts.same
     ∙ ap (λ f. rows_text view symbols words f) (times_are view scenario n t counts)

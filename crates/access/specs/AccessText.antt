@@ -1,5 +1,6 @@
 -- The reads and writes of a run as text: a row for each cell and level, or of one cell for each place and level.
-use Rattle.std.specs.Prelude.{ℕ, zero, suc, ◌+◌, ◌-◌, ◌*◌, ◌/◌, ◌%◌, ◌==◌, ◌&&◌, ◌||◌, Bool, false, not, nat_lt, List, [], ◌++◌, codes, decimal, if◌then◌else◌}
+use Rattle.std.specs.Prelude.{ℕ, zero, suc, ◌+◌, ◌-◌, ◌*◌, ◌/◌, ◌%◌, ◌==◌, ◌&&◌, ◌||◌, Bool, false, not, nat_lt, List, [], ◌++◌, codes}
+use Rattle.std.specs.Prelude.{decimal, if◌then◌else◌}
 use Rattle.std.specs.List.{flat_map, range_with_len}
 use Rattle.space.specs.Cells.{erasable_count}
 use Rattle.space.specs.declared.place.Linear.TheVariants.{Erasable, Fixed}
@@ -66,8 +67,8 @@ writers f c = flat_map (writer_part f c) (range_with_len 0 levels)
 abbrev pub shared_line : Figures → ℕ → List ℕ → List ℕ
 shared_line f c name = if is_shared f c then codes "SHARED " ++ name ++ codes " WRITTEN BY" ++ writers f c ++ codes "\n" else []
 
--- whether something at one of the first n levels reads (0) or writes (1) a cell; and whether an erasable place that is no register is written
--- and never read
+-- whether something at one of the first n levels reads (0) or writes (1) a cell; and whether an erasable place that is no register is
+-- written and never read
 abbrev pub any_does : Figures → ℕ → ℕ → ℕ → Bool
 any_does f c kind zero = false
 any_does f c kind (suc n) = any_does f c kind n || not (f (slot c n kind) == 0)

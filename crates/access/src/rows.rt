@@ -16,8 +16,8 @@ use trace::decimal_text;
 use words::push_all;
 use yayul::push_blanks;
 
-/// The most bytes of the rows of a cell or place: 13 of two columns of at most 21 bytes, a level of 11, and a name of at most 48; and
-/// one of a shared cell.
+/// The most bytes of the rows of a cell or place: 13 of two columns of at most 21 bytes, a level of 11, and a name of
+/// at most 48; and one of a shared cell.
 const ROWS: usize = 1536;
 
 pub(crate) type Rows = ArrayVec<u8, ROWS>;

@@ -25,7 +25,8 @@ pub(crate) fn is_touched(tally: &Tally, row: usize) -> bool
     false
 }
 
-/// Whether a cell is shared: the main program and an interrupt that may come meanwhile use it, and one of them writes it.
+/// Whether a cell is shared: the main program and an interrupt that may come meanwhile use it, and one of them writes
+/// it.
 pub(crate) fn is_shared(tally: &Tally, cell: usize) -> bool
     requires view { tally.now.view ≡ All }
     requires cell { cell < row_count tally.now.view }

@@ -89,7 +89,8 @@ impl Tally {
         self.counts[number]
     }
 
-    /// Makes more steps of a run of which some are done, and counts what each reads and writes. What they put out is passed over.
+    /// Makes more steps of a run of which some are done, and counts what each reads and writes. What they put out is
+    /// passed over.
     pub fn make_steps(
         &mut self,
         processor: &mut Processor,
@@ -120,9 +121,11 @@ impl Tally {
         ensures state { machine.new ≡ (next processor.old.scenario machine.old).0 }
         ensures view { self.new.view ≡ self.old.view }
         ensures last { self.new.last ≡ entered_by (next_step processor.old.scenario machine.old) self.old.last }
-        ensures known { AreBelow (slot_count self.old.view) (slots_after self.old.view processor.old.scenario machine.old self.old.last) }
+        ensures known { AreBelow (slot_count self.old.view)
+            (slots_after self.old.view processor.old.scenario machine.old self.old.last) }
         ensures few { length (slots_after self.old.view processor.old.scenario machine.old self.old.last) ≤ 18 }
-        ensures counts { self.new.counts ≡ all_counted self.old.counts (slots_after self.old.view processor.old.scenario machine.old self.old.last) }
+        ensures counts { self.new.counts ≡ all_counted self.old.counts
+            (slots_after self.old.view processor.old.scenario machine.old self.old.last) }
     {
         let step = processor.next_step(machine);
         let number = number_of(account_in(&step));
@@ -143,8 +146,10 @@ impl Tally {
         requires small { AreAtMost self.old.counts (2 ^ 62) }
         ensures view { self.new.view ≡ self.old.view }
         ensures last { self.new.last ≡ self.old.last }
-        ensures counts { self.new.counts ≡ all_counted self.old.counts (flat_map (slots self.old.view number level 0) (flat_map cell_in spots.now)) }
-        ensures known { AreBelow (slot_count self.old.view) (flat_map (slots self.old.view number level 0) (flat_map cell_in spots.now)) }
+        ensures counts { self.new.counts ≡ all_counted self.old.counts
+            (flat_map (slots self.old.view number level 0) (flat_map cell_in spots.now)) }
+        ensures known { AreBelow (slot_count self.old.view)
+            (flat_map (slots self.old.view number level 0) (flat_map cell_in spots.now)) }
         ensures short { length (flat_map (slots self.old.view number level 0) (flat_map cell_in spots.now)) ≤ 8 }
         ensures small { AreAtMost self.new.counts (2 ^ 62 + 8) }
     {
@@ -160,8 +165,10 @@ impl Tally {
         requires small { AreAtMost self.old.counts (2 ^ 62 + 7) }
         ensures view { self.new.view ≡ self.old.view }
         ensures last { self.new.last ≡ self.old.last }
-        ensures counts { self.new.counts ≡ all_counted self.old.counts (flat_map (slots self.old.view number level 0) (cell_in spot.now)) }
-        ensures known { AreBelow (slot_count self.old.view) (flat_map (slots self.old.view number level 0) (cell_in spot.now)) }
+        ensures counts { self.new.counts ≡ all_counted self.old.counts
+            (flat_map (slots self.old.view number level 0) (cell_in spot.now)) }
+        ensures known { AreBelow (slot_count self.old.view)
+            (flat_map (slots self.old.view number level 0) (cell_in spot.now)) }
         ensures short { length (flat_map (slots self.old.view number level 0) (cell_in spot.now)) ≤ 1 }
         ensures small { (most : ℕ) → AreAtMost self.old.counts most → AreAtMost self.new.counts (most + 1) }
     {
@@ -178,7 +185,8 @@ impl Tally {
         requires small { AreAtMost self.old.counts (2 ^ 62 + 8) }
         ensures view { self.new.view ≡ self.old.view }
         ensures last { self.new.last ≡ self.old.last }
-        ensures counts { self.new.counts ≡ all_counted self.old.counts (flat_map (slots self.old.view number level 1) cells.now) }
+        ensures counts { self.new.counts ≡ all_counted self.old.counts
+            (flat_map (slots self.old.view number level 1) cells.now) }
         ensures known { AreBelow (slot_count self.old.view) (flat_map (slots self.old.view number level 1) cells.now) }
         ensures short { length (flat_map (slots self.old.view number level 1) cells.now) ≤ 10 }
     {

@@ -1,6 +1,7 @@
 //! The reads and writes of a run as text.
 
-ghost use Rattle.std.specs.Prelude.{◌≡◌, ◌+◌, ◌*◌, ◌/◌, ◌%◌, ◌<◌, ◌≤◌, ◌==◌, ◌++◌, [], if◌then◌else◌, codes, get_or, length, true};
+ghost use Rattle.std.specs.Prelude.{◌≡◌, ◌+◌, ◌*◌, ◌/◌, ◌%◌, ◌<◌, ◌≤◌, ◌==◌, ◌++◌, [], if◌then◌else◌, codes, get_or};
+ghost use Rattle.std.specs.Prelude.{length, true};
 ghost use Rattle.arrayvec.specs.ArrayVec.{array_vec_len};
 ghost use Rattle.words.specs.Devices.{Writes, failures_after};
 ghost use Rattle.cover.specs.Tallies.{account_count};
@@ -12,7 +13,8 @@ ghost use Rattle.access.specs.Levels.{level_name, levels};
 ghost use Rattle.access.specs.declared.view.View.TheVariants.{All};
 ghost use Rattle.yayul.specs.Listing.{place_text};
 ghost use Rattle.names.specs.NamedLines.{named_line};
-ghost use Rattle.access.specs.AccessText.{account_line, fixed_line, level_rows, row_name, row_text, rows_text, shared_line, told_rows, unfixed_line, unread_line, writers};
+ghost use Rattle.access.specs.AccessText.{account_line, fixed_line, level_rows, row_name, row_text, rows_text};
+ghost use Rattle.access.specs.AccessText.{shared_line, told_rows, unfixed_line, unread_line, writers};
 ghost use Rattle.access.specs.Accesses.{row_count};
 
 use crate::cell::cell_text;
@@ -35,10 +37,10 @@ const FIRST_ERASABLE: usize = 3;
 /// The number of the first account of fixed memory.
 const FIRST_FIXED: usize = FIRST_ERASABLE + 0o4000;
 
-/// Writes how often each cell was read and written at each level, as `       159        318 MAIN       TMP`: reads, writes, the level
-/// and the cell; and below the rows of a cell `SHARED TMP WRITTEN BY MAIN T5RUPT` where it is shared, and `UNREAD LAMP` where an
-/// erasable place is written and never read. Of one cell the rows tell in place of it each place
-/// that has read or written it, with its word.
+/// Writes how often each cell was read and written at each level, as `       159        318 MAIN       TMP`: reads,
+/// writes, the level and the cell; and below the rows of a cell `SHARED TMP WRITTEN BY MAIN T5RUPT` where it is shared,
+/// and `UNREAD LAMP` where an erasable place is written and never read. Of one cell the rows tell in place of it each
+/// place that has read or written it, with its word.
 ///
 /// After a failure a beginning of it was written.
 pub fn write_accesses<W: Write>(
@@ -47,7 +49,8 @@ pub fn write_accesses<W: Write>(
     rope: &Rope,
     out: &mut W,
 ) -> Result<(), WriteFailed>
-    ensures written { W.told ≡ true → Writes (W.written out.old) (W.written out.new) (rows_text tally.now.view names.now rope.now (λ i. get_or tally.now.counts i 0)) result }
+    ensures written { W.told ≡ true → Writes (W.written out.old) (W.written out.new)
+        (rows_text tally.now.view names.now rope.now (λ i. get_or tally.now.counts i 0)) result }
     ensures failures { W.failures out.new ≡ failures_after (W.failures out.old) result }
 {
     for row in 0..tally.rows() {
@@ -67,7 +70,8 @@ fn write_row<W: Write>(
 ) -> Result<(), WriteFailed>
     requires row { row < row_count tally.now.view }
     requires few { row_count tally.now.view ≤ 50000 }
-    ensures written { W.told ≡ true → Writes (W.written out.old) (W.written out.new) (row_text tally.now.view names.now rope.now (λ i. get_or tally.now.counts i 0) row) result }
+    ensures written { W.told ≡ true → Writes (W.written out.old) (W.written out.new)
+        (row_text tally.now.view names.now rope.now (λ i. get_or tally.now.counts i 0) row) result }
     ensures failures { W.failures out.new ≡ failures_after (W.failures out.old) result }
 {
     if !is_touched(tally, row) {
@@ -83,7 +87,8 @@ fn write_row<W: Write>(
 fn push_told(rows: &mut Rows, tally: &Tally, names: &PlaceNames, row: usize)
     requires room { array_vec_len rows.old ≤ 1326 }
     requires row { row < row_count tally.now.view }
-    ensures { rows.new.items ≡ rows.old.items ++ told_rows tally.now.view names.now (λ i. get_or tally.now.counts i 0) row }
+    ensures { rows.new.items ≡ rows.old.items
+        ++ told_rows tally.now.view names.now (λ i. get_or tally.now.counts i 0) row }
 {
     match tally.view() {
         View::All => {
@@ -114,7 +119,8 @@ fn shared_text(tally: &Tally, cell: usize, name: &[u8]) -> Rows
     requires cell { cell < row_count tally.now.view }
     requires few { row_count tally.now.view ≤ 50000 }
     requires short { length name.now ≤ 14 }
-    ensures items { result.items ≡ codes "SHARED " ++ name.now ++ codes " WRITTEN BY" ++ writers (λ i. get_or tally.now.counts i 0) cell ++ codes "\n" }
+    ensures items { result.items ≡ codes "SHARED " ++ name.now ++ codes " WRITTEN BY"
+        ++ writers (λ i. get_or tally.now.counts i 0) cell ++ codes "\n" }
     ensures short { array_vec_len result ≤ 163 }
 {
     let mut text = ArrayVec::new();

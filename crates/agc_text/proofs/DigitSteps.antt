@@ -19,11 +19,14 @@ in_range_more value base digit i small high below =
     omega (arith, step, product)
 
 -- the number of one more digit
-pub value_more : (base : ℕ) (text : List ℕ) (i value : ℕ) → i < length text → value ≡ number_from_digits base (map digit_value (take i text)) → value * base + (get_or text i 0 - zero_digit) ≡ number_from_digits base (map digit_value (take (i + 1) text))
+pub value_more : (base : ℕ) (text : List ℕ) (i value : ℕ) → i < length text
+    → value ≡ number_from_digits base (map digit_value (take i text))
+    → value * base + (get_or text i 0 - zero_digit) ≡ number_from_digits base (map digit_value (take (i + 1) text))
 value_more base text i value lt is =
     let f : ℕ → ℕ = λ byte. digit_value byte in
     let longer : i < length (map f text) = rw length-map lt in
-    let step : number_from_digits base (take (i + 1) (map f text)) ≡ number_from_digits base (take i (map f text)) * base + get_or (map f text) i 0 = number_more base (map f text) i longer in
+    let step : number_from_digits base (take (i + 1) (map f text))
+    ≡ number_from_digits base (take i (map f text)) * base + get_or (map f text) i 0 = number_more base (map f text) i longer in
     sym (sym (ap (number_from_digits base) (take-map f (i + 1) text)) ∙ step
     ∙ ap (λ ds. number_from_digits base ds * base + get_or (map f text) i 0) (take-map f i text)
     ∙ ap (λ d. number_from_digits base (map f (take i text)) * base + d) (get_or-map f text i 0 0 lt)
@@ -41,4 +44,5 @@ fits_more value base digit i small few high below =
 
 -- a number of few digits is below that of more
 pub below_most : (value i most : ℕ) → value < 10 ^ i → i ≤ most → value < 10 ^ most
-below_most value i most small few = let step : 10 ^ i ≤ 10 ^ most = pow-le-pow_right {n = 10} (omega arith) few in omega (arith, small, step)
+below_most value i most small few = let step : 10 ^ i
+    ≤ 10 ^ most = pow-le-pow_right {n = 10} (omega arith) few in omega (arith, small, step)

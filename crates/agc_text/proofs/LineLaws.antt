@@ -14,11 +14,13 @@ with_more [] (next ∷ rest) some = refl
 with_more (byte ∷ line) (next ∷ rest) some = refl
 
 -- the first line of a text that has a line feed
-pub first_line : (text : List ℕ) → position_or_len (λ b. eqb b line_feed) text < length text → lines text ≡ before_first (λ b. eqb b line_feed) text ∷ lines (after_first (λ b. eqb b line_feed) text)
+pub first_line : (text : List ℕ) → position_or_len (λ b. eqb b line_feed) text < length text
+    → lines text ≡ before_first (λ b. eqb b line_feed) text ∷ lines (after_first (λ b. eqb b line_feed) text)
 unfolding lines
 first_line text lt =
     ap without_empty_end (slice_split_first (λ b. eqb b line_feed) text 0 lt)
-    ∙ with_more _ (pieces (after_first (λ b. eqb b line_feed) text)) (omega (arith, length-slice_split (λ b. eqb b line_feed) (after_first (λ b. eqb b line_feed) text)))
+    ∙ with_more _ (pieces (after_first (λ b. eqb b line_feed) text))
+    (omega (arith, length-slice_split (λ b. eqb b line_feed) (after_first (λ b. eqb b line_feed) text)))
 
 -- the only line of one that has none
 pub last_line : (text : List ℕ) → 0 < length text → length text ≤ position_or_len (λ b. eqb b line_feed) text → lines text ≡ text ∷ []

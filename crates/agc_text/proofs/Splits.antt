@@ -1,5 +1,6 @@
 -- The first field of a text, and what follows it.
-use Rattle.std.proofs.Common.{◌≡◌, ℕ, zero, suc, ◌+◌, ◌-◌, ◌<◌, ◌≤◌, true, false, not, eqb, List, [], ◌∷◌, length, get_or, drop, take, refl, sym, ◌∙◌, ap, inl, inr, ◌⊎◌, arith}
+use Rattle.std.proofs.Common.{◌≡◌, ℕ, zero, suc, ◌+◌, ◌-◌, ◌<◌, ◌≤◌, true, false, not, eqb, List, [], ◌∷◌, length, get_or, drop, take, refl}
+use Rattle.std.proofs.Common.{sym, ◌∙◌, ap, inl, inr, ◌⊎◌, arith}
 use Rattle.std.specs.List.{position_or_len}
 use Rattle.std.proofs.lemmas.Bool.{cases_Bool, cases_lt, ne_eqb}
 use Rattle.std.proofs.lemmas.Grind.{common_steps}
@@ -21,13 +22,16 @@ same-start : (text : List ℕ) (p a : ℕ) → IsBetween text p → is_run_start
 same-start text p zero between = let at : p + 0 ≡ p = omega arith in ap (is_run_start text) at ∙ same-first text p between
 same-start text p (suc b) between =
     let here : get_or (drop p text) (suc b) 0 ≡ get_or text (p + suc b) 0 = rw get_or-drop refl in
-    let before : get_or (drop p text) (suc b - 1) 0 ≡ get_or text (p + suc b - 1) 0 = let at : p + (suc b - 1) ≡ p + suc b - 1 = omega arith in rw (get_or-drop, at) refl in
+    let before : get_or (drop p text) (suc b - 1) 0 ≡ get_or text (p + suc b - 1) 0 = let at : p + (suc b - 1)
+    ≡ p + suc b - 1 = omega arith in rw
+    (get_or-drop, at) refl in
     let late : eqb (p + suc b) 0 ≡ false = ne_eqb (p + suc b) 0 (λ none. omega (arith, none)) in
     let some : eqb (suc b) 0 ≡ false = ne_eqb (suc b) 0 (λ none. omega (arith, none)) in
     rw (here, before, late, some) refl
 
 -- the runs of what follows such a place have the same bytes
-texts-within : (text : List ℕ) (p a m n : ℕ) → IsBetween text p → m ≡ p + a → texts (runs_within text m n) ≡ texts (runs_within (drop p text) a n)
+texts-within : (text : List ℕ) (p a m n : ℕ) → IsBetween text p → m ≡ p + a
+    → texts (runs_within text m n) ≡ texts (runs_within (drop p text) a n)
 texts-within text p a m zero between at = refl
 texts-within text p a m (suc n) between at =
     let same : is_run_start text m ≡ is_run_start (drop p text) a = ap (is_run_start text) at ∙ same-start text p a between in
@@ -36,7 +40,8 @@ texts-within text p a m (suc n) between at =
     elim (cases_Bool (is_run_start (drop p text) a)) [
       | inl here ↦
           rw (within_yes text m n (suc n) refl (same ∙ here), within_yes (drop p text) a n (suc n) refl here)
-          (ap (λ t. t ∷ texts (runs_within text (m + 1) n)) (ap (λ bs. (run_at bs 0).text) bytes) ∙ ap (λ ts. (run_at (drop p text) a).text ∷ ts) later)
+          (ap (λ t. t ∷ texts (runs_within text (m + 1) n)) (ap (λ bs. (run_at bs 0).text) bytes)
+          ∙ ap (λ ts. (run_at (drop p text) a).text ∷ ts) later)
       | inr none ↦ rw (within_no text m n (suc n) refl (same ∙ none), within_no (drop p text) a n (suc n) refl none) later
     ]
 
@@ -58,7 +63,8 @@ after-blanks text (suc k) is = inr (inl (let same : suc k - 1 ≡ k = omega arit
 pub texts-skip : (text : List ℕ) (d : ℕ) → d ≡ position_or_len (λ b. not (is_blank b)) text → texts (runs text) ≡ texts (runs (drop d text))
 texts-skip text d is =
     ap texts (runs_is text)
-    ∙ ap texts (runs_after_skip text 0 d (omega arith) (λ k lo hi _. let blank = blank-before text k (omega (arith, is, hi)) in grind (arith, common_steps, blank)))
+    ∙ ap texts (runs_after_skip text 0 d (omega arith)
+    (λ k lo hi _. let blank = blank-before text k (omega (arith, is, hi)) in grind (arith, common_steps, blank)))
     ∙ texts-after text d (after-blanks text d is)
 
 no-bytes : texts (runs []) ≡ []
@@ -76,11 +82,13 @@ past-nil (b ∷ text) zero h = absurd (omega arith)
 past-nil (b ∷ text) (suc n) h = past-nil text n (omega arith)
 
 -- the run at the front, and what follows it
-pub texts-take : (text : List ℕ) (n : ℕ) → 0 < length text → is_blank (get_or text 0 0) ≡ false → n ≡ position_or_len is_blank text → texts (runs text) ≡ take n text ∷ texts (runs (drop n text))
+pub texts-take : (text : List ℕ) (n : ℕ) → 0 < length text → is_blank (get_or text 0 0) ≡ false → n ≡ position_or_len is_blank text
+    → texts (runs text) ≡ take n text ∷ texts (runs (drop n text))
 texts-take text n some first is =
     let start : is_run_start text 0 ≡ true = grind (arith, common_steps, first) in
     ap texts (runs_is text) ∙ ap texts (runs_after_take text 0 some start)
-    ∙ ap (λ ts. (run_at text 0).text ∷ ts) (ap (λ k. texts (runs_after text k)) (let at : 0 + position_or_len is_blank text ≡ n = omega (arith, is) in at) ∙ rest)
+    ∙ ap (λ ts. (run_at text 0).text ∷ ts) (ap (λ k. texts (runs_after text k))
+    (let at : 0 + position_or_len is_blank text ≡ n = omega (arith, is) in at) ∙ rest)
     ∙ ap (λ k. take k text ∷ texts (runs (drop n text))) (sym is)
   where
     rest : texts (runs_after text n) ≡ texts (runs (drop n text))
@@ -90,11 +98,13 @@ texts-take text n some first is =
     ]
 
 -- the byte after blanks is none
-pub after-first : (text : List ℕ) (d : ℕ) → d ≡ position_or_len (λ b. not (is_blank b)) text → 0 < length (drop d text) → is_blank (get_or (drop d text) 0 0) ≡ false
+pub after-first : (text : List ℕ) (d : ℕ) → d ≡ position_or_len (λ b. not (is_blank b)) text → 0 < length (drop d text)
+    → is_blank (get_or (drop d text) 0 0) ≡ false
 after-first text d is some =
     let long = length-drop d text in
     let passes = passes_at_first (λ b. not (is_blank b)) text 0 (omega (arith, is, long)) in
-    rw get_or-drop (let at : d + 0 ≡ d = omega arith in rw (at, is) (no-blank (get_or text (position_or_len (λ b. not (is_blank b)) text) 0) passes))
+    rw get_or-drop (let at : d + 0 ≡ d = omega arith in rw (at, is)
+    (no-blank (get_or text (position_or_len (λ b. not (is_blank b)) text) 0) passes))
   where
     no-blank : (b : ℕ) → not (is_blank b) ≡ true → is_blank b ≡ false
     no-blank b h = grind (arith, common_steps, h)

@@ -1,8 +1,10 @@
 //! The fields of a line.
 
-ghost use Rattle.std.specs.Prelude.{◌≡◌, ℕ, ◌<◌, ◌≤◌, ◌^◌, ◌∷◌, [], nat_le, nat_lt, length, find, slice_get, drop, IfSome, MatchOption, slice_index, true, false};
+ghost use Rattle.std.specs.Prelude.{◌≡◌, ℕ, ◌<◌, ◌≤◌, ◌^◌, ◌∷◌, [], nat_le, nat_lt, length, find, slice_get, drop};
+ghost use Rattle.std.specs.Prelude.{IfSome, MatchOption, slice_index, true, false};
 ghost use Rattle.std.specs.Option.{option_map};
-ghost use Rattle.agc_text.specs.Fields.{is_blank, before_comment, is_run_start, run_at, runs, runs_after, texts, fields, label_of, others_of};
+ghost use Rattle.agc_text.specs.Fields.{is_blank, before_comment, is_run_start, run_at, runs, runs_after, texts};
+ghost use Rattle.agc_text.specs.Fields.{fields, label_of, others_of};
 ghost use Rattle.agc_text.specs.Views.{piece, end_of, runs_from, IsSliceOf, AreSlicesOf};
 
 use crate::stretch::{End, is_blank_byte, length_before};

@@ -28,8 +28,8 @@ impl End {
     }
 }
 
-// How many bytes stand before the first at which the stretch ends. It is brought into its callers, so that each looks for one
-// kind of end.
+// How many bytes stand before the first at which the stretch ends. It is brought into its callers, so that each looks
+// for one kind of end.
 #[inline(always)]
 pub(crate) fn length_before(text: &[u8], end: End) -> usize
     ensures value { result ≡ position_or_len (ends end) text.now }

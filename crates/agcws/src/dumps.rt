@@ -1,4 +1,5 @@
-//! Where the bytes of an image come from: a file as it stands, one that stands otherwise than as written, or a text of octal words.
+//! Where the bytes of an image come from: a file as it stands, one that stands otherwise than as written, or a text of
+//! octal words.
 
 use crate::files::{no_memory, not_opened};
 use arguments::ImageLayout;
@@ -56,7 +57,8 @@ impl Read for Made {
 
 /// The bytes of an image, of which a file that stands as written is not read yet.
 ///
-/// A text of octal words that is not taken is told with its line, and then its bytes are those of an image, which is refused.
+/// A text of octal words that is not taken is told with its line, and then its bytes are those of an image, which is
+/// refused.
 pub fn opened_bytes(rt: &HostRuntime, image: &Image<'_>) -> Result<ImageBytes, WorkshopFault> {
     let has_parity = match image.version {
         Version::One => false,
@@ -142,7 +144,8 @@ fn are_text(bytes: &[u8]) -> bool {
 /// Tells a line of a text of octal words that is not taken.
 fn refuse_line(rt: &HostRuntime, path: &str, line: u64) -> Result<(), WorkshopFault> {
     let told = format!(in rt.alloc();
-        "{path}:{line}: error: a text of octal words has lines of BANK= and a bank, each once, and below it words of five octal digits, at most 1024\n"
+        "{path}:{line}: error: a text of octal words has lines of BANK= and a bank, each once, and below it words of \
+            five octal digits, at most 1024\n"
     );
     write_all(
         &mut Std::new(rt.stderr()),

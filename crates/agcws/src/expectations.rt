@@ -115,8 +115,8 @@ fn judge_run(
     }
 }
 
-/// The file of a path that a text in a file names, from the folder of that file on; none where it leaves the folder, or cannot be
-/// opened.
+/// The file of a path that a text in a file names, from the folder of that file on; none where it leaves the folder, or
+/// cannot be opened.
 fn opened_beside(
     rt: &HostRuntime,
     file: &str,

@@ -15,8 +15,8 @@ pub type ReadFile = ReadAhead<Std<fs::File>>;
 /// Standard output, with what is to be written gathered.
 type StandardOutput<'a> = Std<Gathered<'a>>;
 
-/// A program whose files are open: where its words come from, its file with the form in which its bytes are taken, and that of its
-/// feed.
+/// A program whose files are open: where its words come from, its file with the form in which its bytes are taken, and
+/// that of its feed.
 #[derive(Drop)]
 pub struct OpenProgram {
     pub origin: Origin,
@@ -42,7 +42,8 @@ pub fn opened_program(
     })
 }
 
-/// A program that is not run, whose file is open: where its words come from, and its file with the form in which its bytes are taken.
+/// A program that is not run, whose file is open: where its words come from, and its file with the form in which its
+/// bytes are taken.
 #[derive(Drop)]
 pub struct OpenListed {
     pub origin: Origin,
@@ -116,13 +117,14 @@ fn opened_file(rt: &HostRuntime, path: &str) -> Result<Std<fs::File>, WorkshopFa
     Ok(Std::new(fs::open(rt, path).map_err(not_opened)?))
 }
 
-/// A file whose bytes are taken in a form. It is made where it is read, since what is read ahead lies in it: each move takes as long
-/// as reading so many bytes.
+/// A file whose bytes are taken in a form. It is made where it is read, since what is read ahead lies in it: each move
+/// takes as long as reading so many bytes.
 pub fn taken_in(file: Std<fs::File>, form: Form) -> InForm<ReadFile> {
     InForm::new(ReadAhead::new(file), form)
 }
 
-/// Calls an engine with standard output, which is flushed then. That it can't be is told whatever the engine has answered.
+/// Calls an engine with standard output, which is flushed then. That it can't be is told whatever the engine has
+/// answered.
 pub fn with_stdout<'a, T: Drop, F: FnOnce(&mut StandardOutput<'a>) -> Result<T, WorkshopFault>>(
     rt: &'a HostRuntime,
     engine: F,

@@ -5,8 +5,8 @@ ghost use Rattle.std.specs.Io.{WritesAtMost};
 use std::io;
 use std::io::{BufWriter, IsTerminal, Printer, Write};
 
-/// Standard output, with what is written gathered into few calls of the system. At a terminal each line is handed on as it is
-/// written, so that a person sees those of a long command while it goes.
+/// Standard output, with what is written gathered into few calls of the system. At a terminal each line is handed on as
+/// it is written, so that a person sees those of a long command while it goes.
 #[derive(Drop)]
 pub struct Gathered<'a> {
     lines: BufWriter<Printer<'a, HostRuntime>>,

@@ -1,4 +1,5 @@
-//! What a person at a terminal is told besides, on standard error: programs at the other end of a pipe read the lines alone.
+//! What a person at a terminal is told besides, on standard error: programs at the other end of a pipe read the lines
+//! alone.
 
 use std::io::IsTerminal;
 use words::{Std, write_all};

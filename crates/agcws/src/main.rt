@@ -69,15 +69,16 @@ const NOT_REPORTED: u8 = 3;
 
 /// What is said where no cell is shown as the one that is asked for, after what is asked for.
 const NO_CELL: &[u8] =
-    b" is no cell: PLACE is a symbol of an erasable place, or a cell as agcws access shows it, as E3,1401, Q or CH011\n";
+    b" is no cell: PLACE is a symbol of an erasable place, or a cell as agcws access shows it, as E3,1401, Q or \
+        CH011\n";
 
 /// What is said where a line of trials is one of a series.
 const NO_SERIES: &[u8] =
     b"error: a line of TRIALS begins with EVERY: each input that is tried has a line of its own\n";
 
 fn main(rt: HostRuntime) -> ExitCode {
-    // A file that is opened gets the lowest number that is free, and so that of a standard stream which was closed. The null
-    // device takes its place: it has nothing to read, and opened so it can't be written.
+    // A file that is opened gets the lowest number that is free, and so that of a standard stream which was closed. The
+    // null device takes its place: it has nothing to read, and opened so it can't be written.
     let _in_place_of_closed_streams = [
         fs::open(&rt, NULL),
         fs::open(&rt, NULL),

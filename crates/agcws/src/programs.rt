@@ -71,7 +71,8 @@ fn run_told<W: Write>(
     }
 }
 
-/// `agcws trace [--progress] [--reads | --say] .. SRC FEED N [--from T] [--to T]`. All files are opened before anything is read.
+/// `agcws trace [--progress] [--reads | --say] .. SRC FEED N [--from T] [--to T]`. All files are opened before anything
+/// is read.
 pub fn trace(rt: &HostRuntime, asked: &Tracing<'_>) -> Result<u8, WorkshopFault> {
     let OpenProgram {
         origin,
@@ -223,7 +224,8 @@ pub fn delays(rt: &HostRuntime, asked: &Timed<'_>) -> Result<u8, WorkshopFault> 
     Ok(DONE)
 }
 
-/// `agcws differ .. SRC FEED N --with SRC2 FEED2`. All files are opened before anything is read, but the table of names.
+/// `agcws differ .. SRC FEED N --with SRC2 FEED2`. All files are opened before anything is read, but the table of
+/// names.
 pub fn differ(rt: &HostRuntime, asked: &Pair<'_>) -> Result<u8, WorkshopFault> {
     let OpenProgram {
         origin,

@@ -15,8 +15,8 @@ use workshop::{
     report_where, source_engine, sums_engine, upgrade_engine, words_engine,
 };
 
-/// `agcws upgrade OLD NEW`. The file NEW is made at the first write, so that a refused image leaves none. A path of the old
-/// image, or of a source, is refused for NEW before anything is opened.
+/// `agcws upgrade OLD NEW`. The file NEW is made at the first write, so that a refused image leaves none. A path of the
+/// old image, or of a source, is refused for NEW before anything is opened.
 pub fn upgrade(rt: &HostRuntime, old: &str, new: &str) -> Result<u8, WorkshopFault> {
     if let Some(wrong) = wrong_target(rt, old, new) {
         return refuse_arguments(rt, wrong.of_an_upgrade());
@@ -51,8 +51,8 @@ fn write_words(rt: &HostRuntime, words: &Words<'_>) -> Result<(), WorkshopFault>
     })
 }
 
-/// Writes the words of an image with the names of a table, as a source or not. Both files are opened before anything is read, and
-/// the table is read first.
+/// Writes the words of an image with the names of a table, as a source or not. Both files are opened before anything is
+/// read, and the table is read first.
 fn write_named_words(
     rt: &HostRuntime,
     table: &str,
@@ -78,8 +78,8 @@ fn refused_where(rt: &HostRuntime, fault: &WorkshopFault) -> Result<u8, Workshop
     Ok(status)
 }
 
-/// `agcws compare [--old VERSION] [--new VERSION] .. OLD NEW`. Both files are opened before anything is read. A fault of an image
-/// is told by the file's name.
+/// `agcws compare [--old VERSION] [--new VERSION] .. OLD NEW`. Both files are opened before anything is read. A fault
+/// of an image is told by the file's name.
 pub fn compare(rt: &HostRuntime, old: &Image<'_>, new: &Image<'_>) -> Result<u8, WorkshopFault> {
     let mut last = Compared::Old;
     match compare_images(rt, old, new, &mut last) {
@@ -112,8 +112,8 @@ fn compare_images(
     })
 }
 
-/// `agcws compare --only [--flight] [--new VERSION] .. SRC ROPE`: compares a source with an image, as two images are compared. A
-/// fault of a file that stands on no line is told by the file's name.
+/// `agcws compare --only [--flight] [--new VERSION] .. SRC ROPE`: compares a source with an image, as two images are
+/// compared. A fault of a file that stands on no line is told by the file's name.
 pub fn compare_only(
     rt: &HostRuntime,
     source: &Original<'_>,
@@ -150,8 +150,8 @@ fn compare_with_source(
     })
 }
 
-/// `agcws align [--old VERSION] [--new VERSION] .. OLD NEW`. Both files are opened before anything is read. A fault of an image is
-/// told by the file's name.
+/// `agcws align [--old VERSION] [--new VERSION] .. OLD NEW`. Both files are opened before anything is read. A fault of
+/// an image is told by the file's name.
 pub fn align(rt: &HostRuntime, old: &Image<'_>, new: &Image<'_>) -> Result<u8, WorkshopFault> {
     let mut last = Compared::Old;
     match align_images(rt, None, old, new, &mut last) {
@@ -195,7 +195,8 @@ fn align_images(
     })
 }
 
-/// `agcws find [--flight] [--rope VERSION] .. PASSAGE ROPE`. A fault of a file that stands on no line is told by the file's name.
+/// `agcws find [--flight] [--rope VERSION] .. PASSAGE ROPE`. A fault of a file that stands on no line is told by the
+/// file's name.
 pub fn find(
     rt: &HostRuntime,
     passage: &Original<'_>,

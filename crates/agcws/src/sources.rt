@@ -14,8 +14,8 @@ use workshop::{
     report_no_room, write_tally, xref_engine,
 };
 
-/// `agcws asm [--flight] [--rope VERSION] SRC ROPE`. The file ROPE is made at the first write, so that a refused source leaves
-/// none. A path of the source, or of one, is refused for ROPE before anything is opened.
+/// `agcws asm [--flight] [--rope VERSION] SRC ROPE`. The file ROPE is made at the first write, so that a refused source
+/// leaves none. A path of the source, or of one, is refused for ROPE before anything is opened.
 pub fn assemble(rt: &HostRuntime, assembly: &Assembly<'_>) -> Result<u8, WorkshopFault> {
     let source = assembly.source;
     if let Some(wrong) = wrong_target(rt, source.path, assembly.rope) {
@@ -54,7 +54,8 @@ fn tell_uses<W: Write>(
     Ok(())
 }
 
-/// `agcws asm --sums [--flight] [--rope VERSION] SRC ROPE`: files as without `--sums`. A bank without room is told in words.
+/// `agcws asm --sums [--flight] [--rope VERSION] SRC ROPE`: files as without `--sums`. A bank without room is told in
+/// words.
 pub fn assemble_with_sums(rt: &HostRuntime, assembly: &Assembly<'_>) -> Result<u8, WorkshopFault> {
     let source = assembly.source;
     if let Some(wrong) = wrong_target(rt, source.path, assembly.rope) {
@@ -86,7 +87,8 @@ pub fn assemble_with_sums(rt: &HostRuntime, assembly: &Assembly<'_>) -> Result<u
     }
 }
 
-/// `agcws check [--flight] [--unused] [--json] SRC [FEED ..]`. All files are opened before anything is read. A file that can't be read is told by its name.
+/// `agcws check [--flight] [--unused] [--json] SRC [FEED ..]`. All files are opened before anything is read. A file
+/// that can't be read is told by its name.
 pub fn check(rt: &HostRuntime, asked: &Check<'_>) -> Result<u8, WorkshopFault> {
     let mut last = asked.source.path;
     match check_files(rt, asked, &mut last) {

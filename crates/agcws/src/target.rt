@@ -22,7 +22,8 @@ impl WrongTarget {
             WrongTarget::SamePath => b"error: SRC and ROPE are the same path\n",
             WrongTarget::SameFile => b"error: SRC and ROPE are the same file\n",
             WrongTarget::Text => {
-                b"error: ROPE has the name of a source or a feed: no image is written to a file whose name ends in .agc or .feed\n"
+                b"error: ROPE has the name of a source or a feed: no image is written to a file whose name ends in \
+                    .agc or .feed\n"
             }
         }
     }
@@ -33,14 +34,15 @@ impl WrongTarget {
             WrongTarget::SamePath => b"error: OLD and NEW are the same path\n",
             WrongTarget::SameFile => b"error: OLD and NEW are the same file\n",
             WrongTarget::Text => {
-                b"error: NEW has the name of a source or a feed: no image is written to a file whose name ends in .agc or .feed\n"
+                b"error: NEW has the name of a source or a feed: no image is written to a file whose name ends in .agc \
+                    or .feed\n"
             }
         }
     }
 }
 
-/// Why the file of a path may not be written while that of another is read; `None` where it may. Links are followed, so that
-/// one file is told by whatever paths and names it has. Nothing is opened.
+/// Why the file of a path may not be written while that of another is read; `None` where it may. Links are followed, so
+/// that one file is told by whatever paths and names it has. Nothing is opened.
 pub fn wrong_target<R: Files>(rt: &R, source: &str, target: &str) -> Option<WrongTarget> {
     if source == target {
         Some(WrongTarget::SamePath)

@@ -45,8 +45,8 @@ pub fn end<W: Write>(form: Verdicts, tests: u64, out: &mut W) -> Result<(), Writ
     }
 }
 
-/// Tells the verdicts of a file, which its lines tell for people, after so many tests of other files; answers how many tests there are then. Without
-/// lines the file was refused.
+/// Tells the verdicts of a file, which its lines tell for people, after so many tests of other files; answers how many
+/// tests there are then. Without lines the file was refused.
 pub fn tell<W: Write>(
     form: Verdicts,
     file: &str,

@@ -14,7 +14,8 @@ use Rattle.align.specs.AlignLines.{Sides, sides, line_at, stand_free, stretch_li
 use Rattle.align.specs.Alignments.{Renaming, renaming}
 use Rattle.align.specs.CarriedNames.{carried_line}
 use Rattle.align.specs.Carried.{has_resumed, is_last, is_sure_ahead, is_sure_back, resumes}
-use Rattle.align.specs.Pairings.{Entries, Pairing, at, follows, pairing, is_next, goes_on, goes_on_for, is_long, is_right_at, could_grow_ahead, could_grow_back}
+use Rattle.align.specs.Pairings.{Entries, Pairing, at, follows, pairing, is_next, goes_on, goes_on_for, is_long, is_right_at}
+use Rattle.align.specs.Pairings.{could_grow_ahead, could_grow_back}
 use Rattle.align.specs.Tokens.{compared, ends_checked, is_loop, token}
 use Rattle.symbols.specs.declared.values.Value.TheVariants.{Num, Fixed}
 
@@ -68,15 +69,18 @@ no_third : (words : Words) → ends_checked words 5 2 ≡ false
 unfolding ends_checked
 no_third words = refl
 
-with_third : (words : Words) → is_loop words 5 4 ≡ true → is_loop words 5 5 ≡ true → holds_sum 5 (sum_before words 5 bank_words) ≡ true → ends_checked words 5 7 ≡ true
+with_third : (words : Words) → is_loop words 5 4 ≡ true → is_loop words 5 5 ≡ true → holds_sum 5 (sum_before words 5 bank_words) ≡ true
+    → ends_checked words 5 7 ≡ true
 unfolding ends_checked
 with_third words first second sum = rw (first, second, sum) refl
 
-wrong_sum : (words : Words) → is_loop words 5 4 ≡ true → is_loop words 5 5 ≡ true → holds_sum 5 (sum_before words 5 bank_words) ≡ false → ends_checked words 5 7 ≡ false
+wrong_sum : (words : Words) → is_loop words 5 4 ≡ true → is_loop words 5 5 ≡ true → holds_sum 5 (sum_before words 5 bank_words) ≡ false
+    → ends_checked words 5 7 ≡ false
 unfolding ends_checked
 wrong_sum words first second sum = rw (first, second, sum) refl
 
--- ## Addresses: CADR of 14,2221 is 30221, and where that has become 20,2374 it is 40374; a number of bank 0 is no address, nor is an extracode
+-- ## Addresses: CADR of 14,2221 is 30221, and where that has become 20,2374 it is 40374; a number of bank 0 is no address, nor is an
+-- extracode
 led : (to_new : Entries) → at to_new 0o30221 ≡ Some 0o40374 → follows to_new (Some 0o30221) (Some 0o40374) ≡ true
 led to_new e = rw e refl
 

@@ -25,14 +25,19 @@ front-more a b c text left row more p e q = record {
 }
 
 -- a beginning of one row more
-pub front-fails : (a b c text left row more : List ℕ) → IsFront a b text left → left ≡ row ++ more → WritesBeginning b c row → WritesBeginning a c text
+pub front-fails : (a b c text left row more : List ℕ) → IsFront a b text left → left ≡ row ++ more → WritesBeginning b c row
+    → WritesBeginning a c text
 front-fails a b c text left row more p e q =
-    beginning-along a c (p.done ++ row) text (beginning-after a b c p.done row p.appended q) (record { rest = more; whole = whole-more text p.done left row more p.whole e })
+    beginning-along a c (p.done ++ row) text (beginning-after a b c p.done row p.appended q)
+    (record { rest = more; whole = whole-more text p.done left row more p.whole e })
 
 -- nothing is left
 pub front-ends : (a b text left : List ℕ) → IsFront a b text left → left ≡ [] → b ≡ a ++ text
-front-ends a b text left p e = p.appended ∙ ap (λ (t : List ℕ). a ++ t) (sym (p.whole ∙ ap (λ (t : List ℕ). p.done ++ t) e ∙ append-nil p.done))
+front-ends a b text left p e = p.appended ∙ ap (λ (t : List ℕ). a ++ t)
+    (sym (p.whole ∙ ap (λ (t : List ℕ). p.done ++ t) e ∙ append-nil p.done))
 
 -- the texts of the entries from one on
-pub texts_from : {A : Type 0} (f : A → List ℕ) (xs : List A) (i : ℕ) (x : A) → slice_get xs i ≡ Some x → flat_map f (drop i xs) ≡ f x ++ flat_map f (drop (i + 1) xs)
-texts_from f xs i x e = ap (flat_map f) (drop_more xs i x (slice_get_within xs i x e) ∙ ap (λ y. y ∷ drop (i + 1) xs) (get_or_from_slice_get xs i x x e))
+pub texts_from : {A : Type 0} (f : A → List ℕ) (xs : List A) (i : ℕ) (x : A) → slice_get xs i ≡ Some x
+    → flat_map f (drop i xs) ≡ f x ++ flat_map f (drop (i + 1) xs)
+texts_from f xs i x e = ap (flat_map f) (drop_more xs i x (slice_get_within xs i x e)
+    ∙ ap (λ y. y ∷ drop (i + 1) xs) (get_or_from_slice_get xs i x x e))

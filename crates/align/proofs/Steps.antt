@@ -40,11 +40,13 @@ pub others_first : (old new : Words) (to_old : Entries) → others_before old ne
 unfolding others_before
 others_first old new to_old = refl
 
-pub others_there : (old new : Words) (to_old : Entries) (n : ℕ) → is_other_at old new to_old n ≡ true → others_before old new to_old (n + 1) ≡ others_before old new to_old n + 1
+pub others_there : (old new : Words) (to_old : Entries) (n : ℕ) → is_other_at old new to_old n ≡ true
+    → others_before old new to_old (n + 1) ≡ others_before old new to_old n + 1
 unfolding others_before
 others_there old new to_old n there = rw (add-one n, there) refl
 
-pub others_passed : (old new : Words) (to_old : Entries) (n : ℕ) → is_other_at old new to_old n ≡ false → others_before old new to_old (n + 1) ≡ others_before old new to_old n
+pub others_passed : (old new : Words) (to_old : Entries) (n : ℕ) → is_other_at old new to_old n ≡ false
+    → others_before old new to_old (n + 1) ≡ others_before old new to_old n
 unfolding others_before
 others_passed old new to_old n none = rw (add-one n, none) refl
 
@@ -57,7 +59,8 @@ pub filled_there : (words : Words) (bank n : ℕ) → (word_at words bank n == 0
 unfolding filled_before
 filled_there words bank n there = rw (add-one n, there) refl
 
-pub filled_passed : (words : Words) (bank n : ℕ) → (word_at words bank n == 0) ≡ true → filled_before words bank (n + 1) ≡ filled_before words bank n
+pub filled_passed : (words : Words) (bank n : ℕ) → (word_at words bank n == 0) ≡ true
+    → filled_before words bank (n + 1) ≡ filled_before words bank n
 unfolding filled_before
 filled_passed words bank n none = rw (add-one n, none) refl
 
@@ -80,14 +83,17 @@ unfolding goes_on_for
 goes_next pairs place n = rw (add-one n) refl
 
 -- what is compared at a place
-pub token_next : (names : Entries) (words : Words) (bank n end word : ℕ) (extra checked : Bool) (entry : Option ℕ) → end ≡ filled words bank → word ≡ word_at words bank n
+pub token_next : (names : Entries) (words : Words) (bank n end word : ℕ) (extra checked : Bool) (entry : Option ℕ) → end ≡ filled words bank
+    → word ≡ word_at words bank n
     → extra ≡ extracode_at words bank n → checked ≡ ends_checked words bank end
-    → entry ≡ (if nat_lt n end then Some (compared names bank (n + 1 == end && checked) extra word) else None) → entry ∷ [] ≡ token_at names words bank n
+    → entry ≡ (if nat_lt n end then Some (compared names bank (n + 1 == end && checked) extra word) else None)
+    → entry ∷ [] ≡ token_at names words bank n
 unfolding token_at
 token_next names words bank n end word extra checked entry a b c d e = rw (e, d, a, b, c) refl
 
 -- what the word at a place names
-pub operand_next : (words : Words) (bank n word : ℕ) (extra : Bool) (entry : Option ℕ) → word ≡ word_at words bank n → extra ≡ extracode_at words bank n
+pub operand_next : (words : Words) (bank n word : ℕ) (extra : Bool) (entry : Option ℕ) → word ≡ word_at words bank n
+    → extra ≡ extracode_at words bank n
     → entry ≡ of_erasable (address_of (code_of extra word)) → entry ∷ [] ≡ operand_at words bank n
 unfolding operand_at
 operand_next words bank n word extra entry b c e = rw (e, b, c) refl
@@ -97,7 +103,8 @@ pub free_first : (pairs here : Entries) (place : ℕ) → stand_free pairs here 
 unfolding stand_free
 free_first pairs here place = refl
 
-pub free_next : (pairs here : Entries) (place n : ℕ) → stand_free pairs here place (n + 1) ≡ (stands_free pairs here (place + n) && stand_free pairs here place n)
+pub free_next : (pairs here : Entries) (place n : ℕ)
+    → stand_free pairs here place (n + 1) ≡ (stands_free pairs here (place + n) && stand_free pairs here place n)
 unfolding stand_free
 free_next pairs here place n = rw (add-one n) refl
 
@@ -106,11 +113,13 @@ pub named_first : (operands : Entries) (p : Pairing) (s : ℕ) → named_before 
 unfolding named_before
 named_first operands p s = refl
 
-pub named_there : (operands : Entries) (p : Pairing) (s n : ℕ) → is_named_at operands p s n ≡ true → named_before operands p s (n + 1) ≡ named_before operands p s n + 1
+pub named_there : (operands : Entries) (p : Pairing) (s n : ℕ) → is_named_at operands p s n ≡ true
+    → named_before operands p s (n + 1) ≡ named_before operands p s n + 1
 unfolding named_before
 named_there operands p s n there = rw (add-one n, there) refl
 
-pub named_passed : (operands : Entries) (p : Pairing) (s n : ℕ) → is_named_at operands p s n ≡ false → named_before operands p s (n + 1) ≡ named_before operands p s n
+pub named_passed : (operands : Entries) (p : Pairing) (s n : ℕ) → is_named_at operands p s n ≡ false
+    → named_before operands p s (n + 1) ≡ named_before operands p s n
 unfolding named_before
 named_passed operands p s n none = rw (add-one n, none) refl
 

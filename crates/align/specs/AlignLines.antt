@@ -1,5 +1,6 @@
 -- What has become of the words of a rope, as text.
-use Rattle.std.specs.Prelude.{ℕ, zero, suc, ◌+◌, ◌-◌, ◌/◌, ◌%◌, ◌==◌, Bool, true, false, not, ◌&&◌, nat_lt, List, [], ◌++◌, codes, decimal, Option, Some, None, is_some, if◌then◌else◌}
+use Rattle.std.specs.Prelude.{ℕ, zero, suc, ◌+◌, ◌-◌, ◌/◌, ◌%◌, ◌==◌, Bool, true, false, not, ◌&&◌, nat_lt, List, [], ◌++◌, codes, decimal}
+use Rattle.std.specs.Prelude.{Option, Some, None, is_some, if◌then◌else◌}
 use Rattle.std.specs.List.{range_with_len, flat_map}
 use Rattle.rope.specs.Places.{banks, bank_words, fixed_places, place_number, Words, word_at}
 use Rattle.audit.specs.WordLines.{place_text}
@@ -51,8 +52,8 @@ paired_line Passage here there n = found_line here there n
 unfoldable pub ends : Entries → Entries → ℕ → Bool
 ends pairs here place = not (joins pairs here (place + 1))
 
--- both sides of the words that are told: with which places of the other rope they are paired and what is compared at them, and the same of the
--- other rope
+-- both sides of the words that are told: with which places of the other rope they are paired and what is compared at them, and the same of
+-- the other rope
 pub record Sides : Type 0 where
   pub pairs : Entries
   pub here : Entries
@@ -68,21 +69,22 @@ unfoldable pub stand_free : Entries → Entries → ℕ → ℕ → Bool
 stand_free pairs here place zero = true
 stand_free pairs here place (suc n) = stands_free pairs here (place + n) && stand_free pairs here place n
 
--- where n words that are paired with none stand in place of as many of the other rope: they begin after a word that is paired, and just so many
--- that are paired with none stand there after its partner. That partner
+-- where n words that are paired with none stand in place of as many of the other rope: they begin after a word that is paired, and just so
+-- many that are paired with none stand there after its partner. That partner
 abbrev pub partner_before : Sides → ℕ → ℕ → Option ℕ
 partner_before s place n = if is_first (place + 1 - n) then None else at s.pairs (place - n)
 
 abbrev pub replaced_after : Sides → ℕ → Option ℕ → Option ℕ
 replaced_after s n None = None
 replaced_after s n (Some partner) =
-    if nat_lt (partner + n) fixed_places && (stand_free s.back s.there (partner + 1) n && ends s.back s.there (partner + n)) then Some partner else None
+    if nat_lt (partner + n) fixed_places && (stand_free s.back s.there (partner + 1) n && ends s.back s.there (partner + n)) then Some
+    partner else None
 
 abbrev pub replaced : Sides → ℕ → ℕ → Option ℕ
 replaced s place n = replaced_after s n (partner_before s place n)
 
--- the line of n words that end at a place and are paired with none, by the partner of the word before them where they stand in place of others: of
--- these nothing is told with the old rope
+-- the line of n words that end at a place and are paired with none, by the partner of the word before them where they stand in place of
+-- others: of these nothing is told with the old rope
 abbrev pub free_line : View → ℕ → ℕ → Option ℕ → List ℕ
 free_line New place n None = codes "NEW " ++ name_of_place (place + 1 - n) ++ words_text n
 free_line New place n (Some partner) =
@@ -101,7 +103,8 @@ stretch_line view s n place None None = []
 unfoldable pub line_at : View → Sides → ℕ → ℕ → List ℕ
 line_at view s bank offset =
     if ends s.pairs s.here (place_number bank offset)
-    then stretch_line view s (words_before s.pairs s.here bank (offset + 1)) (place_number bank offset) (at s.pairs (place_number bank offset)) (at s.here (place_number bank offset))
+    then stretch_line view s (words_before s.pairs s.here bank (offset + 1)) (place_number bank offset)
+    (at s.pairs (place_number bank offset)) (at s.here (place_number bank offset))
     else []
 
 -- the sides of four lists
@@ -146,7 +149,8 @@ same_before to_old (suc n) = if is_same_at to_old n then same_before to_old n + 
 -- how many of the first n places are paired with a place where another word stands
 unfoldable pub others_before : Words → Words → Entries → ℕ → ℕ
 others_before old new to_old zero = 0
-others_before old new to_old (suc n) = if is_other_at old new to_old n then others_before old new to_old n + 1 else others_before old new to_old n
+others_before old new to_old (suc n) = if is_other_at old new to_old n then others_before old new to_old n
+    + 1 else others_before old new to_old n
 
 -- how many words are paired with the same place, and how many paired words are others but for their tokens: they have another address
 unfoldable pub totals_line : Words → Words → Entries → List ℕ

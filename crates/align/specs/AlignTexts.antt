@@ -7,8 +7,8 @@ use Rattle.align.specs.Alignments.{Renaming}
 use Rattle.align.specs.Pairings.{Pairing}
 use Rattle.align.specs.RenamedLines.{renamed_lines}
 
--- what has become of the words of two ropes: first of those of the new one, then which of the old one are gone, then which addresses of erasable
--- memory are others, and how many words are where they were
+-- what has become of the words of two ropes: first of those of the new one, then which of the old one are gone, then which addresses of
+-- erasable memory are others, and how many words are where they were
 unfoldable pub alignment_lines : Words → Words → Renaming → Pairing → List ℕ
 alignment_lines old new r p =
     (view_lines New (new_sides p) ++ view_lines Old (old_sides p)) ++ (renamed_lines r p ++ totals_line old new p.to_old)

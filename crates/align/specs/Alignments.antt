@@ -5,8 +5,8 @@ use Rattle.align.specs.Pairings.{Entries, Pairing, is_right}
 use Rattle.align.specs.Renamings.{is_renaming}
 use Rattle.align.specs.Tokens.{operands, tokens}
 
--- which address of the new rope stands for each of the old one, and which of the old one for each of the new one; and the addresses of erasable
--- memory that the words of the old rope name
+-- which address of the new rope stands for each of the old one, and which of the old one for each of the new one; and the addresses of
+-- erasable memory that the words of the old rope name
 pub record Renaming : Type 0 where
   pub names : Entries
   pub back : Entries

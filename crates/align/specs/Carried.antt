@@ -1,5 +1,6 @@
 -- The names of the old rope's places at the places of the new one.
-use Rattle.std.specs.Prelude.{ℕ, zero, suc, ◌+◌, ◌-◌, ◌/◌, ◌%◌, Bool, true, not, ◌&&◌, ◌||◌, nat_lt, List, ◌++◌, codes, Option, Some, None, if◌then◌else◌}
+use Rattle.std.specs.Prelude.{ℕ, zero, suc, ◌+◌, ◌-◌, ◌/◌, ◌%◌, Bool, true, not, ◌&&◌, ◌||◌, nat_lt, List, ◌++◌, codes, Option, Some, None}
+use Rattle.std.specs.Prelude.{if◌then◌else◌}
 use Rattle.rope.specs.Places.{bank_words, fixed_places}
 use Rattle.symbols.specs.Values.{value_text}
 use Rattle.symbols.specs.declared.values.Value.{Value}
@@ -38,8 +39,8 @@ is_sure_back p i j (suc n) =
     if is_first i then is_first j
     else (if goes_on p.to_new (i - 1) then is_sure_back p (i - 1) (j - 1) n else (has_resumed p i j && is_sure_back p (i - 2) (j - 2) n))
 
--- whether a name is surely carried from a place to another: four words of the run stand before it and four behind it, single changed words left
--- out, or fewer up to an end of both banks
+-- whether a name is surely carried from a place to another: four words of the run stand before it and four behind it, single changed words
+-- left out, or fewer up to an end of both banks
 abbrev pub is_sure : Pairing → ℕ → ℕ → Bool
 is_sure p i j = is_sure_ahead p i j 4 && is_sure_back p i j 4
 

@@ -1,5 +1,6 @@
 -- The names of the old rope with what they stand for in the new one.
-use Rattle.std.specs.Prelude.{ℕ, zero, suc, ◌+◌, ◌*◌, ◌/◌, ◌%◌, ◌==◌, nat_lt, Bool, true, false, ◌&&◌, ◌||◌, List, ◌++◌, codes, flat_map, if◌then◌else◌}
+use Rattle.std.specs.Prelude.{ℕ, zero, suc, ◌+◌, ◌*◌, ◌/◌, ◌%◌, ◌==◌, nat_lt, Bool, true, false, ◌&&◌, ◌||◌, List, ◌++◌, codes, flat_map}
+use Rattle.std.specs.Prelude.{if◌then◌else◌}
 use Rattle.rope.specs.Places.{fixed_places, place_number}
 use Rattle.symbols.specs.Values.{SymbolTable}
 use Rattle.symbols.specs.declared.values.Value.{Value}
@@ -29,8 +30,8 @@ unfoldable pub keep_switched : Entries → ℕ → Bool
 keep_switched names zero = true
 keep_switched names (suc n) = is_kept names n && keep_switched names n
 
--- whether an erasable place is surely carried: enough is known of its address, and it lies outside the switched bank, or there each address, in
--- the words of each of 36 banks, stands for itself, since no word tells which bank is switched
+-- whether an erasable place is surely carried: enough is known of its address, and it lies outside the switched bank, or there each
+-- address, in the words of each of 36 banks, stands for itself, since no word tells which bank is switched
 abbrev pub is_sure_place : Entries → ℕ → Evidence → Bool
 is_sure_place names place known = is_enough known && (nat_lt place 0o1400 || keep_switched names 9216)
 

@@ -1,6 +1,7 @@
 -- Which words of two ropes are paired: each with at most one of the other, in runs that are equal and cannot be grown. A place is
 -- told by its number, and what is compared there stands in a list for each rope.
-use Rattle.std.specs.Prelude.{ℕ, zero, suc, ◌+◌, ◌-◌, ◌%◌, ◌==◌, nat_lt, nat_le, Bool, true, false, not, ◌&&◌, ◌||◌, List, Option, Some, None, slice_index_or}
+use Rattle.std.specs.Prelude.{ℕ, zero, suc, ◌+◌, ◌-◌, ◌%◌, ◌==◌, nat_lt, nat_le, Bool, true, false, not, ◌&&◌, ◌||◌, List, Option, Some}
+use Rattle.std.specs.Prelude.{None, slice_index_or}
 use Rattle.rope.specs.Places.{bank_words, fixed_places}
 
 -- for each place of one rope what stands there: a token, or the place in the other rope with which it is paired
@@ -60,7 +61,8 @@ pub record Pairing : Type 0 where
   pub to_old : Entries
   pub to_new : Entries
 
--- whether two tokens are addresses of places of bank 4 to 37 that are paired with each other, as CADR makes them: the numbers of these places
+-- whether two tokens are addresses of places of bank 4 to 37 that are paired with each other, as CADR makes them: the numbers of these
+-- places
 abbrev pub follows : Entries → Option ℕ → Option ℕ → Bool
 follows to_new (Some address) (Some other) =
     nat_le 0o10000 address && (nat_lt address 0o100000 && (nat_lt other 0o100000 && is_entry (at to_new address) other))
@@ -85,8 +87,8 @@ could_grow_ahead p i j = not (is_first (i + 1)) && not (is_first (j + 1)) && cou
 unfoldable pub could_grow_back : Pairing → ℕ → ℕ → Bool
 could_grow_back p i j = not (is_first i) && not (is_first j) && could_pair p (i - 1) (j - 1)
 
--- whether all is right at a place of the new rope: where it is paired, it is with a word that agrees, which is paired with it and no other, in a
--- run that has so many words, or stands where it stood, and cannot be grown
+-- whether all is right at a place of the new rope: where it is paired, it is with a word that agrees, which is paired with it and no other,
+-- in a run that has so many words, or stands where it stood, and cannot be grown
 abbrev pub is_right_new : ℕ → Pairing → ℕ → Option ℕ → Bool
 is_right_new least p j None = true
 is_right_new least p j (Some i) =
@@ -105,9 +107,9 @@ unfoldable pub is_right_before : ℕ → Pairing → ℕ → Bool
 is_right_before least p zero = true
 is_right_before least p (suc n) = is_right_at least p n && is_right_before least p n
 
--- a right pairing of two ropes: each word is paired with at most one of the other rope, and that one with it; paired words are equal, or are
--- addresses of places that are paired; each
--- run has so many words or more, or stands where it stood, lies in one bank of each rope, and cannot be grown at an end by words that are paired with none
+-- a right pairing of two ropes: each word is paired with at most one of the other rope, and that one with it; paired words are equal, or
+-- are addresses of places that are paired; each run has so many words or more, or stands where it stood, lies in one bank of each rope, and
+-- cannot be grown at an end by words that are paired with none
 abbrev pub is_right : ℕ → Pairing → Bool
 is_right least p = is_right_before least p fixed_places
 

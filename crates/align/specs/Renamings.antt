@@ -1,5 +1,6 @@
 -- Which address of erasable memory in the words of the new rope stands for which in those of the old one.
-use Rattle.std.specs.Prelude.{◌≡◌, ℕ, zero, suc, ◌+◌, ◌*◌, ◌/◌, ◌%◌, ◌<◌, ◌==◌, nat_lt, nat_le, Bool, not, ◌&&◌, ◌||◌, true, Option, Some, None, if◌then◌else◌}
+use Rattle.std.specs.Prelude.{◌≡◌, ℕ, zero, suc, ◌+◌, ◌*◌, ◌/◌, ◌%◌, ◌<◌, ◌==◌, nat_lt, nat_le, Bool, not, ◌&&◌, ◌||◌, true, Option, Some}
+use Rattle.std.specs.Prelude.{None, if◌then◌else◌}
 use Rattle.rope.specs.Places.{banks, fixed_places}
 use Rattle.align.specs.Pairings.{Entries, at}
 
@@ -18,7 +19,8 @@ renamed names bank address = by_entry address (at names (slot bank address))
 
 -- whether an address may stand for another: none for a register or a counter, and one of the switched bank for such ones
 abbrev pub may_stand : ℕ → ℕ → Bool
-may_stand address other = (nat_le 0o61 address || other == address) && (if nat_le 0o1400 address then nat_le 0o1400 other else not (nat_le 0o1400 other))
+may_stand address other = (nat_le 0o61 address || other == address)
+    && (if nat_le 0o1400 address then nat_le 0o1400 other else not (nat_le 0o1400 other))
 
 -- whether the address that stands for one in the words of a bank may do so, and stands for no other one: a list tells for which it stands
 abbrev pub stands_rightly : Entries → Entries → ℕ → ℕ → Bool

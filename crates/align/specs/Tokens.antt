@@ -1,5 +1,5 @@
--- The words of fixed memory as they are compared: without their addresses of fixed memory, with those of erasable memory renamed, and check words
--- by what they are.
+-- The words of fixed memory as they are compared: without their addresses of fixed memory, with those of erasable memory renamed, and check
+-- words by what they are.
 use Rattle.std.specs.Prelude.{ℕ, zero, suc, ◌+◌, ◌-◌, ◌*◌, ◌/◌, ◌==◌, ◌&&◌, Bool, nat_lt, List, [], ◌∷◌, Option, Some, None, if◌then◌else◌}
 use Rattle.std.specs.List.{range_with_len, flat_map}
 use Rattle.space.specs.Places.{window}
@@ -13,8 +13,8 @@ use Rattle.audit.specs.WordLines.{extracode_at}
 use Rattle.align.specs.Pairings.{Entries}
 use Rattle.align.specs.Renamings.{renamed}
 
--- a word of a bank with the greatest address in place of its own, where that is one of fixed memory, or in its last ten bits the address that stands
--- for its own, where that is one of erasable memory
+-- a word of a bank with the greatest address in place of its own, where that is one of fixed memory, or in its last ten bits the address
+-- that stands for its own, where that is one of erasable memory
 abbrev pub with_address : Entries → ℕ → ℕ → Option ℕ → ℕ
 with_address names bank word None = word
 with_address names bank word (Some address) =
@@ -40,8 +40,8 @@ filled words bank = filled_before words bank bank_words
 abbrev pub is_loop : Words → ℕ → ℕ → Bool
 is_loop words bank offset = word_at words bank offset == window (Fixed bank offset)
 
--- whether the last of so many words of a bank is its check word: it stands after two TC to themselves, and the sum of the bank is its number, or
--- the complement of it
+-- whether the last of so many words of a bank is its check word: it stands after two TC to themselves, and the sum of the bank is its
+-- number, or the complement of it
 unfoldable pub ends_checked : Words → ℕ → ℕ → Bool
 ends_checked words bank end =
     nat_lt 2 end && (is_loop words bank (end - 3) && (is_loop words bank (end - 2) && holds_sum bank (sum_before words bank bank_words)))
@@ -57,7 +57,8 @@ compared names bank is_check extra word = if is_check then check_token else toke
 -- what is compared of the word at an offset of a bank that has so many, and ends with a check word or does not
 abbrev pub entry_of : Entries → Words → ℕ → ℕ → Bool → ℕ → Option ℕ
 entry_of names words bank end is_checked offset =
-    if nat_lt offset end then Some (compared names bank (offset + 1 == end && is_checked) (extracode_at words bank offset) (word_at words bank offset)) else None
+    if nat_lt offset end then Some (compared names bank (offset + 1 == end && is_checked) (extracode_at words bank offset)
+    (word_at words bank offset)) else None
 
 -- what is compared at a place, nothing in the zeros that end its bank
 unfoldable pub token_at : Entries → Words → ℕ → ℕ → List (Option ℕ)

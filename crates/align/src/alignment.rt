@@ -20,7 +20,8 @@ use std::alloc::{AllocError, Global};
 /// Which words of two ropes are the same passages: by the number of each place, 1024 times its bank and its offset.
 #[derive(Drop)]
 pub struct Alignment {
-    /// For each address of erasable memory that which stands for it in the words of the new rope, those of the switched bank for each bank.
+    /// For each address of erasable memory that which stands for it in the words of the new rope, those of the switched
+    /// bank for each bank.
     pub names: Vec<Entry>,
     /// For each such address of the new rope that of the old one for which it stands.
     pub back: Vec<Entry>,
@@ -40,7 +41,8 @@ pub struct Alignment {
 
 /// Which address stands for which in an alignment.
 pub(crate) fn renaming_of(a: &Alignment) -> Renaming<'_>
-    ensures { renaming result.names.now result.back.now result.operands.now ≡ renaming a.now.names.items a.now.back.items a.now.operands.items }
+    ensures { renaming result.names.now result.back.now result.operands.now
+        ≡ renaming a.now.names.items a.now.back.items a.now.operands.items }
 {
     Renaming {
         names: a.names.as_slice(),
@@ -51,7 +53,8 @@ pub(crate) fn renaming_of(a: &Alignment) -> Renaming<'_>
 
 /// Which words are paired in an alignment.
 pub(crate) fn pairing_of(a: &Alignment) -> Pairing<'_>
-    ensures { pairing result.own.now result.old.now result.new.now result.to_old.now result.to_new.now ≡ pairing a.now.own.items a.now.old.items a.now.new.items a.now.to_old.items a.now.to_new.items }
+    ensures { pairing result.own.now result.old.now result.new.now result.to_old.now result.to_new.now
+        ≡ pairing a.now.own.items a.now.old.items a.now.new.items a.now.to_old.items a.now.to_new.items }
 {
     Pairing {
         own: a.own.as_slice(),
@@ -62,13 +65,14 @@ pub(crate) fn pairing_of(a: &Alignment) -> Pairing<'_>
     }
 }
 
-/// Pairs the words of two ropes in equal runs of at least so many words, the longest first, with the addresses of erasable memory in the old one's
-/// renamed.
+/// Pairs the words of two ropes in equal runs of at least so many words, the longest first, with the addresses of
+/// erasable memory in the old one's renamed.
 ///
 /// What is found is checked, and where the check refuses it nothing is renamed or paired.
 pub fn align(alloc: Global, old: &Rope, new: &Rope, least: usize) -> Result<Alignment, AllocError>
     requires { least ≤ 1024 }
-    ensures { IfOk result (λ a. IsAlignment least old.now new.now (renaming a.names.items a.back.items a.operands.items) (pairing a.own.items a.old.items a.new.items a.to_old.items a.to_new.items)) }
+    ensures { IfOk result (λ a. IsAlignment least old.now new.now (renaming a.names.items a.back.items a.operands.items)
+        (pairing a.own.items a.old.items a.new.items a.to_old.items a.to_new.items)) }
 {
     let own = tokens_of(alloc, &[], old)?;
     let others = tokens_of(alloc, &[], new)?;
@@ -164,7 +168,8 @@ fn pair(
     least: usize,
 ) -> Result<Pairs, AllocError>
     requires { least ≤ 1024 }
-    ensures { IfOk result (λ pairs. is_right least (pairing own.now old.now new.now pairs.to_old.items pairs.to_new.items) ≡ true) }
+    ensures { IfOk result (λ pairs. is_right least
+        (pairing own.now old.now new.now pairs.to_old.items pairs.to_new.items) ≡ true) }
 {
     let (to_old, to_new) = search(alloc, own, old, new, least)?;
     let found = Pairing {
@@ -183,7 +188,8 @@ fn pair(
 
 /// Pairs nothing.
 fn unpaired(alloc: Global) -> Result<Pairs, AllocError>
-    ensures { IfOk result (λ pairs. (least : ℕ) (own old new : Entries) → is_right least (pairing own old new pairs.to_old.items pairs.to_new.items) ≡ true) }
+    ensures { IfOk result (λ pairs. (least : ℕ) (own old new : Entries)
+        → is_right least (pairing own old new pairs.to_old.items pairs.to_new.items) ≡ true) }
 {
     let to_old = no_pairs(alloc)?;
     let to_new = no_pairs(alloc)?;

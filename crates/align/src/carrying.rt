@@ -3,7 +3,8 @@
 ghost use Rattle.std.specs.Prelude.{IfSome, ◌≡◌, ◌+◌, ◌*◌, ◌<◌, ◌≤◌, ◌^◌, ◌++◌, codes, length};
 ghost use Rattle.arrayvec.specs.ArrayVec.{array_vec_len};
 ghost use Rattle.rope.specs.Places.{fixed_places};
-ghost use Rattle.align.specs.Carried.{changed_to, fixed_at, fixed_line, has_changed, has_resumed, is_last, is_sure, is_sure_ahead, is_sure_back, name_line, resumes, unpaired_line};
+ghost use Rattle.align.specs.Carried.{changed_to, fixed_at, fixed_line, has_changed, has_resumed, is_last, is_sure};
+ghost use Rattle.align.specs.Carried.{is_sure_ahead, is_sure_back, name_line, resumes, unpaired_line};
 ghost use Rattle.align.specs.Pairings.{pairing};
 
 use crate::checking::Pairing;
@@ -26,7 +27,8 @@ pub(crate) type Line = ArrayVec<u8, LINE>;
 pub(crate) fn fixed_line(p: Pairing<'_>, name: &[u8], old: usize, entry: Entry) -> Line
     requires name { length name.now ≤ 8 }
     requires place { old < fixed_places }
-    ensures { result.items ≡ fixed_line (pairing p.entry.own.now p.entry.old.now p.entry.new.now p.entry.to_old.now p.entry.to_new.now) name.now old entry }
+    ensures { result.items ≡ fixed_line (pairing p.entry.own.now p.entry.old.now p.entry.new.now p.entry.to_old.now
+        p.entry.to_new.now) name.now old entry }
 {
     let Some(new) = entry else {
         return unpaired_line(name, old, changed_to(p, old));
@@ -57,7 +59,8 @@ fn unpaired_line(name: &[u8], old: usize, changed: Option<usize>) -> Line
 /// Where the word of a place that is paired with none has changed alone: right behind the partner of the one before it.
 fn changed_to(p: Pairing<'_>, old: usize) -> Option<usize>
     requires { old < fixed_places }
-    ensures is { result ≡ changed_to (pairing p.entry.own.now p.entry.old.now p.entry.new.now p.entry.to_old.now p.entry.to_new.now) old }
+    ensures is { result ≡ changed_to (pairing p.entry.own.now p.entry.old.now p.entry.new.now p.entry.to_old.now
+        p.entry.to_new.now) old }
     ensures within { IfSome result (λ new. new < fixed_places) }
 {
     if is_first(old) {
@@ -100,17 +103,20 @@ fn fixed_at(place: usize) -> Value
 pub(crate) fn is_sure(p: Pairing<'_>, old: usize, new: usize) -> bool
     requires old { old < fixed_places }
     requires new { new < fixed_places }
-    ensures { result ≡ is_sure (pairing p.entry.own.now p.entry.old.now p.entry.new.now p.entry.to_old.now p.entry.to_new.now) old new }
+    ensures { result ≡ is_sure (pairing p.entry.own.now p.entry.old.now p.entry.new.now p.entry.to_old.now
+        p.entry.to_new.now) old new }
 {
     is_sure_ahead(p, old, new, SURE) && is_sure_back(p, old, new, SURE)
 }
 
-/// Whether a run goes on from two paired places so many times, where one changed word is passed over, or up to the last words of both banks.
+/// Whether a run goes on from two paired places so many times, where one changed word is passed over, or up to the last
+/// words of both banks.
 #[tactic(auto, unfolding(crate::specs::Carried::is_sure_ahead))]
 fn is_sure_ahead(p: Pairing<'_>, old: usize, new: usize, count: usize) -> bool
     requires old { old + 2 * count < 2 ^ 31 }
     requires new { new + 2 * count < 2 ^ 31 }
-    ensures { result ≡ is_sure_ahead (pairing p.entry.own.now p.entry.old.now p.entry.new.now p.entry.to_old.now p.entry.to_new.now) old new count }
+    ensures { result ≡ is_sure_ahead (pairing p.entry.own.now p.entry.old.now p.entry.new.now p.entry.to_old.now
+        p.entry.to_new.now) old new count }
 {
     if count == 0 {
         true
@@ -128,7 +134,8 @@ fn is_sure_ahead(p: Pairing<'_>, old: usize, new: usize, count: usize) -> bool
 fn resumes(p: Pairing<'_>, old: usize, new: usize) -> bool
     requires old { old < 2 ^ 31 }
     requires new { new < 2 ^ 31 }
-    ensures { result ≡ resumes (pairing p.entry.own.now p.entry.old.now p.entry.new.now p.entry.to_old.now p.entry.to_new.now) old new }
+    ensures { result ≡ resumes (pairing p.entry.own.now p.entry.old.now p.entry.new.now p.entry.to_old.now
+        p.entry.to_new.now) old new }
 {
     has_changed(p, old + 1, new + 1)
         && !is_first(old + 2)
@@ -138,15 +145,18 @@ fn resumes(p: Pairing<'_>, old: usize, new: usize) -> bool
 
 /// Whether words of one bank in each rope have changed alone.
 fn has_changed(p: Pairing<'_>, old: usize, new: usize) -> bool
-    ensures { result ≡ has_changed (pairing p.entry.own.now p.entry.old.now p.entry.new.now p.entry.to_old.now p.entry.to_new.now) old new }
+    ensures { result ≡ has_changed (pairing p.entry.own.now p.entry.old.now p.entry.new.now p.entry.to_old.now
+        p.entry.to_new.now) old new }
 {
     stands_free(p.to_new, p.old, old) && stands_free(p.to_old, p.new, new)
 }
 
-/// Whether before two paired places, which are no first ones of banks, one word of each bank has changed, and the two before are paired.
+/// Whether before two paired places, which are no first ones of banks, one word of each bank has changed, and the two
+/// before are paired.
 #[tactic(auto, unfolding(crate::specs::Carried::has_resumed))]
 fn has_resumed(p: Pairing<'_>, old: usize, new: usize) -> bool
-    ensures { result ≡ has_resumed (pairing p.entry.own.now p.entry.old.now p.entry.new.now p.entry.to_old.now p.entry.to_new.now) old new }
+    ensures { result ≡ has_resumed (pairing p.entry.own.now p.entry.old.now p.entry.new.now p.entry.to_old.now
+        p.entry.to_new.now) old new }
 {
     !is_first(new)
         && has_changed(p, old.saturating_sub(1), new.saturating_sub(1))
@@ -160,7 +170,8 @@ fn has_resumed(p: Pairing<'_>, old: usize, new: usize) -> bool
 #[tactic(auto, unfolding(crate::specs::Carried::is_sure_back))]
 fn is_sure_back(p: Pairing<'_>, old: usize, new: usize, count: usize) -> bool
     requires old { old < 2 ^ 31 }
-    ensures { result ≡ is_sure_back (pairing p.entry.own.now p.entry.old.now p.entry.new.now p.entry.to_old.now p.entry.to_new.now) old new count }
+    ensures { result ≡ is_sure_back (pairing p.entry.own.now p.entry.old.now p.entry.new.now p.entry.to_old.now
+        p.entry.to_new.now) old new count }
 {
     if count == 0 {
         true

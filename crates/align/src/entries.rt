@@ -59,7 +59,8 @@ pub(crate) fn is_entry(entry: Entry, place: usize) -> bool
     }
 }
 
-/// Whether two tokens are addresses of places of bank 4 to 37 that are paired with each other, by the pairs of the first.
+/// Whether two tokens are addresses of places of bank 4 to 37 that are paired with each other, by the pairs of the
+/// first.
 pub(crate) fn follows(to_new: &[Entry], first: Entry, second: Entry) -> bool
     ensures { result ≡ follows to_new.now first second }
 {

@@ -25,7 +25,9 @@ pub(crate) struct Evidence {
 /// What is known of an address by all words that name it.
 #[tactic(auto, using(crate::proofs::Steps::evidence_first, crate::proofs::Steps::evidence_there, crate::proofs::Steps::evidence_passed))]
 pub(crate) fn weigh(operands: &[Entry], p: Pairing<'_>, address: usize) -> Evidence
-    ensures { result ≡ evidence_before operands.now (pairing p.entry.own.now p.entry.old.now p.entry.new.now p.entry.to_old.now p.entry.to_new.now) address fixed_places }
+    ensures { result ≡ evidence_before operands.now
+        (pairing p.entry.own.now p.entry.old.now p.entry.new.now p.entry.to_old.now p.entry.to_new.now) address
+        fixed_places }
 {
     let mut known = Evidence {
         words: 0,
@@ -45,7 +47,8 @@ pub(crate) fn weigh(operands: &[Entry], p: Pairing<'_>, address: usize) -> Evide
 fn with_word(p: Pairing<'_>, place: usize, entry: Entry, known: Evidence) -> Evidence
     requires place { place < fixed_places }
     requires few { known.words ≤ place }
-    ensures is { result ≡ with_word (pairing p.entry.own.now p.entry.old.now p.entry.new.now p.entry.to_old.now p.entry.to_new.now) place entry known }
+    ensures is { result ≡ with_word (pairing p.entry.own.now p.entry.old.now p.entry.new.now p.entry.to_old.now
+        p.entry.to_new.now) place entry known }
 {
     match entry {
         Some(new) => {
@@ -70,7 +73,8 @@ fn kept_word(p: Pairing<'_>, place: usize, new: usize, known: Evidence) -> Evide
     requires place { place < fixed_places }
     requires new { new < fixed_places }
     requires few { known.words ≤ place }
-    ensures { result ≡ kept_word (pairing p.entry.own.now p.entry.old.now p.entry.new.now p.entry.to_old.now p.entry.to_new.now) place new known }
+    ensures { result ≡ kept_word (pairing p.entry.own.now p.entry.old.now p.entry.new.now p.entry.to_old.now
+        p.entry.to_new.now) place new known }
 {
     Evidence {
         words: known.words + 1,
@@ -80,8 +84,8 @@ fn kept_word(p: Pairing<'_>, place: usize, new: usize, known: Evidence) -> Evide
     }
 }
 
-/// Whether it is known surely which address stands for one: two words or more that name it are paired with equal ones, one of them is surely
-/// carried, and each is paired.
+/// Whether it is known surely which address stands for one: two words or more that name it are paired with equal ones,
+/// one of them is surely carried, and each is paired.
 pub(crate) fn is_enough(known: Evidence) -> bool
     ensures { result ≡ is_enough known }
 {

@@ -1,5 +1,6 @@
-//! Two ropes side by side: which words of one are words of the other, at the same place or at another, with addresses of fixed memory left
-//! out and those of erasable memory renamed one to one; and what has become of the words and of names, as text.
+//! Two ropes side by side: which words of one are words of the other, at the same place or at another, with addresses
+//! of fixed memory left out and those of erasable memory renamed one to one; and what has become of the words and of
+//! names, as text.
 #![tactic(auto)]
 
 mod alignment;

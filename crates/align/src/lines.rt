@@ -1,6 +1,7 @@
 //! What has become of the words of a rope, as text.
 
-ghost use Rattle.std.specs.Prelude.{◌≡◌, ◌+◌, ◌<◌, ◌≤◌, ◌-◌, ◌++◌, true, codes, length, nat_lt, ◌&&◌, ◌^◌, IfSome, if◌then◌else◌};
+ghost use Rattle.std.specs.Prelude.{◌≡◌, ◌+◌, ◌<◌, ◌≤◌, ◌-◌, ◌++◌, true, codes, length, nat_lt, ◌&&◌, ◌^◌, IfSome};
+ghost use Rattle.std.specs.Prelude.{if◌then◌else◌};
 ghost use Rattle.arrayvec.specs.ArrayVec.{array_vec_len};
 ghost use Rattle.words.specs.Devices.{Writes, failures_after};
 ghost use Rattle.rope.specs.Places.{banks, bank_words, fixed_places, place_number};
@@ -9,7 +10,10 @@ ghost use Rattle.align.specs.declared.view.View.TheVariants.{Passage};
 ghost use Rattle.align.specs.Alignments.{renaming};
 ghost use Rattle.align.specs.AlignTexts.{alignment_lines};
 ghost use Rattle.align.specs.RenamedLines.{renamed_lines};
-ghost use Rattle.align.specs.AlignLines.{bank_lines, belong, ends, free_line, is_other, is_other_at, is_same_at, joins, line_at, name_of_place, others_before, paired_line, partner_before, replaced, same_before, sides, stand_free, stands_free, stretch_line, totals_line, view_lines, word_of, words_before, words_text};
+ghost use Rattle.align.specs.AlignLines.{bank_lines, belong, ends, free_line, is_other, is_other_at, is_same_at, joins};
+ghost use Rattle.align.specs.AlignLines.{line_at, name_of_place, others_before, paired_line, partner_before, replaced};
+ghost use Rattle.align.specs.AlignLines.{same_before, sides, stand_free, stands_free, stretch_line, totals_line};
+ghost use Rattle.align.specs.AlignLines.{view_lines, word_of, words_before, words_text};
 
 use crate::alignment::{Alignment, pairing_of, renaming_of};
 use crate::entries::{BANKS, Entry, PLACES, WORDS, entry_at, is_entry, is_first, is_free, is_next};
@@ -26,11 +30,13 @@ const LINE: usize = 80;
 
 pub(crate) type Line = ArrayVec<u8, LINE>;
 
-/// Writes what has become of the words of two ropes, by the places with which they are paired: of those of the new rope a line for each run that
-/// stands at another place, as `MOVED 10,2272 10,2275 WORDS 512`, for words that are in no run, as `NEW 10,2272 WORDS 3`, or where they stand in place of as many
-/// of the old one, as `CHANGED 13,2113 13,2116 WORDS 1`; of the other words of the old one that are in no run, as `GONE 14,2221 WORDS 3`; then which addresses of erasable memory are others in words that are paired, as `RENAMED 0100 0123 WORDS 12`, or in the words of
-/// a bank, as `RENAMED 1512 1600 BANK 10 WORDS 3`; and then how many words are where they were, and how many of all that are paired have another
-/// address, as `SAME WORDS 24885 OTHER ADDRESSES 156`.
+/// Writes what has become of the words of two ropes, by the places with which they are paired: of those of the new rope
+/// a line for each run that stands at another place, as `MOVED 10,2272 10,2275 WORDS 512`, for words that are in no
+/// run, as `NEW 10,2272 WORDS 3`, or where they stand in place of as many of the old one, as `CHANGED 13,2113 13,2116
+/// WORDS 1`; of the other words of the old one that are in no run, as `GONE 14,2221 WORDS 3`; then which addresses of
+/// erasable memory are others in words that are paired, as `RENAMED 0100 0123 WORDS 12`, or in the words of a bank, as
+/// `RENAMED 1512 1600 BANK 10 WORDS 3`; and then how many words are where they were, and how many of all that are
+/// paired have another address, as `SAME WORDS 24885 OTHER ADDRESSES 156`.
 ///
 /// After a failure a beginning of it was written.
 pub fn write_alignment<W: Write>(
@@ -40,7 +46,9 @@ pub fn write_alignment<W: Write>(
     out: &mut W,
 ) -> Result<(), WriteFailed>
     ensures written { W.told ≡ true → Writes (W.written out.old) (W.written out.new)
-        (alignment_lines old.now new.now (renaming alignment.now.names.items alignment.now.back.items alignment.now.operands.items) (pairing alignment.now.own.items alignment.now.old.items alignment.now.new.items alignment.now.to_old.items alignment.now.to_new.items)) result }
+        (alignment_lines old.now new.now (renaming alignment.now.names.items alignment.now.back.items
+        alignment.now.operands.items) (pairing alignment.now.own.items alignment.now.old.items
+        alignment.now.new.items alignment.now.to_old.items alignment.now.to_new.items)) result }
     ensures failures { W.failures out.new ≡ failures_after (W.failures out.old) result }
 {
     write_view(View::New, new_sides(alignment), out)?;
@@ -56,7 +64,9 @@ fn write_rest<W: Write>(
     out: &mut W,
 ) -> Result<(), WriteFailed>
     ensures written { W.told ≡ true → Writes (W.written out.old) (W.written out.new)
-        (renamed_lines (renaming alignment.now.names.items alignment.now.back.items alignment.now.operands.items) (pairing alignment.now.own.items alignment.now.old.items alignment.now.new.items alignment.now.to_old.items alignment.now.to_new.items) ++ totals_line old.now new.now alignment.now.to_old.items) result }
+        (renamed_lines (renaming alignment.now.names.items alignment.now.back.items alignment.now.operands.items)
+        (pairing alignment.now.own.items alignment.now.old.items alignment.now.new.items alignment.now.to_old.items
+        alignment.now.to_new.items) ++ totals_line old.now new.now alignment.now.to_old.items) result }
     ensures failures { W.failures out.new ≡ failures_after (W.failures out.old) result }
 {
     write_renamed(renaming_of(alignment), pairing_of(alignment), out)?;
@@ -66,12 +76,15 @@ fn write_rest<W: Write>(
     )
 }
 
-/// Writes where the words of a passage stand in a rope, as the old rope and the new one of an alignment: a line for each run, as
+/// Writes where the words of a passage stand in a rope, as the old rope and the new one of an alignment: a line for
+/// each run, as
 /// `FOUND 02,4000 10,2272 WORDS 512`, and for words that are in no run, as `MISSING 02,4000 WORDS 3`.
 ///
 /// After a failure a beginning of it was written.
 pub fn write_found<W: Write>(alignment: &Alignment, out: &mut W) -> Result<(), WriteFailed>
-    ensures written { W.told ≡ true → Writes (W.written out.old) (W.written out.new) (view_lines Passage (sides alignment.now.to_new.items alignment.now.old.items alignment.now.to_old.items alignment.now.new.items)) result }
+    ensures written { W.told ≡ true → Writes (W.written out.old) (W.written out.new)
+        (view_lines Passage (sides alignment.now.to_new.items alignment.now.old.items alignment.now.to_old.items
+        alignment.now.new.items)) result }
     ensures failures { W.failures out.new ≡ failures_after (W.failures out.old) result }
 {
     write_view(View::Passage, old_sides(alignment), out)
@@ -92,7 +105,8 @@ struct Sides<'a> {
 
 /// The sides of an alignment as the words of the new rope are told.
 fn new_sides(a: &Alignment) -> Sides<'_>
-    ensures { sides result.pairs.now result.here.now result.back.now result.there.now ≡ sides a.now.to_old.items a.now.new.items a.now.to_new.items a.now.old.items }
+    ensures { sides result.pairs.now result.here.now result.back.now result.there.now
+        ≡ sides a.now.to_old.items a.now.new.items a.now.to_new.items a.now.old.items }
 {
     Sides {
         pairs: a.to_old.as_slice(),
@@ -104,7 +118,8 @@ fn new_sides(a: &Alignment) -> Sides<'_>
 
 /// The sides of an alignment as the words of the old rope are told.
 fn old_sides(a: &Alignment) -> Sides<'_>
-    ensures { sides result.pairs.now result.here.now result.back.now result.there.now ≡ sides a.now.to_new.items a.now.old.items a.now.to_old.items a.now.new.items }
+    ensures { sides result.pairs.now result.here.now result.back.now result.there.now
+        ≡ sides a.now.to_new.items a.now.old.items a.now.to_old.items a.now.new.items }
 {
     Sides {
         pairs: a.to_new.as_slice(),
@@ -114,11 +129,13 @@ fn old_sides(a: &Alignment) -> Sides<'_>
     }
 }
 
-/// Writes what has become of the words of a rope, bank by bank, by the places of the other rope with which they are paired.
+/// Writes what has become of the words of a rope, bank by bank, by the places of the other rope with which they are
+/// paired.
 ///
 /// After a failure a beginning of it was written.
 fn write_view<W: Write>(view: View, s: Sides<'_>, out: &mut W) -> Result<(), WriteFailed>
-    ensures written { W.told ≡ true → Writes (W.written out.old) (W.written out.new) (view_lines view (sides s.entry.pairs.now s.entry.here.now s.entry.back.now s.entry.there.now)) result }
+    ensures written { W.told ≡ true → Writes (W.written out.old) (W.written out.new)
+        (view_lines view (sides s.entry.pairs.now s.entry.here.now s.entry.back.now s.entry.there.now)) result }
     ensures failures { W.failures out.new ≡ failures_after (W.failures out.old) result }
 {
     for bank in 0..BANKS {
@@ -135,7 +152,8 @@ fn write_bank<W: Write>(
     out: &mut W,
 ) -> Result<(), WriteFailed>
     requires { bank < banks }
-    ensures written { W.told ≡ true → Writes (W.written out.old) (W.written out.new) (bank_lines view (sides s.entry.pairs.now s.entry.here.now s.entry.back.now s.entry.there.now) bank) result }
+    ensures written { W.told ≡ true → Writes (W.written out.old) (W.written out.new)
+        (bank_lines view (sides s.entry.pairs.now s.entry.here.now s.entry.back.now s.entry.there.now) bank) result }
     ensures failures { W.failures out.new ≡ failures_after (W.failures out.old) result }
 {
     let mut words = 0;
@@ -175,7 +193,8 @@ fn write_place<W: Write>(
     requires words { words ≡ words_before s.pairs.now s.here.now at.0 (at.1 + 1) }
     requires some { 1 ≤ words }
     requires few { words ≤ 1024 }
-    ensures written { W.told ≡ true → Writes (W.written out.old) (W.written out.new) (line_at view (sides s.entry.pairs.now s.entry.here.now s.entry.back.now s.entry.there.now) at.0 at.1) result }
+    ensures written { W.told ≡ true → Writes (W.written out.old) (W.written out.new)
+        (line_at view (sides s.entry.pairs.now s.entry.here.now s.entry.back.now s.entry.there.now) at.0 at.1) result }
     ensures failures { W.failures out.new ≡ failures_after (W.failures out.old) result }
 {
     let place = WORDS * at.0 + at.1;
@@ -233,7 +252,8 @@ fn stretch_line(
     requires place { place < fixed_places }
     requires some { 1 ≤ words }
     requires few { words ≤ 1024 }
-    ensures { result.items ≡ stretch_line view (sides s.entry.pairs.now s.entry.here.now s.entry.back.now s.entry.there.now) words place pair token }
+    ensures { result.items ≡ stretch_line view
+        (sides s.entry.pairs.now s.entry.here.now s.entry.back.now s.entry.there.now) words place pair token }
 {
     match (pair, token) {
         (Some(there), _) => {
@@ -275,7 +295,8 @@ fn places_line(title: &[u8], first: usize, second: usize, words: usize) -> Line
     requires first { first < fixed_places }
     requires second { second < fixed_places }
     requires some { 1 ≤ words }
-    ensures { result.items ≡ title.now ++ name_of_place (first + 1 - words) ++ codes " " ++ name_of_place (second + 1 - words) ++ words_text words }
+    ensures { result.items ≡ title.now ++ name_of_place (first + 1 - words) ++ codes " "
+        ++ name_of_place (second + 1 - words) ++ words_text words }
 {
     let mut line = ArrayVec::new();
     push_all(&mut line, title);
@@ -286,8 +307,8 @@ fn places_line(title: &[u8], first: usize, second: usize, words: usize) -> Line
     line
 }
 
-/// The line of so many words that are paired with none and end at a place, by the partner of the word before them where they stand in place of
-/// others.
+/// The line of so many words that are paired with none and end at a place, by the partner of the word before them where
+/// they stand in place of others.
 fn free_line(view: View, place: usize, words: usize, partner: Option<usize>) -> Line
     requires place { place < fixed_places }
     requires some { 1 ≤ words }
@@ -317,12 +338,13 @@ fn place_line(title: &[u8], place: usize, words: usize) -> Line
     line
 }
 
-/// Where so many words that are paired with none and end at a place stand in place of as many of the other rope: the partner of the word before
-/// them.
+/// Where so many words that are paired with none and end at a place stand in place of as many of the other rope: the
+/// partner of the word before them.
 fn replaced(s: Sides<'_>, place: usize, words: usize) -> Option<usize>
     requires place { place < fixed_places }
     requires few { words ≤ 1024 }
-    ensures is { result ≡ replaced (sides s.entry.pairs.now s.entry.here.now s.entry.back.now s.entry.there.now) place words }
+    ensures is { result ≡ replaced (sides s.entry.pairs.now s.entry.here.now s.entry.back.now s.entry.there.now) place
+        words }
     ensures within { IfSome result (λ partner. partner + words < fixed_places) }
 {
     let partner = usize::from(partner_before(s, place, words)?);
@@ -336,7 +358,8 @@ fn replaced(s: Sides<'_>, place: usize, words: usize) -> Option<usize>
 /// The partner of the word before so many that end at a place.
 fn partner_before(s: Sides<'_>, place: usize, words: usize) -> Entry
     requires { place < fixed_places }
-    ensures { result ≡ partner_before (sides s.entry.pairs.now s.entry.here.now s.entry.back.now s.entry.there.now) place words }
+    ensures { result ≡ partner_before (sides s.entry.pairs.now s.entry.here.now s.entry.back.now s.entry.there.now)
+        place words }
 {
     if is_first((place + 1).saturating_sub(words)) {
         None
@@ -349,7 +372,9 @@ fn partner_before(s: Sides<'_>, place: usize, words: usize) -> Entry
 fn is_replaced(s: Sides<'_>, partner: usize, words: usize) -> bool
     requires partner { partner < 2 ^ 16 }
     requires few { words ≤ 1024 }
-    ensures is { result ≡ (nat_lt (partner + words) fixed_places && (stand_free s.entry.back.now s.entry.there.now (partner + 1) words && ends s.entry.back.now s.entry.there.now (partner + words))) }
+    ensures is { result ≡ (nat_lt (partner + words) fixed_places
+        && (stand_free s.entry.back.now s.entry.there.now (partner + 1) words
+        && ends s.entry.back.now s.entry.there.now (partner + words))) }
 {
     partner + words < PLACES
         && stand_free(s.back, s.there, partner + 1, words)

@@ -3,7 +3,8 @@
 ghost use Rattle.std.specs.Prelude.{◌≡◌, ◌+◌, ◌*◌, ◌/◌, ◌%◌, ◌<◌, ◌≤◌, ◌++◌, true, length};
 ghost use Rattle.words.specs.Devices.{Writes, failures_after};
 ghost use Rattle.align.specs.Alignments.{renaming};
-ghost use Rattle.align.specs.CarriedNames.{address_of_place, carried_line, carried_lines, erasable_line, is_kept, is_sure_place, keep_switched, known_line, place_in_bank, settled_line};
+ghost use Rattle.align.specs.CarriedNames.{address_of_place, carried_line, carried_lines, erasable_line, is_kept};
+ghost use Rattle.align.specs.CarriedNames.{is_sure_place, keep_switched, known_line, place_in_bank, settled_line};
 ghost use Rattle.align.specs.Pairings.{pairing};
 
 use crate::alignment::{Alignment, pairing_of, renaming_of};
@@ -17,10 +18,11 @@ use space::Eras;
 use symbols::{Symbols, Value};
 use words::{Write, WriteFailed, write_all};
 
-/// Writes a line for each name of a table, in their order, with what it stands for in the new rope, as `START FIXED 02,0003`. In a comment stand
-/// those that are near an end of a run which no single changed word makes, as `# UNSURE START FIXED 02,0003`, and with the old place those that are in no run, as
-/// `# GONE START FIXED 02,0000`; and erasable places of whose addresses too little is known, as `# UNSURE COUNT ERASABLE 0123`. Numbers, registers and counters are
-/// as they were.
+/// Writes a line for each name of a table, in their order, with what it stands for in the new rope, as `START FIXED
+/// 02,0003`. In a comment stand those that are near an end of a run which no single changed word makes, as `# UNSURE
+/// START FIXED 02,0003`, and with the old place those that are in no run, as
+/// `# GONE START FIXED 02,0000`; and erasable places of whose addresses too little is known, as `# UNSURE COUNT
+/// ERASABLE 0123`. Numbers, registers and counters are as they were.
 ///
 /// After a failure a beginning of it was written.
 pub fn write_carried<W: Write>(
@@ -29,7 +31,9 @@ pub fn write_carried<W: Write>(
     out: &mut W,
 ) -> Result<(), WriteFailed>
     ensures written { W.told ≡ true → Writes (W.written out.old) (W.written out.new)
-        (carried_lines (renaming alignment.now.names.items alignment.now.back.items alignment.now.operands.items) (pairing alignment.now.own.items alignment.now.old.items alignment.now.new.items alignment.now.to_old.items alignment.now.to_new.items) names.now) result }
+        (carried_lines (renaming alignment.now.names.items alignment.now.back.items alignment.now.operands.items)
+        (pairing alignment.now.own.items alignment.now.old.items alignment.now.new.items alignment.now.to_old.items
+        alignment.now.to_new.items) names.now) result }
     ensures failures { W.failures out.new ≡ failures_after (W.failures out.old) result }
 {
     write_names(renaming_of(alignment), pairing_of(alignment), names, out)
@@ -43,7 +47,9 @@ fn write_names<W: Write>(
     out: &mut W,
 ) -> Result<(), WriteFailed>
     ensures written { W.told ≡ true → Writes (W.written out.old) (W.written out.new)
-        (carried_lines (renaming r.entry.names.now r.entry.back.now r.entry.operands.now) (pairing p.entry.own.now p.entry.old.now p.entry.new.now p.entry.to_old.now p.entry.to_new.now) names.now) result }
+        (carried_lines (renaming r.entry.names.now r.entry.back.now r.entry.operands.now)
+        (pairing p.entry.own.now p.entry.old.now p.entry.new.now p.entry.to_old.now p.entry.to_new.now) names.now)
+        result }
     ensures failures { W.failures out.new ≡ failures_after (W.failures out.old) result }
 {
     for index in 0..names.len() {
@@ -58,7 +64,9 @@ fn write_names<W: Write>(
 /// The line of a name.
 fn carried_line(r: Renaming<'_>, p: Pairing<'_>, name: &[u8], value: Value) -> Line
     requires { length name.now ≤ 8 }
-    ensures { result.items ≡ carried_line (renaming r.entry.names.now r.entry.back.now r.entry.operands.now) (pairing p.entry.own.now p.entry.old.now p.entry.new.now p.entry.to_old.now p.entry.to_new.now) (name.now, value) }
+    ensures { result.items ≡ carried_line (renaming r.entry.names.now r.entry.back.now r.entry.operands.now)
+        (pairing p.entry.own.now p.entry.old.now p.entry.new.now p.entry.to_old.now p.entry.to_new.now)
+        (name.now, value) }
 {
     match value {
         Value::Fixed(bank, offset) => {
@@ -73,7 +81,8 @@ fn carried_line(r: Renaming<'_>, p: Pairing<'_>, name: &[u8], value: Value) -> L
 /// The line of a name of an erasable place.
 fn erasable_line(r: Renaming<'_>, p: Pairing<'_>, name: &[u8], place: Eras) -> Line
     requires { length name.now ≤ 8 }
-    ensures { result.items ≡ erasable_line (renaming r.entry.names.now r.entry.back.now r.entry.operands.now) (pairing p.entry.own.now p.entry.old.now p.entry.new.now p.entry.to_old.now p.entry.to_new.now) name.now place }
+    ensures { result.items ≡ erasable_line (renaming r.entry.names.now r.entry.back.now r.entry.operands.now)
+        (pairing p.entry.own.now p.entry.old.now p.entry.new.now p.entry.to_old.now p.entry.to_new.now) name.now place }
 {
     let number = place.number();
     if number < FIRST_FREE {

@@ -6,7 +6,8 @@ ghost use Rattle.words.specs.Devices.{Writes, failures_after};
 ghost use Rattle.rope.specs.Places.{fixed_places};
 ghost use Rattle.align.specs.Alignments.{renaming};
 ghost use Rattle.align.specs.Pairings.{pairing};
-ghost use Rattle.align.specs.RenamedLines.{bank_text, has_slot, is_alike, is_named_at, named_before, renamed_line, renamed_lines, renamed_text, slot_address, slot_bank, slots};
+ghost use Rattle.align.specs.RenamedLines.{bank_text, has_slot, is_alike, is_named_at, named_before, renamed_line};
+ghost use Rattle.align.specs.RenamedLines.{renamed_lines, renamed_text, slot_address, slot_bank, slots};
 
 use crate::checking::{Pairing, name_alike};
 use crate::entries::{Entry, PLACES, WORDS, entry_at};
@@ -31,7 +32,9 @@ pub(crate) fn write_renamed<W: Write>(
     p: Pairing<'_>,
     out: &mut W,
 ) -> Result<(), WriteFailed>
-    ensures written { W.told ≡ true → Writes (W.written out.old) (W.written out.new) (renamed_lines (renaming r.entry.names.now r.entry.back.now r.entry.operands.now) (pairing p.entry.own.now p.entry.old.now p.entry.new.now p.entry.to_old.now p.entry.to_new.now)) result }
+    ensures written { W.told ≡ true → Writes (W.written out.old) (W.written out.new)
+        (renamed_lines (renaming r.entry.names.now r.entry.back.now r.entry.operands.now)
+        (pairing p.entry.own.now p.entry.old.now p.entry.new.now p.entry.to_old.now p.entry.to_new.now)) result }
     ensures failures { W.failures out.new ≡ failures_after (W.failures out.old) result }
 {
     for entry in 0..SLOTS {
@@ -44,7 +47,8 @@ pub(crate) fn write_renamed<W: Write>(
 #[tactic(auto, unfolding(crate::specs::RenamedLines::renamed_line))]
 fn renamed_line(r: Renaming<'_>, p: Pairing<'_>, entry: usize) -> Line
     requires { entry < slots }
-    ensures { result.items ≡ renamed_line (renaming r.entry.names.now r.entry.back.now r.entry.operands.now) (pairing p.entry.own.now p.entry.old.now p.entry.new.now p.entry.to_old.now p.entry.to_new.now) entry }
+    ensures { result.items ≡ renamed_line (renaming r.entry.names.now r.entry.back.now r.entry.operands.now)
+        (pairing p.entry.own.now p.entry.old.now p.entry.new.now p.entry.to_old.now p.entry.to_new.now) entry }
 {
     let other = renamed(r.names, slot_bank(entry), slot_address(entry));
     if other == slot_address(entry) {
@@ -111,7 +115,9 @@ fn push_bank(line: &mut Line, entry: usize)
 /// How many words of the old rope name the address of an entry, and are paired.
 #[tactic(auto, using(crate::proofs::Steps::named_first, crate::proofs::Steps::named_there, crate::proofs::Steps::named_passed))]
 fn count_named(operands: &[Entry], p: Pairing<'_>, entry: usize) -> usize
-    ensures { result ≡ named_before operands.now (pairing p.entry.own.now p.entry.old.now p.entry.new.now p.entry.to_old.now p.entry.to_new.now) entry fixed_places }
+    ensures { result ≡ named_before operands.now
+        (pairing p.entry.own.now p.entry.old.now p.entry.new.now p.entry.to_old.now p.entry.to_new.now) entry
+        fixed_places }
 {
     let mut count = 0;
     for place in 0..PLACES {
@@ -125,7 +131,8 @@ fn count_named(operands: &[Entry], p: Pairing<'_>, entry: usize) -> usize
 /// Whether the word at a place of the old rope names the address of an entry, and is paired with an equal one.
 fn is_named_at(operands: &[Entry], p: Pairing<'_>, entry: usize, place: usize) -> bool
     requires { place < fixed_places }
-    ensures { result ≡ is_named_at operands.now (pairing p.entry.own.now p.entry.old.now p.entry.new.now p.entry.to_old.now p.entry.to_new.now) entry place }
+    ensures { result ≡ is_named_at operands.now
+        (pairing p.entry.own.now p.entry.old.now p.entry.new.now p.entry.to_old.now p.entry.to_new.now) entry place }
 {
     has_slot(entry, (place / WORDS) as u16, entry_at(operands, place))
         && is_alike(p, place, entry_at(p.to_new, place))
@@ -133,7 +140,8 @@ fn is_named_at(operands: &[Entry], p: Pairing<'_>, entry: usize, place: usize) -
 
 /// Whether the word at a place of the old rope that has this entry is paired with an equal one.
 fn is_alike(p: Pairing<'_>, place: usize, entry: Entry) -> bool
-    ensures { result ≡ is_alike (pairing p.entry.own.now p.entry.old.now p.entry.new.now p.entry.to_old.now p.entry.to_new.now) place entry }
+    ensures { result ≡ is_alike (pairing p.entry.own.now p.entry.old.now p.entry.new.now p.entry.to_old.now
+        p.entry.to_new.now) place entry }
 {
     match entry {
         Some(new) => name_alike(p, place, usize::from(new)),

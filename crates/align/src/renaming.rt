@@ -53,8 +53,8 @@ fn by_entry(address: u16, entry: Entry) -> u16
     }
 }
 
-/// Whether addresses are renamed one to one, those outside the switched bank in all words alike, by what stands for each, and for which each
-/// stands.
+/// Whether addresses are renamed one to one, those outside the switched bank in all words alike, by what stands for
+/// each, and for which each stands.
 #[tactic(auto, using(crate::proofs::Renames::renamed_first, crate::proofs::Renames::renamed_next))]
 pub(crate) fn is_renaming(names: &[Entry], back: &[Entry]) -> bool
     ensures { result ≡ is_renaming names.now back.now }

@@ -29,9 +29,9 @@ struct Window {
     power: u64,
 }
 
-/// The pairs of two ropes: the longest runs first, of those as long as each other such as stand at one place, and then by the place in the
-/// new rope, and by that in the old one; then the words at both ends of runs that agree; at last the runs of fewer
-/// words that stand at one place, and what agrees at their ends.
+/// The pairs of two ropes: the longest runs first, of those as long as each other such as stand at one place, and then
+/// by the place in the new rope, and by that in the old one; then the words at both ends of runs that agree; at last
+/// the runs of fewer words that stand at one place, and what agrees at their ends.
 pub(crate) fn search(
     alloc: Global,
     own: &[Entry],
@@ -69,7 +69,8 @@ pub(crate) fn search(
     Ok((news.into_pairs(), olds.into_pairs()))
 }
 
-/// Grows runs by words that agree: those after a run from the first place of the new rope on, then those before a run from the last place on.
+/// Grows runs by words that agree: those after a run from the first place of the new rope on, then those before a run
+/// from the last place on.
 fn grow(olds: &mut Side, news: &mut Side, own: &[Entry], old: &[Entry], new: &[Entry]) {
     for place in 0..PLACES {
         if let Some(pair) = news.partner(place) {

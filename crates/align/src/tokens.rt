@@ -1,11 +1,13 @@
 //! The words of fixed memory as they are compared.
 
-ghost use Rattle.std.specs.Prelude.{◌≡◌, ◌+◌, ◌<◌, ◌≤◌, ◌==◌, ◌&&◌, ◌++◌, ◌∷◌, [], length, nat_lt, Some, None, IfOk, if◌then◌else◌};
+ghost use Rattle.std.specs.Prelude.{◌≡◌, ◌+◌, ◌<◌, ◌≤◌, ◌==◌, ◌&&◌, ◌++◌, ◌∷◌, [], length, nat_lt, Some, None, IfOk};
+ghost use Rattle.std.specs.Prelude.{if◌then◌else◌};
 ghost use Rattle.std.specs.List.{range_with_len, flat_map};
 ghost use Rattle.rope.specs.Places.{bank_words, banks, fixed_places};
 ghost use Rattle.audit.specs.WordLines.{extracode_at};
 ghost use Rattle.align.specs.Renamings.{renamed};
-ghost use Rattle.align.specs.Tokens.{bank_operands, bank_tokens, compared, ends_checked, filled, is_loop, of_erasable, operand_at, operands, renamed_word, token, token_at, tokens, with_address};
+ghost use Rattle.align.specs.Tokens.{bank_operands, bank_tokens, compared, ends_checked, filled, is_loop, of_erasable};
+ghost use Rattle.align.specs.Tokens.{operand_at, operands, renamed_word, token, token_at, tokens, with_address};
 
 use crate::entries::{CHECK, Entry, PLACES};
 use crate::renaming::renamed;
@@ -25,8 +27,9 @@ const ADDRESS: u16 = 0o7777;
 /// What an extracode has more.
 const EXTRACODE: u16 = 0o100000;
 
-/// What is compared at each place: the word with the greatest address in place of one of fixed memory, or with the address that stands for one of
-/// erasable memory, and 100000 more where it is an extracode; one number for all check words; nothing in the zeros that end a bank.
+/// What is compared at each place: the word with the greatest address in place of one of fixed memory, or with the
+/// address that stands for one of erasable memory, and 100000 more where it is an extracode; one number for all check
+/// words; nothing in the zeros that end a bank.
 pub(crate) fn tokens_of(
     alloc: Global,
     names: &[Entry],
@@ -108,7 +111,8 @@ fn entry(
     is_checked: bool,
 ) -> Entry
     requires { offset < bank_words }
-    ensures { result ≡ (if nat_lt offset end then Some (compared names.now bank (offset + 1 == end && is_checked) extra word) else None) }
+    ensures { result ≡ (if nat_lt offset end then Some
+        (compared names.now bank (offset + 1 == end && is_checked) extra word) else None) }
 {
     if offset < end {
         Some(compared(names, bank, word, extra, offset + 1 == end && is_checked))
@@ -170,8 +174,8 @@ fn token(names: &[Entry], bank: Bank, word: Word, extra: bool) -> u16
     if extra { rest + EXTRACODE } else { rest }
 }
 
-/// A word of a bank with the greatest address in place of its own, where that is one of fixed memory, or in its last ten bits the address that
-/// stands for its own, where that is one of erasable memory.
+/// A word of a bank with the greatest address in place of its own, where that is one of fixed memory, or in its last
+/// ten bits the address that stands for its own, where that is one of erasable memory.
 fn with_address(names: &[Entry], bank: Bank, word: Word, address: Option<Addr12>) -> u16
     ensures is { result ≡ with_address names.now bank word address }
     ensures within { result < 0o100000 }

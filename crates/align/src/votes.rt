@@ -25,8 +25,9 @@ struct Votes {
     counts: Vec<u32>,
 }
 
-/// Which address of the new rope stands for each of the old one, and which of the old one for each of the new one: what most words say where 16 of
-/// both ropes, one after another, are equal, whatever they name, as long as it is the same where it was the same.
+/// Which address of the new rope stands for each of the old one, and which of the old one for each of the new one: what
+/// most words say where 16 of both ropes, one after another, are equal, whatever they name, as long as it is the same
+/// where it was the same.
 ///
 /// Nothing is renamed by one word alone, but where most are.
 pub(crate) fn search_names(
@@ -106,7 +107,8 @@ fn mark(rope: Named<'_>, distances: &[u32], place: usize) -> u64 {
     mark
 }
 
-/// What is compared of a word whatever it names, but for a register or a counter: and how far before it the same address is named.
+/// What is compared of a word whatever it names, but for a register or a counter: and how far before it the same
+/// address is named.
 fn shape(token: u16, operand: Entry, distance: u64) -> u64 {
     match operand {
         Some(address) => {
@@ -123,8 +125,8 @@ fn shape(token: u16, operand: Entry, distance: u64) -> u64 {
     }
 }
 
-/// With which places of the old rope those of the new one are compared: of the first windows that are equal those after the last ones, or at the
-/// same place, or the only ones.
+/// With which places of the old rope those of the new one are compared: of the first windows that are equal those after
+/// the last ones, or at the same place, or the only ones.
 fn partners(alloc: Global, olds: &[u64], news: &[u64]) -> Result<Vec<Entry>, AllocError> {
     let mut index = Index::new(alloc)?;
     index.fill_marks(olds);
@@ -242,8 +244,8 @@ impl Votes {
         Ok(owners)
     }
 
-    /// Which address stands for each, and for which each stands: of which too few words say it, it is the same one where that is free, and else
-    /// one that is left.
+    /// Which address stands for each, and for which each stands: of which too few words say it, it is the same one
+    /// where that is free, and else one that is left.
     fn settle(&self, alloc: Global) -> Result<(Vec<Entry>, Vec<Entry>), AllocError> {
         let mut back = self.owners(alloc)?;
         let mut names = no_entries(alloc)?;

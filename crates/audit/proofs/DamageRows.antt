@@ -8,12 +8,14 @@ use Rattle.words.specs.Numerals.{octal_text}
 use Rattle.space.specs.Places.{window}
 use Rattle.rope.specs.Places.{bank_words}
 use Rattle.audit.specs.declared.damages.Finding.TheVariants.{Sound, WrongSum, CopyOf, SumOf, ExchangedWith, ParityBits, WrongWords}
-use Rattle.audit.specs.BankFacts.{all_before, bit_of, count_before, is_blank, is_copy, is_uniform, is_wrong, mended_sum_before, mended_word, mends, with_bit_cleared, with_bit_turned}
+use Rattle.audit.specs.BankFacts.{all_before, bit_of, count_before, is_blank, is_copy, is_uniform, is_wrong, mended_sum_before, mended_word}
+use Rattle.audit.specs.BankFacts.{mends, with_bit_cleared, with_bit_turned}
 use Rattle.audit.specs.declared.orders.Order.TheVariants.{Written, Exchanged, Hardware, ExchangedHardware, ByNumber}
 use Rattle.audit.specs.Orders.{by_banks, bytes_at, is_by_number, most_of, stands_by_number, sum_in_before}
 use Rattle.audit.specs.WordOrders.{partner, word_in}
 use Rattle.audit.specs.WordLines.{place_text}
-use Rattle.audit.specs.Damages.{bank_name, bank_of_sum, by_count, by_its_sum, by_sum, candidate, copy_line, dead_line, exchanged_line, of_wrong_parity, parity_bits_line, sum_of_line, wrong_head, wrong_sum_line}
+use Rattle.audit.specs.Damages.{bank_name, bank_of_sum, by_count, by_its_sum, by_sum, candidate, copy_line, dead_line, exchanged_line}
+use Rattle.audit.specs.Damages.{of_wrong_parity, parity_bits_line, sum_of_line, wrong_head, wrong_sum_line}
 
 -- ## Bits
 -- 00006 without the bit of 4 is 00002; the parity bit leaves it; the highest bit is the sign
@@ -176,7 +178,8 @@ one_word bytes way = refl
 blank : (bytes : List ℕ) (way : Bool) → is_blank bytes way 5 ≡ true → by_count bytes way 5 7 ≡ WrongWords
 blank bytes way is = rw is refl
 
-parity_bits : (bytes : List ℕ) (way : Bool) → is_blank bytes way 5 ≡ false → mends bytes way 5 0 ≡ true → by_count bytes way 5 7 ≡ ParityBits
+parity_bits : (bytes : List ℕ) (way : Bool) → is_blank bytes way 5 ≡ false → mends bytes way 5 0 ≡ true
+    → by_count bytes way 5 7 ≡ ParityBits
 parity_bits bytes way not_blank right = rw (not_blank, right) refl
 
 -- ## Texts

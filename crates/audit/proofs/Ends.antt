@@ -51,15 +51,22 @@ no_end words bank zero none = refl
 no_end words bank (suc n) none = rw (none n (omega arith)) (no_end words bank n (λ k lt. none k (omega (arith, lt))))
 
 -- a word that is put leaves the others of its bank
-pub other_stands : (words : Words) (bank k w o : ℕ) → k < bank_words → o ≢ k → stands (with_word words bank k w) bank o ≡ stands words bank o
+pub other_stands : (words : Words) (bank k w o : ℕ) → k < bank_words → o ≢ k
+    → stands (with_word words bank k w) bank o ≡ stands words bank o
 other_stands words bank k w o lt other = ap is_some (slot_at-with_word_other words bank k w bank o lt (inr other))
 
-end_same : (words : Words) (bank k w n : ℕ) → k < bank_words → n ≤ k → end_before (with_word words bank k w) bank n ≡ end_before words bank n
+end_same : (words : Words) (bank k w n : ℕ) → k < bank_words → n ≤ k
+    → end_before (with_word words bank k w) bank n ≡ end_before words bank n
 unfolding end_before
 end_same words bank k w zero lt le = refl
-end_same words bank k w (suc n) lt le = rw (other_stands words bank k w n lt (omega (arith, le)), end_same words bank k w n lt (omega (arith, le))) refl
+end_same words bank k w (suc n) lt le = rw (
+  other_stands words bank k w n lt (omega (arith, le)),
+  end_same words bank k w n lt
+      (omega (arith, le)),
+) refl
 
-end_put : (words : Words) (bank k w m n : ℕ) → bank < banks → k < bank_words → n ≡ suc (k + m) → ((o : ℕ) → k < o → o < n → stands words bank o ≡ false)
+end_put : (words : Words) (bank k w m n : ℕ) → bank < banks → k < bank_words → n ≡ suc (k + m)
+    → ((o : ℕ) → k < o → o < n → stands words bank o ≡ false)
     → end_before (with_word words bank k w) bank n ≡ k + 1
 unfolding end_before
 end_put words bank k w zero n in_banks lt at none =
@@ -71,13 +78,16 @@ end_put words bank k w (suc m) n in_banks lt at none =
     (end_put words bank k w m (suc (k + m)) in_banks lt refl (λ o past before. none o past (omega (arith, before, same))))
 
 -- a word more is the last one
-pub end_next : (words : Words) (bank w : ℕ) → bank < banks → end_of words bank < bank_words → end_of (with_next words bank w) bank ≡ end_of words bank + 1
+pub end_next : (words : Words) (bank w : ℕ) → bank < banks → end_of words bank < bank_words
+    → end_of (with_next words bank w) bank ≡ end_of words bank + 1
 end_next words bank w in_banks lt =
     end_put words bank (end_of words bank) w (bank_words - (end_of words bank + 1)) bank_words in_banks lt (omega (arith, lt))
     (λ o past before. none_past words bank bank_words o (omega (arith, past)) before)
 
 -- the words of another bank end where they did
-pub end_elsewhere : (words : Words) (bank k w b n : ℕ) → k < bank_words → b ≢ bank → end_before (with_word words bank k w) b n ≡ end_before words b n
+pub end_elsewhere : (words : Words) (bank k w b n : ℕ) → k < bank_words → b ≢ bank
+    → end_before (with_word words bank k w) b n ≡ end_before words b n
 unfolding end_before
 end_elsewhere words bank k w b zero lt other = refl
-end_elsewhere words bank k w b (suc n) lt other = rw (ap is_some (slot_at-with_word_other words bank k w b n lt (inl other)), end_elsewhere words bank k w b n lt other) refl
+end_elsewhere words bank k w b (suc n) lt other = rw
+    (ap is_some (slot_at-with_word_other words bank k w b n lt (inl other)), end_elsewhere words bank k w b n lt other) refl

@@ -1,7 +1,8 @@
 -- Counts and sums over the words of a bank, one number after another.
 use Rattle.std.proofs.Common.{◌≡◌, ℕ, zero, suc, ◌+◌, ◌≤◌, Bool, true, false, List, refl, arith, add-one, inl, inr}
 use Rattle.std.proofs.lemmas.Bool.{cases_Bool}
-use Rattle.audit.specs.BankFacts.{all_before, count_before, dead_bit_before, even_words_before, is_dead, mended_sum_before, mended_word, wrong_words}
+use Rattle.audit.specs.BankFacts.{all_before, count_before, dead_bit_before, even_words_before, is_dead, mended_sum_before, mended_word}
+use Rattle.audit.specs.BankFacts.{wrong_words}
 use Rattle.audit.specs.Mended.{last_before}
 use Rattle.audit.specs.Sums.{added}
 
@@ -51,7 +52,8 @@ unfolding mended_sum_before
 mended_first image turned bank bit = refl
 
 pub mended_more : (image : List ℕ) (turned : Bool) (bank bit n : ℕ)
-    → mended_sum_before image turned bank bit (n + 1) ≡ added (mended_sum_before image turned bank bit n) (mended_word image turned bank bit n)
+    → mended_sum_before image turned bank bit (n + 1)
+    ≡ added (mended_sum_before image turned bank bit n) (mended_word image turned bank bit n)
 unfolding mended_sum_before
 mended_more image turned bank bit n = rw (add-one n) refl
 
@@ -63,7 +65,8 @@ pub dead_there : (image : List ℕ) (bank n : ℕ) → is_dead image bank (n + 1
 unfolding dead_bit_before
 dead_there image bank n there = rw (add-one n, there) (add-one n)
 
-pub dead_passed : (image : List ℕ) (bank n : ℕ) → is_dead image bank (n + 1) ≡ false → dead_bit_before image bank (n + 1) ≡ dead_bit_before image bank n
+pub dead_passed : (image : List ℕ) (bank n : ℕ) → is_dead image bank (n + 1) ≡ false
+    → dead_bit_before image bank (n + 1) ≡ dead_bit_before image bank n
 unfolding dead_bit_before
 dead_passed image bank n none = rw (add-one n, none) refl
 

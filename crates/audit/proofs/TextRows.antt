@@ -28,7 +28,8 @@ extend : (words : Words) → word_at words 0o12 0 ≡ 0o6 → octal_line words 0
 unfolding octal_line octal_text place_text window instruction_at extracode_at instruction_text basic_rows code_of
 extend words first = rw first refl
 
-extracode : (words : Words) → extracode_at words 0o12 1 ≡ true → word_at words 0o12 1 ≡ 0o70100 → octal_line words 0o12 1 ≡ codes "        OCT     70100   # 12,2001 MP 0100\n"
+extracode : (words : Words) → extracode_at words 0o12 1 ≡ true → word_at words 0o12 1 ≡ 0o70100
+    → octal_line words 0o12 1 ≡ codes "        OCT     70100   # 12,2001 MP 0100\n"
 unfolding octal_line octal_text place_text window instruction_at instruction_text extracode_rows code_of
 extracode words extra second = rw (extra, second) refl
 
@@ -38,11 +39,13 @@ passed_over : (old new : Words) → stands old 3 0o1777 ≡ false → differing_
 unfolding differing_at
 passed_over old new none = rw none refl
 
-compared : (old new : Words) → word_at old 3 0o1777 ≡ 0 → word_at new 3 0o1777 ≡ 0o77777 → differing_at All old new 3 0o1777 ≡ (3, 0o1777) ∷ []
+compared : (old new : Words) → word_at old 3 0o1777 ≡ 0 → word_at new 3 0o1777 ≡ 0o77777
+    → differing_at All old new 3 0o1777 ≡ (3, 0o1777) ∷ []
 unfolding differing_at
 compared old new before after = rw (before, after) refl
 
-filled : (old new : Words) → stands old 3 0o1777 ≡ true → word_at old 3 0o1777 ≡ 0 → word_at new 3 0o1777 ≡ 0o77777 → differing_at Filled old new 3 0o1777 ≡ (3, 0o1777) ∷ []
+filled : (old new : Words) → stands old 3 0o1777 ≡ true → word_at old 3 0o1777 ≡ 0 → word_at new 3 0o1777 ≡ 0o77777
+    → differing_at Filled old new 3 0o1777 ≡ (3, 0o1777) ∷ []
 unfolding differing_at
 filled old new one before after = rw (one, before, after) refl
 

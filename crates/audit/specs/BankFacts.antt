@@ -1,5 +1,6 @@
 -- What the words of a bank, their parities and their sum tell together.
-use Rattle.std.specs.Prelude.{ℕ, zero, suc, ◌+◌, ◌-◌, ◌*◌, ◌/◌, ◌%◌, ◌^◌, ◌==◌, ◌&&◌, ◌||◌, not, Bool, true, false, nat_lt, nat_le, List, if◌then◌else◌}
+use Rattle.std.specs.Prelude.{ℕ, zero, suc, ◌+◌, ◌-◌, ◌*◌, ◌/◌, ◌%◌, ◌^◌, ◌==◌, ◌&&◌, ◌||◌, not, Bool, true, false, nat_lt, nat_le, List}
+use Rattle.std.specs.Prelude.{if◌then◌else◌}
 use Rattle.words.specs.BitSums.{xor_sum}
 use Rattle.rope.specs.Places.{banks, bank_words, fixed_places}
 use Rattle.rope.specs.Dumps.{has_parity, word_of}
@@ -49,7 +50,8 @@ mended_word image turned bank bit offset =
 -- the total of such words of a bank before an offset
 unfoldable pub mended_sum_before : List ℕ → Bool → ℕ → ℕ → ℕ → ℕ
 mended_sum_before image turned bank bit zero = 0
-mended_sum_before image turned bank bit (suc offset) = added (mended_sum_before image turned bank bit offset) (mended_word image turned bank bit offset)
+mended_sum_before image turned bank bit (suc offset) = added (mended_sum_before image turned bank bit offset)
+    (mended_word image turned bank bit offset)
 
 -- the sum of a bank
 abbrev pub mended_sum : List ℕ → Bool → ℕ → ℕ → ℕ
@@ -87,7 +89,8 @@ many_words = 32
 -- a bit is the same in all words of a bank, and the sum says that it is lost, or many parities do
 abbrev pub is_lost : List ℕ → Bool → ℕ → ℕ → Bool
 is_lost image turned bank bit =
-    (is_always image bank bit 0 || is_always image bank bit 1) && (mends image turned bank bit || nat_le many_words (wrong_words image turned bank))
+    (is_always image bank bit 0 || is_always image bank bit 1)
+    && (mends image turned bank bit || nat_le many_words (wrong_words image turned bank))
 
 -- an offset with one of its bits 0, of which 1 is the lowest
 abbrev pub with_bit_cleared : ℕ → ℕ → ℕ

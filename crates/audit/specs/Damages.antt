@@ -6,8 +6,10 @@ use Rattle.words.specs.Numerals.{octal_text}
 use Rattle.rope.specs.Places.{banks, bank_words}
 use Rattle.rope.specs.Dumps.{word_of}
 use Rattle.audit.specs.declared.damages.Finding.{Finding}
-use Rattle.audit.specs.declared.damages.Finding.TheVariants.{Sound, Uniform, DeadBit, WrongSum, CopyOf, SumOf, ExchangedWith, ParityBits, LostBits, WrongWords}
-use Rattle.audit.specs.BankFacts.{count_before, is_turned, is_wrong, wrong_words, with_bit_turned, mended_sum, mends, is_uniform, is_blank, is_copy, is_always, is_lost, dead_bit}
+use Rattle.audit.specs.declared.damages.Finding.TheVariants.{Sound, Uniform, DeadBit, WrongSum, CopyOf, SumOf, ExchangedWith, ParityBits}
+use Rattle.audit.specs.declared.damages.Finding.TheVariants.{LostBits, WrongWords}
+use Rattle.audit.specs.BankFacts.{count_before, is_turned, is_wrong, wrong_words, with_bit_turned, mended_sum, mends, is_uniform, is_blank}
+use Rattle.audit.specs.BankFacts.{is_copy, is_always, is_lost, dead_bit}
 use Rattle.audit.specs.Differences.{count_line}
 use Rattle.audit.specs.FormSums.{holds_sum}
 use Rattle.audit.specs.Orders.{order_of}
@@ -22,7 +24,8 @@ bank_of_sum total = if nat_lt total banks then total else (if nat_lt (neg total)
 
 -- what the sum of another bank tells of a bank that has its own sum
 abbrev pub by_its_sum : ℕ → ℕ → ℕ → Finding
-by_its_sum bank other total = if holds_sum bank total then ExchangedWith other else (if holds_sum other total then WrongSum else SumOf other)
+by_its_sum bank other total = if holds_sum bank total then ExchangedWith other else
+    (if holds_sum other total then WrongSum else SumOf other)
 
 -- what a sum tells that is not the bank's own: it is that of a bank, or of none
 abbrev pub by_other : List ℕ → Bool → ℕ → ℕ → Finding
@@ -81,7 +84,8 @@ of_wrong_parity false wrongs = codes "\n"
 
 -- all words of a bank are one
 abbrev pub uniform_line : List ℕ → Bool → ℕ → List ℕ
-uniform_line image turned bank = bank_name bank ++ codes " ALL " ++ octal_text 5 (word_of image bank 0) ++ of_wrong_parity (nat_lt 0 (wrong_words image turned bank)) (wrong_words image turned bank)
+uniform_line image turned bank = bank_name bank ++ codes " ALL " ++ octal_text 5 (word_of image bank 0)
+    ++ of_wrong_parity (nat_lt 0 (wrong_words image turned bank)) (wrong_words image turned bank)
 
 -- a bit of the offset leads to the same words
 abbrev pub dead_line : ℕ → ℕ → List ℕ

@@ -15,7 +15,8 @@ is_compared Filled old bank offset = stands old bank offset
 -- a bank and an offset, where the words there are compared and differ
 unfoldable pub differing_at : Extent → Words → Words → ℕ → ℕ → List (ℕ × ℕ)
 differing_at extent old new bank offset =
-    if is_compared extent old bank offset then (if word_at old bank offset == word_at new bank offset then [] else (bank, offset) ∷ []) else []
+    if is_compared extent old bank offset then (if word_at old bank offset == word_at new bank offset then [] else (bank, offset) ∷ []) else
+    []
 
 -- the places of a bank where they do, by rising offsets
 unfoldable pub differing_in : Extent → Words → Words → ℕ → List (ℕ × ℕ)
@@ -28,7 +29,8 @@ differing extent old new = flat_map (differing_in extent old new) (range_with_le
 -- the line of a place: both words, and the instruction that each is among the words of its own memory
 unfoldable pub difference_line : Words → Words → ℕ × ℕ → List ℕ
 difference_line old new place =
-    place_text place.0 place.1 ++ codes " " ++ octal_text 5 (word_at old place.0 place.1) ++ codes " " ++ octal_text 5 (word_at new place.0 place.1)
+    place_text place.0 place.1 ++ codes " " ++ octal_text 5 (word_at old place.0 place.1) ++ codes " "
+    ++ octal_text 5 (word_at new place.0 place.1)
     ++ codes " " ++ instruction_at old place.0 place.1 ++ codes ", " ++ instruction_at new place.0 place.1 ++ codes "\n"
 
 -- the lines of some places

@@ -18,7 +18,8 @@ form_word order version word = word_in order (2 * word + lowest_bit version word
 -- the total of such words of a bank before an offset
 unfoldable pub form_sum_before : Order → Version → Words → ℕ → ℕ → ℕ
 form_sum_before order version words bank zero = 0
-form_sum_before order version words bank (suc offset) = added (form_sum_before order version words bank offset) (form_word order version (word_at words bank offset))
+form_sum_before order version words bank (suc offset) = added (form_sum_before order version words bank offset)
+    (form_word order version (word_at words bank offset))
 
 -- of all words of a bank
 abbrev pub form_sum : Order → Version → Words → ℕ → ℕ
@@ -37,11 +38,12 @@ abbrev pub name_if : Bool → List ℕ → List ℕ
 name_if true name = name
 name_if false name = []
 
--- the names of the forms in which a sum holds: as agcws writes an image, with the parity bit below the highest one, with the second byte first, with
--- both, and with banks by their numbers
+-- the names of the forms in which a sum holds: as agcws writes an image, with the parity bit below the highest one, with the second byte
+-- first, with both, and with banks by their numbers
 abbrev pub names_text : Bool → Bool → Bool → Bool → Bool → List ℕ
 names_text written hardware swapped both numbered =
-    name_if written (codes " written") ++ name_if hardware (codes " hardware") ++ name_if swapped (codes " swapped") ++ name_if both (codes " hardware,swapped")
+    name_if written (codes " written") ++ name_if hardware (codes " hardware") ++ name_if swapped (codes " swapped")
+    ++ name_if both (codes " hardware,swapped")
     ++ name_if numbered (codes " numbered") ++ name_if (not (written || (hardware || (swapped || (both || numbered))))) (codes " -")
 
 -- the names of the forms in which they hold
@@ -52,12 +54,14 @@ names_of bank written hardware swapped both =
 -- the line of the sums of a bank
 abbrev pub line_of_sums : ℕ → ℕ → ℕ → ℕ → ℕ → List ℕ
 line_of_sums bank written hardware swapped both =
-    octal_text 2 bank ++ codes " " ++ octal_text 5 written ++ codes " " ++ octal_text 5 hardware ++ names_of bank written hardware swapped both ++ codes "\n"
+    octal_text 2 bank ++ codes " " ++ octal_text 5 written ++ codes " " ++ octal_text 5 hardware
+    ++ names_of bank written hardware swapped both ++ codes "\n"
 
 -- the line of a bank: its number, the sum of its words as they stand and in the order of the hardware, and in which forms the sum holds
 unfoldable pub form_line : Version → Words → ℕ → List ℕ
 form_line version words bank =
-    line_of_sums bank (sum_before words bank bank_words) (form_sum Hardware version words bank) (form_sum Exchanged version words bank) (form_sum ExchangedHardware version words bank)
+    line_of_sums bank (sum_before words bank bank_words) (form_sum Hardware version words bank) (form_sum Exchanged version words bank)
+    (form_sum ExchangedHardware version words bank)
 
 -- the lines of all banks by their numbers
 abbrev pub form_lines : Version → Words → List ℕ

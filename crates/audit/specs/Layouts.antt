@@ -24,7 +24,8 @@ complemented false value = value
 
 -- a byte of the image, by its number
 abbrev pub byte_in : Layout → List ℕ → ℕ → ℕ
-byte_in layout bytes byte = complemented layout.is_complemented (slice_index_or bytes (swapped layout.is_swapped (by_number layout.is_numbered byte)) 0)
+byte_in layout bytes byte = complemented layout.is_complemented
+    (slice_index_or bytes (swapped layout.is_swapped (by_number layout.is_numbered byte)) 0)
 
 abbrev pub part_in : Layout → List ℕ → ℕ → List ℕ
 part_in layout bytes byte = byte_in layout bytes byte ∷ []

@@ -17,7 +17,8 @@ last_before f (suc n) = if f n then n else last_before f n
 -- bit of the only such word, or a bit that is lost
 abbrev pub may_be_wrong : List ℕ → Bool → ℕ → ℕ → Bool
 may_be_wrong image turned bank bit =
-    mends image turned bank bit && (bit == 0 || (wrong_words image turned bank == 1 && not (is_blank image turned bank)) || is_lost image turned bank bit)
+    mends image turned bank bit && (bit == 0 || (wrong_words image turned bank == 1 && not (is_blank image turned bank))
+    || is_lost image turned bank bit)
 
 -- one bit alone may be
 abbrev pub is_sure : List ℕ → Bool → ℕ → Bool

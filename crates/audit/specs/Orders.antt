@@ -45,7 +45,8 @@ is_complemented image = nat_lt 0 (count_before (is_all image 0o77777) banks) && 
 abbrev pub most_of : ℕ → ℕ → ℕ → ℕ → Order
 most_of written exchanged hardware both =
     if nat_le exchanged written && nat_le hardware written && nat_le both written then Written
-    else (if nat_le hardware exchanged && nat_le both exchanged then Exchanged else (if nat_le both hardware then Hardware else ExchangedHardware))
+    else (if nat_le hardware exchanged && nat_le both exchanged then Exchanged else
+    (if nat_le both hardware then Hardware else ExchangedHardware))
 
 -- a bank of more than one word has the sum of the one that stands in its place where all stand by their numbers
 abbrev pub stands_by_number : List ℕ → ℕ → Bool
@@ -68,4 +69,5 @@ by_banks image ByNumber = ByNumber
 abbrev pub order_of : List ℕ → Order
 order_of image =
     if is_complemented image then Complemented
-    else by_banks image (most_of (held_in Written image) (held_in Exchanged image) (held_in Hardware image) (held_in ExchangedHardware image))
+    else by_banks image (most_of (held_in Written image) (held_in Exchanged image) (held_in Hardware image)
+    (held_in ExchangedHardware image))

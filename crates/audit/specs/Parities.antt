@@ -22,7 +22,8 @@ wrong image = flat_map (wrong_in image) (range_with_len 0 banks)
 -- the line of a place: the word there, and the number of its first byte
 unfoldable pub parity_line : List ℕ → ℕ × ℕ → List ℕ
 parity_line image place =
-    place_text place.0 place.1 ++ codes " " ++ octal_text 5 (word_of image place.0 place.1) ++ codes " BYTE " ++ decimal (byte_of place.0 place.1) ++ codes "\n"
+    place_text place.0 place.1 ++ codes " " ++ octal_text 5 (word_of image place.0 place.1) ++ codes " BYTE "
+    ++ decimal (byte_of place.0 place.1) ++ codes "\n"
 
 -- a line for each place where the parity is wrong, and then how many there are
 unfoldable pub parities : List ℕ → List ℕ

@@ -12,7 +12,8 @@ bank_line bank = codes "        BANK    " ++ octal_text 2 bank ++ codes "\n"
 -- the line that gives a word; its place and the instruction that it is are a comment
 unfoldable pub octal_line : Words → ℕ → ℕ → List ℕ
 octal_line words bank offset =
-    codes "        OCT     " ++ octal_text 5 (word_at words bank offset) ++ codes "   # " ++ place_text bank offset ++ codes " " ++ instruction_at words bank offset
+    codes "        OCT     " ++ octal_text 5 (word_at words bank offset) ++ codes "   # " ++ place_text bank offset ++ codes " "
+    ++ instruction_at words bank offset
     ++ codes "\n"
 
 -- the lines of a bank's words, each of its places once, by rising offsets

@@ -25,7 +25,8 @@ place_text bank offset = octal_text 2 bank ++ codes "," ++ octal_text 4 (window 
 -- the line of a word: its place, the word, and the instruction that it is
 unfoldable pub word_line : Words → ℕ → ℕ → List ℕ
 word_line words bank offset =
-    place_text bank offset ++ codes " " ++ octal_text 5 (word_at words bank offset) ++ codes " " ++ instruction_at words bank offset ++ codes "\n"
+    place_text bank offset ++ codes " " ++ octal_text 5 (word_at words bank offset) ++ codes " " ++ instruction_at words bank offset
+    ++ codes "\n"
 
 -- the lines of a bank's words, each of its places once, by rising offsets
 unfoldable pub bank_lines : Words → ℕ → List ℕ

@@ -2,7 +2,10 @@
 
 ghost use Rattle.std.specs.Prelude.{◌≡◌, ◌+◌, ◌-◌, ◌*◌, ◌^◌, ◌==◌, ◌<◌, ◌≤◌, ◌||◌, true};
 ghost use Rattle.rope.specs.Places.{banks, bank_words};
-ghost use Rattle.audit.specs.BankFacts.{all_before, bit_of, count_before, dead_bit, dead_bit_before, even_words_before, is_always, is_blank, is_copy, is_dead, is_lost, is_turned, is_uniform, is_wrong, mended_sum, mended_word, mends, with_bit_cleared, with_bit_turned, wrong_words};
+ghost use Rattle.audit.specs.BankFacts.{all_before, bit_of, count_before, dead_bit, dead_bit_before, even_words_before};
+ghost use Rattle.audit.specs.BankFacts.{is_always, is_blank, is_copy, is_dead, is_lost, is_turned, is_uniform};
+ghost use Rattle.audit.specs.BankFacts.{is_wrong, mended_sum, mended_word, mends, with_bit_cleared, with_bit_turned};
+ghost use Rattle.audit.specs.BankFacts.{wrong_words};
 
 use crate::form_sums::holds_sum;
 use crate::lines::{bank_of, offset_of};

@@ -2,7 +2,8 @@
 
 ghost use Rattle.std.specs.Prelude.{◌≡◌, ◌+◌, ◌<◌, ◌≤◌, true};
 ghost use Rattle.rope.specs.Places.{banks, bank_words};
-ghost use Rattle.audit.specs.CheckWords.{end_of, with_next, with_loop, check_word, with_check_words, with_checks, has_room, HaveRoom, IsFull, AddsCheckWords, Checks};
+ghost use Rattle.audit.specs.CheckWords.{end_of, with_next, with_loop, check_word, with_check_words, with_checks};
+ghost use Rattle.audit.specs.CheckWords.{has_room, HaveRoom, IsFull, AddsCheckWords, Checks};
 
 use crate::lines::{bank_of, offset_of};
 use crate::sums::{added, bank_sum};
@@ -20,8 +21,8 @@ pub struct NoRoom {
 /// How many check words a bank has.
 const CHECK_WORDS: u16 = 3;
 
-/// Adds check words to each bank in which a word stands, after its last word: two TC to themselves, and the word that makes
-/// the sum of the bank's words its number, or, where the sum so far is negative, the complement of its number.
+/// Adds check words to each bank in which a word stands, after its last word: two TC to themselves, and the word that
+/// makes the sum of the bank's words its number, or, where the sum so far is negative, the complement of its number.
 ///
 /// Where a bank has no room for them the first such is told, and nothing is added.
 pub fn add_check_words(rope: &mut Rope) -> Result<(), NoRoom>
@@ -122,9 +123,9 @@ fn check_word(bank: Bank, total: Word) -> Word
     added(wanted, total.neg())
 }
 
-/// What check words are worth: where all banks have room the sum of each bank in which a word stands is its number or the
-/// complement of it, and each word is where it was; in a bank without a word none stands. It is the contract of a call that
-/// does nothing.
+/// What check words are worth: where all banks have room the sum of each bank in which a word stands is its number or
+/// the complement of it, and each word is where it was; in a bank without a word none stands. It is the contract of a
+/// call that does nothing.
 #[tactic(auto, using(crate::proofs::CheckSums::checks))]
 pub fn check_words_hold(words: &Rope)
     ensures { HaveRoom words.now banks → Checks words.now (with_checks words.now banks) }

@@ -7,7 +7,11 @@ ghost use Rattle.words.specs.Devices.{Writes, failures_after};
 ghost use Rattle.rope.specs.Places.{banks};
 ghost use Rattle.audit.specs.BankFacts.{count_before, dead_bit, is_always, is_turned, mended_sum, mends, wrong_words};
 ghost use Rattle.audit.specs.Orders.{order_of};
-ghost use Rattle.audit.specs.Damages.{always_text, bank_name, bank_of_sum, bank_text, by_count, by_its_sum, by_other, by_parities, by_sum, copy_line, count_in, damages, dead_line, exchanged_line, finding_of, finding_text, findings, is_damaged, lost_line, lost_lines, lost_text, of_sum, of_uniform, of_wrong_parity, parity_bits_line, report, report_in, sum_of_line, turned_text, uniform_line, wrong_lines, wrong_sum_line};
+ghost use Rattle.audit.specs.Damages.{always_text, bank_name, bank_of_sum, bank_text, by_count, by_its_sum, by_other};
+ghost use Rattle.audit.specs.Damages.{by_parities, by_sum, copy_line, count_in, damages, dead_line, exchanged_line};
+ghost use Rattle.audit.specs.Damages.{finding_of, finding_text, findings, is_damaged, lost_line, lost_lines, lost_text};
+ghost use Rattle.audit.specs.Damages.{of_sum, of_uniform, of_wrong_parity, parity_bits_line, report, report_in};
+ghost use Rattle.audit.specs.Damages.{sum_of_line, turned_text, uniform_line, wrong_lines, wrong_sum_line};
 
 use crate::bank_facts::{
     dead_bit, is_always, is_blank, is_copy, is_lost, is_turned, is_uniform, lost_bits, mended_sum,
@@ -56,9 +60,9 @@ pub enum Finding {
     WrongWords,
 }
 
-/// Writes what is damaged in an image, bank by bank, as `10,2137 00006 IS 00002 BY THE SUM`: what the words, their parities and
-/// the sum of the bank tell together. Then it writes of how many banks it told, the parity of the whole image counted as one,
-/// as `COUNT 1`, and answers that.
+/// Writes what is damaged in an image, bank by bank, as `10,2137 00006 IS 00002 BY THE SUM`: what the words, their
+/// parities and the sum of the bank tell together. Then it writes of how many banks it told, the parity of the whole
+/// image counted as one, as `COUNT 1`, and answers that.
 ///
 /// After a failure a beginning of it was written.
 pub fn write_damages<W: Write>(image: &Dump, out: &mut W) -> Result<u32, WriteFailed>
@@ -75,7 +79,8 @@ pub fn write_damages<W: Write>(image: &Dump, out: &mut W) -> Result<u32, WriteFa
 
 /// Writes what is told of an image that stands in an order.
 fn write_report_in<W: Write>(order: Order, image: &Dump, out: &mut W) -> Result<(), WriteFailed>
-    ensures written { W.told ≡ true → Writes (W.written out.old) (W.written out.new) (report_in order image.now) result }
+    ensures written { W.told ≡ true → Writes (W.written out.old) (W.written out.new) (report_in order image.now)
+        result }
     ensures failures { W.failures out.new ≡ failures_after (W.failures out.old) result }
 {
     match order {
@@ -279,7 +284,8 @@ fn bank_of_sum(total: Word) -> u16
 
 /// Writes the texts of all banks.
 fn write_banks<W: Write>(image: &Dump, turned: bool, out: &mut W) -> Result<(), WriteFailed>
-    ensures written { W.told ≡ true → Writes (W.written out.old) (W.written out.new) (flat_map (bank_text image.now turned) (range_with_len 0 banks)) result }
+    ensures written { W.told ≡ true → Writes (W.written out.old) (W.written out.new)
+        (flat_map (bank_text image.now turned) (range_with_len 0 banks)) result }
     ensures failures { W.failures out.new ≡ failures_after (W.failures out.old) result }
 {
     for number in 0..FIXED_BANKS {
@@ -297,7 +303,8 @@ fn write_bank<W: Write>(
     out: &mut W,
 ) -> Result<(), WriteFailed>
     requires { bank < banks }
-    ensures written { W.told ≡ true → Writes (W.written out.old) (W.written out.new) (bank_text image.now turned bank) result }
+    ensures written { W.told ≡ true → Writes (W.written out.old) (W.written out.new) (bank_text image.now turned bank)
+        result }
     ensures failures { W.failures out.new ≡ failures_after (W.failures out.old) result }
 {
     write_finding(image, turned, bank, finding_of(image, turned, bank), out)
@@ -312,7 +319,8 @@ fn write_finding<W: Write>(
     out: &mut W,
 ) -> Result<(), WriteFailed>
     requires bank { bank < banks }
-    ensures written { W.told ≡ true → Writes (W.written out.old) (W.written out.new) (finding_text image.now turned bank it) result }
+    ensures written { W.told ≡ true → Writes (W.written out.old) (W.written out.new)
+        (finding_text image.now turned bank it) result }
     ensures failures { W.failures out.new ≡ failures_after (W.failures out.old) result }
 {
     match it {
@@ -453,7 +461,8 @@ fn write_lost_bits<W: Write>(
     out: &mut W,
 ) -> Result<(), WriteFailed>
     requires { bank < banks }
-    ensures written { W.told ≡ true → Writes (W.written out.old) (W.written out.new) (lost_lines image.now turned bank) result }
+    ensures written { W.told ≡ true → Writes (W.written out.old) (W.written out.new) (lost_lines image.now turned bank)
+        result }
     ensures failures { W.failures out.new ≡ failures_after (W.failures out.old) result }
 {
     for number in 0..WORD_BITS {
@@ -473,7 +482,8 @@ fn write_lost_bit<W: Write>(
 ) -> Result<(), WriteFailed>
     requires bank { bank < banks }
     requires few { number < 15 }
-    ensures written { W.told ≡ true → Writes (W.written out.old) (W.written out.new) (lost_text image.now turned bank number) result }
+    ensures written { W.told ≡ true → Writes (W.written out.old) (W.written out.new)
+        (lost_text image.now turned bank number) result }
     ensures failures { W.failures out.new ≡ failures_after (W.failures out.old) result }
 {
     if is_lost(image, turned, bank, number + 1) {

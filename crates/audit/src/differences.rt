@@ -2,7 +2,8 @@
 
 ghost use Rattle.std.specs.Prelude.{◌≡◌, ◌<◌, ◌≤◌, true, length, IfOk};
 ghost use Rattle.words.specs.Devices.{Writes, failures_after};
-ghost use Rattle.audit.specs.Differences.{is_compared, differing_at, differing_in, differing, difference_line, difference_lines, count_line, differences};
+ghost use Rattle.audit.specs.Differences.{is_compared, differing_at, differing_in, differing, difference_line};
+ghost use Rattle.audit.specs.Differences.{difference_lines, count_line, differences};
 ghost use Rattle.audit.specs.WordLines.{extracode_at};
 
 use crate::lines::{Line, bank_of, offset_of, push_instruction, push_place};
@@ -33,9 +34,10 @@ impl Extent {
     }
 }
 
-/// Writes a line for each place of an extent where the words of two fixed memories differ, banks by their numbers and offsets rising, as
-/// `02,4001 64005 64006 AD 4005, AD 4006`: the place, both words, and the instruction that each is. Then it writes how many
-/// places there are, as `COUNT 1`, and answers that.
+/// Writes a line for each place of an extent where the words of two fixed memories differ, banks by their numbers and
+/// offsets rising, as
+/// `02,4001 64005 64006 AD 4005, AD 4006`: the place, both words, and the instruction that each is. Then it writes how
+/// many places there are, as `COUNT 1`, and answers that.
 ///
 /// After a failure a beginning of it was written.
 pub fn write_differences<W: Write>(
@@ -44,7 +46,8 @@ pub fn write_differences<W: Write>(
     extent: Extent,
     out: &mut W,
 ) -> Result<u32, WriteFailed>
-    ensures written { W.told ≡ true → Writes (W.written out.old) (W.written out.new) (differences extent old.now new.now) result }
+    ensures written { W.told ≡ true → Writes (W.written out.old) (W.written out.new)
+        (differences extent old.now new.now) result }
     ensures count { IfOk result (λ count. count ≡ length (differing extent old.now new.now)) }
     ensures failures { W.failures out.new ≡ failures_after (W.failures out.old) result }
 {
@@ -60,7 +63,8 @@ fn write_places<W: Write>(
     extent: Extent,
     out: &mut W,
 ) -> Result<u32, WriteFailed>
-    ensures written { W.told ≡ true → Writes (W.written out.old) (W.written out.new) (difference_lines old.now new.now (differing extent old.now new.now)) result }
+    ensures written { W.told ≡ true → Writes (W.written out.old) (W.written out.new)
+        (difference_lines old.now new.now (differing extent old.now new.now)) result }
     ensures count { IfOk result (λ count. count ≡ length (differing extent old.now new.now)) }
     ensures failures { W.failures out.new ≡ failures_after (W.failures out.old) result }
 {
@@ -79,7 +83,8 @@ fn write_bank<W: Write>(
     bank: Bank,
     out: &mut W,
 ) -> Result<u32, WriteFailed>
-    ensures written { W.told ≡ true → Writes (W.written out.old) (W.written out.new) (difference_lines old.now new.now (differing_in extent old.now new.now bank)) result }
+    ensures written { W.told ≡ true → Writes (W.written out.old) (W.written out.new)
+        (difference_lines old.now new.now (differing_in extent old.now new.now bank)) result }
     ensures count { IfOk result (λ count. count ≡ length (differing_in extent old.now new.now bank)) }
     ensures few { IfOk result (λ count. count ≤ 1024) }
     ensures failures { W.failures out.new ≡ failures_after (W.failures out.old) result }
@@ -110,7 +115,8 @@ fn write_place<W: Write>(
 ) -> Result<u32, WriteFailed>
     requires old { extra.0 ≡ extracode_at old.now bank offset }
     requires new { extra.1 ≡ extracode_at new.now bank offset }
-    ensures written { W.told ≡ true → Writes (W.written out.old) (W.written out.new) (difference_lines old.now new.now (differing_at extent old.now new.now bank offset)) result }
+    ensures written { W.told ≡ true → Writes (W.written out.old) (W.written out.new)
+        (difference_lines old.now new.now (differing_at extent old.now new.now bank offset)) result }
     ensures count { IfOk result (λ count. count ≡ length (differing_at extent old.now new.now bank offset)) }
     ensures few { IfOk result (λ count. count ≤ 1) }
     ensures failures { W.failures out.new ≡ failures_after (W.failures out.old) result }

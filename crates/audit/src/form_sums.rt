@@ -5,7 +5,8 @@ ghost use Rattle.arrayvec.specs.ArrayVec.{array_vec_len};
 ghost use Rattle.words.specs.Devices.{Writes, failures_after};
 ghost use Rattle.rope.specs.Image.{lowest_bit};
 ghost use Rattle.rope.specs.Places.{banks, bank_words};
-ghost use Rattle.audit.specs.FormSums.{form_line, form_lines, form_sum, form_sum_before, form_word, holds_sum, is_by_number, line_of_sums, name_if, names_of};
+ghost use Rattle.audit.specs.FormSums.{form_line, form_lines, form_sum, form_sum_before, form_word, holds_sum};
+ghost use Rattle.audit.specs.FormSums.{is_by_number, line_of_sums, name_if, names_of};
 
 use crate::lines::{bank_of, offset_of};
 use crate::orders::{Order, partner, word_in};
@@ -20,10 +21,11 @@ const LINE: usize = 128;
 
 type Line = ArrayVec<u8, LINE>;
 
-/// Writes a line for each bank by its number, as `02 00002 16010 written`: the number, the sum of the bank's words as `write_sums` has it, the sum of
-/// the words that the same bytes are where the parity bit stands below the highest one, and in which forms the sum is the bank's number, or its
-/// complement: `written`, `hardware`, `swapped`, where the second of each two bytes stands first, `hardware,swapped`, `numbered`, where banks 0 and 1
-/// stand before 2 and 3, or `-`.
+/// Writes a line for each bank by its number, as `02 00002 16010 written`: the number, the sum of the bank's words as
+/// `write_sums` has it, the sum of the words that the same bytes are where the parity bit stands below the highest one,
+/// and in which forms the sum is the bank's number, or its complement: `written`, `hardware`, `swapped`, where the
+/// second of each two bytes stands first, `hardware,swapped`, `numbered`, where banks 0 and 1 stand before 2 and 3, or
+/// `-`.
 ///
 /// After a failure a beginning of it was written.
 pub fn write_form_sums<W: Write>(
@@ -31,7 +33,8 @@ pub fn write_form_sums<W: Write>(
     version: Version,
     out: &mut W,
 ) -> Result<(), WriteFailed>
-    ensures written { W.told ≡ true → Writes (W.written out.old) (W.written out.new) (form_lines version rope.now) result }
+    ensures written { W.told ≡ true → Writes (W.written out.old) (W.written out.new) (form_lines version rope.now)
+        result }
     ensures failures { W.failures out.new ≡ failures_after (W.failures out.old) result }
 {
     for number in 0..FIXED_BANKS {

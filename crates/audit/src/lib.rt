@@ -1,4 +1,5 @@
-//! Fixed memory as text: its words, a source that gives them, its differences from another, and the sums of its banks, with the words that make them.
+//! Fixed memory as text: its words, a source that gives them, its differences from another, and the sums of its banks,
+//! with the words that make them.
 #![tactic(auto)]
 
 mod bank_facts;

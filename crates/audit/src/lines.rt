@@ -13,14 +13,15 @@ use rope::Rope;
 use space::{BANK_WORDS, Bank, FIXED_BANKS, Linear, Offset, window};
 use words::{Write, WriteFailed, push_all, push_octal, write_all};
 
-/// The most bytes of a line: a place of 7, one or two words of 5 digits, one or two instructions of 10, and what stands between.
+/// The most bytes of a line: a place of 7, one or two words of 5 digits, one or two instructions of 10, and what stands
+/// between.
 const LINE: usize = 48;
 
 pub type Line = ArrayVec<u8, LINE>;
 
-/// Writes a line for each word of a bank, or of all banks by their numbers, as `02,4001 64005 AD 4005`: its place, the word,
-/// and the instruction that it is. A word is read as an extracode where the words before it in the bank put extracode in
-/// force: EXTEND, or INDEX that is itself read so.
+/// Writes a line for each word of a bank, or of all banks by their numbers, as `02,4001 64005 AD 4005`: its place, the
+/// word, and the instruction that it is. A word is read as an extracode where the words before it in the bank put
+/// extracode in force: EXTEND, or INDEX that is itself read so.
 ///
 /// After a failure a beginning of it was written.
 pub fn write_words<W: Write>(
@@ -38,7 +39,8 @@ pub fn write_words<W: Write>(
 }
 
 fn write_banks<W: Write>(rope: &Rope, out: &mut W) -> Result<(), WriteFailed>
-    ensures written { W.told ≡ true → Writes (W.written out.old) (W.written out.new) (flat_map (bank_lines rope.now) (range_with_len 0 banks)) result }
+    ensures written { W.told ≡ true → Writes (W.written out.old) (W.written out.new)
+        (flat_map (bank_lines rope.now) (range_with_len 0 banks)) result }
     ensures failures { W.failures out.new ≡ failures_after (W.failures out.old) result }
 {
     for bank in 0..FIXED_BANKS {

@@ -5,7 +5,8 @@ ghost use Rattle.std.specs.List.{flat_map, range_with_len};
 ghost use Rattle.arrayvec.specs.ArrayVec.{array_vec_len};
 ghost use Rattle.words.specs.Devices.{Writes, failures_after};
 ghost use Rattle.rope.specs.Places.{banks, bank_words};
-ghost use Rattle.audit.specs.Mended.{is_sure, last_before, may_be_wrong, mended_bank, mended_line, mended_lines, mended_source, remark, wrong_bit};
+ghost use Rattle.audit.specs.Mended.{is_sure, last_before, may_be_wrong, mended_bank, mended_line, mended_lines};
+ghost use Rattle.audit.specs.Mended.{mended_source, remark, wrong_bit};
 ghost use Rattle.audit.specs.BankFacts.{count_before};
 
 use crate::bank_facts::{is_blank, is_lost, is_turned, is_wrong, mended_word, mends, wrong_words};
@@ -16,9 +17,11 @@ use rope::Dump;
 use space::{BANK_WORDS, Bank, FIXED_BANKS, Offset};
 use words::{Write, WriteFailed, push_all, push_octal, write_all};
 
-/// Writes a source that gives the words of an image, as `write_source` does: where one bit alone can have been wrong in a bank's
-/// words of wrong parity, by its sum, they are written with that bit turned, and the comment tells what they were, as
-/// `        OCT     00002   # 10,2137 WAS 00006`. Other words of wrong parity are written as they stand, and that is told.
+/// Writes a source that gives the words of an image, as `write_source` does: where one bit alone can have been wrong in
+/// a bank's words of wrong parity, by its sum, they are written with that bit turned, and the comment tells what they
+/// were, as
+/// `        OCT     00002   # 10,2137 WAS 00006`. Other words of wrong parity are written as they stand, and that is
+/// told.
 ///
 /// After a failure a beginning of it was written.
 pub fn write_mended<W: Write>(image: &Dump, out: &mut W) -> Result<(), WriteFailed>
@@ -30,7 +33,8 @@ pub fn write_mended<W: Write>(image: &Dump, out: &mut W) -> Result<(), WriteFail
 
 /// Writes the lines of all banks.
 fn write_banks<W: Write>(image: &Dump, turned: bool, out: &mut W) -> Result<(), WriteFailed>
-    ensures written { W.told ≡ true → Writes (W.written out.old) (W.written out.new) (flat_map (mended_bank image.now turned) (range_with_len 0 banks)) result }
+    ensures written { W.told ≡ true → Writes (W.written out.old) (W.written out.new)
+        (flat_map (mended_bank image.now turned) (range_with_len 0 banks)) result }
     ensures failures { W.failures out.new ≡ failures_after (W.failures out.old) result }
 {
     for number in 0..FIXED_BANKS {
@@ -47,7 +51,8 @@ fn write_bank<W: Write>(
     out: &mut W,
 ) -> Result<(), WriteFailed>
     requires { bank < banks }
-    ensures written { W.told ≡ true → Writes (W.written out.old) (W.written out.new) (mended_bank image.now turned bank) result }
+    ensures written { W.told ≡ true → Writes (W.written out.old) (W.written out.new) (mended_bank image.now turned bank)
+        result }
     ensures failures { W.failures out.new ≡ failures_after (W.failures out.old) result }
 {
     write_all(out, bank_line(bank).as_slice())?;
@@ -62,7 +67,8 @@ fn write_words<W: Write>(
     out: &mut W,
 ) -> Result<(), WriteFailed>
     requires { bank < banks }
-    ensures written { W.told ≡ true → Writes (W.written out.old) (W.written out.new) (mended_lines image.now turned bank) result }
+    ensures written { W.told ≡ true → Writes (W.written out.old) (W.written out.new)
+        (mended_lines image.now turned bank) result }
     ensures failures { W.failures out.new ≡ failures_after (W.failures out.old) result }
 {
     let sure = is_sure(image, turned, bank);

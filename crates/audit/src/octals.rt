@@ -12,8 +12,8 @@ use rope::Rope;
 use space::{BANK_WORDS, Bank, FIXED_BANKS, Offset};
 use words::{Write, WriteFailed, push_all, push_octal, write_all};
 
-/// Writes the words of a bank, or of all banks by their numbers, as a text of octal words: a line as `BANK=02` for each bank, and
-/// below it its words of five digits, eight a line.
+/// Writes the words of a bank, or of all banks by their numbers, as a text of octal words: a line as `BANK=02` for each
+/// bank, and below it its words of five digits, eight a line.
 ///
 /// After a failure a beginning of it was written.
 pub fn write_octals<W: Write>(
@@ -21,7 +21,8 @@ pub fn write_octals<W: Write>(
     bank: Option<Bank>,
     out: &mut W,
 ) -> Result<(), WriteFailed>
-    ensures written { W.told ≡ true → Writes (W.written out.old) (W.written out.new) (octals_text rope.now bank) result }
+    ensures written { W.told ≡ true → Writes (W.written out.old) (W.written out.new) (octals_text rope.now bank)
+        result }
     ensures failures { W.failures out.new ≡ failures_after (W.failures out.old) result }
 {
     match bank {
@@ -31,7 +32,8 @@ pub fn write_octals<W: Write>(
 }
 
 fn write_banks<W: Write>(rope: &Rope, out: &mut W) -> Result<(), WriteFailed>
-    ensures written { W.told ≡ true → Writes (W.written out.old) (W.written out.new) (flat_map (bank_octals rope.now) (range_with_len 0 banks)) result }
+    ensures written { W.told ≡ true → Writes (W.written out.old) (W.written out.new)
+        (flat_map (bank_octals rope.now) (range_with_len 0 banks)) result }
     ensures failures { W.failures out.new ≡ failures_after (W.failures out.old) result }
 {
     for bank in 0..FIXED_BANKS {
@@ -41,7 +43,8 @@ fn write_banks<W: Write>(rope: &Rope, out: &mut W) -> Result<(), WriteFailed>
 }
 
 fn write_bank<W: Write>(rope: &Rope, bank: Bank, out: &mut W) -> Result<(), WriteFailed>
-    ensures written { W.told ≡ true → Writes (W.written out.old) (W.written out.new) (bank_octals rope.now bank) result }
+    ensures written { W.told ≡ true → Writes (W.written out.old) (W.written out.new) (bank_octals rope.now bank)
+        result }
     ensures failures { W.failures out.new ≡ failures_after (W.failures out.old) result }
 {
     write_all(out, bank_head(bank).as_slice())?;
@@ -50,7 +53,8 @@ fn write_bank<W: Write>(rope: &Rope, bank: Bank, out: &mut W) -> Result<(), Writ
 
 /// Writes the words of a bank.
 fn write_words<W: Write>(rope: &Rope, bank: Bank, out: &mut W) -> Result<(), WriteFailed>
-    ensures written { W.told ≡ true → Writes (W.written out.old) (W.written out.new) (octal_words rope.now bank) result }
+    ensures written { W.told ≡ true → Writes (W.written out.old) (W.written out.new) (octal_words rope.now bank)
+        result }
     ensures failures { W.failures out.new ≡ failures_after (W.failures out.old) result }
 {
     for number in 0..BANK_WORDS {

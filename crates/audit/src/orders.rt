@@ -4,7 +4,8 @@ ghost use Rattle.std.specs.Prelude.{◌≡◌, ◌/◌, ◌<◌, ◌≤◌};
 ghost use Rattle.rope.specs.Forms.{reordered};
 ghost use Rattle.rope.specs.Places.{banks, bank_words};
 ghost use Rattle.audit.specs.BankFacts.{all_before, count_before, is_uniform};
-ghost use Rattle.audit.specs.Orders.{by_banks, bytes_at, held_in, holds_in, is_all, is_by_number, is_complemented, most_of, order_of, parity_bit, stands_by_number, sum_in_before};
+ghost use Rattle.audit.specs.Orders.{by_banks, bytes_at, held_in, holds_in, is_all, is_by_number, is_complemented};
+ghost use Rattle.audit.specs.Orders.{most_of, order_of, parity_bit, stands_by_number, sum_in_before};
 ghost use Rattle.audit.specs.WordOrders.{bytes_exchanged, partner, word_in};
 
 use crate::bank_facts::is_uniform;
@@ -35,8 +36,8 @@ pub enum Order {
 /// How many banks stand elsewhere where all stand by their numbers: the first ones.
 const FIRST_BANKS: u16 = 4;
 
-/// The order in which an image stands: complemented by its empty banks, else the one in which most banks have their own sums,
-/// and by the sums of the first four banks whether they stand by their numbers.
+/// The order in which an image stands: complemented by its empty banks, else the one in which most banks have their own
+/// sums, and by the sums of the first four banks whether they stand by their numbers.
 pub(crate) fn order_of(image: &Dump) -> Order
     ensures { result ≡ order_of image.now }
 {
@@ -82,7 +83,8 @@ fn is_by_number(image: &Dump) -> bool
     stand_by_number(image) && !are_uniform(image)
 }
 
-/// Whether each of the first four banks of more than one word has the sum of the one that stands in its place by the numbers.
+/// Whether each of the first four banks of more than one word has the sum of the one that stands in its place by the
+/// numbers.
 #[tactic(auto, using(crate::proofs::Folds::all_first, crate::proofs::Folds::all_there, crate::proofs::Folds::all_passed))]
 fn stand_by_number(image: &Dump) -> bool
     ensures { result ≡ all_before (stands_by_number image.now) 4 }

@@ -13,9 +13,10 @@ use rope::{Dump, byte_of};
 use space::{BANK_WORDS, Bank, FIXED_BANKS, Offset};
 use words::{Write, WriteFailed, push_all, push_decimal, push_octal, write_all};
 
-/// Writes a line for each word whose two bytes have an even number of one bits, banks by their numbers and offsets rising, as
-/// `02,4001 64005 BYTE 2`: its place, the word, and the number of its first byte. Then it writes how many such words there
-/// are, as `COUNT 1`, and answers that.
+/// Writes a line for each word whose two bytes have an even number of one bits, banks by their numbers and offsets
+/// rising, as
+/// `02,4001 64005 BYTE 2`: its place, the word, and the number of its first byte. Then it writes how many such words
+/// there are, as `COUNT 1`, and answers that.
 ///
 /// After a failure a beginning of it was written.
 pub fn write_parities<W: Write>(image: &Dump, out: &mut W) -> Result<u32, WriteFailed>
@@ -30,7 +31,8 @@ pub fn write_parities<W: Write>(image: &Dump, out: &mut W) -> Result<u32, WriteF
 
 /// Writes the lines of all words whose parity is wrong, and answers how many.
 fn write_wrong<W: Write>(image: &Dump, out: &mut W) -> Result<u32, WriteFailed>
-    ensures written { W.told ≡ true → Writes (W.written out.old) (W.written out.new) (flat_map (parity_line image.now) (wrong image.now)) result }
+    ensures written { W.told ≡ true → Writes (W.written out.old) (W.written out.new)
+        (flat_map (parity_line image.now) (wrong image.now)) result }
     ensures count { IfOk result (λ count. count ≡ length (wrong image.now)) }
     ensures failures { W.failures out.new ≡ failures_after (W.failures out.old) result }
 {
@@ -44,7 +46,8 @@ fn write_wrong<W: Write>(image: &Dump, out: &mut W) -> Result<u32, WriteFailed>
 /// Writes the lines of a bank's words whose parity is wrong, and answers how many.
 fn write_bank<W: Write>(image: &Dump, bank: Bank, out: &mut W) -> Result<u32, WriteFailed>
     requires { bank < banks }
-    ensures written { W.told ≡ true → Writes (W.written out.old) (W.written out.new) (flat_map (parity_line image.now) (wrong_in image.now bank)) result }
+    ensures written { W.told ≡ true → Writes (W.written out.old) (W.written out.new)
+        (flat_map (parity_line image.now) (wrong_in image.now bank)) result }
     ensures count { IfOk result (λ count. count ≡ length (wrong_in image.now bank)) }
     ensures few { IfOk result (λ count. count ≤ 1024) }
     ensures failures { W.failures out.new ≡ failures_after (W.failures out.old) result }
@@ -64,7 +67,8 @@ fn write_place<W: Write>(
     out: &mut W,
 ) -> Result<u32, WriteFailed>
     requires { bank < banks }
-    ensures written { W.told ≡ true → Writes (W.written out.old) (W.written out.new) (flat_map (parity_line image.now) (wrong_at image.now bank offset)) result }
+    ensures written { W.told ≡ true → Writes (W.written out.old) (W.written out.new)
+        (flat_map (parity_line image.now) (wrong_at image.now bank offset)) result }
     ensures count { IfOk result (λ count. count ≡ length (wrong_at image.now bank offset)) }
     ensures few { IfOk result (λ count. count ≤ 1) }
     ensures failures { W.failures out.new ≡ failures_after (W.failures out.old) result }

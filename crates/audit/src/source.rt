@@ -14,9 +14,9 @@ use rope::Rope;
 use space::{BANK_WORDS, Bank, FIXED_BANKS, Offset};
 use words::{Write, WriteFailed, push_all, push_octal, write_all};
 
-/// Writes a source that gives the words of a bank, or of all banks by their numbers: a line BANK for each bank, and below it a
-/// line for each of its words, as `        OCT     64005   # 02,4001 AD 4005`, where the place and the instruction that the
-/// word is are a comment.
+/// Writes a source that gives the words of a bank, or of all banks by their numbers: a line BANK for each bank, and
+/// below it a line for each of its words, as `        OCT     64005   # 02,4001 AD 4005`, where the place and the
+/// instruction that the word is are a comment.
 ///
 /// After a failure a beginning of it was written.
 pub fn write_source<W: Write>(
@@ -24,7 +24,8 @@ pub fn write_source<W: Write>(
     bank: Option<Bank>,
     out: &mut W,
 ) -> Result<(), WriteFailed>
-    ensures written { W.told ≡ true → Writes (W.written out.old) (W.written out.new) (source_text rope.now bank) result }
+    ensures written { W.told ≡ true → Writes (W.written out.old) (W.written out.new) (source_text rope.now bank)
+        result }
     ensures failures { W.failures out.new ≡ failures_after (W.failures out.old) result }
 {
     match bank {
@@ -34,7 +35,8 @@ pub fn write_source<W: Write>(
 }
 
 fn write_banks<W: Write>(rope: &Rope, out: &mut W) -> Result<(), WriteFailed>
-    ensures written { W.told ≡ true → Writes (W.written out.old) (W.written out.new) (flat_map (bank_source rope.now) (range_with_len 0 banks)) result }
+    ensures written { W.told ≡ true → Writes (W.written out.old) (W.written out.new)
+        (flat_map (bank_source rope.now) (range_with_len 0 banks)) result }
     ensures failures { W.failures out.new ≡ failures_after (W.failures out.old) result }
 {
     for bank in 0..FIXED_BANKS {
@@ -44,7 +46,8 @@ fn write_banks<W: Write>(rope: &Rope, out: &mut W) -> Result<(), WriteFailed>
 }
 
 fn write_bank<W: Write>(rope: &Rope, bank: Bank, out: &mut W) -> Result<(), WriteFailed>
-    ensures written { W.told ≡ true → Writes (W.written out.old) (W.written out.new) (bank_source rope.now bank) result }
+    ensures written { W.told ≡ true → Writes (W.written out.old) (W.written out.new) (bank_source rope.now bank)
+        result }
     ensures failures { W.failures out.new ≡ failures_after (W.failures out.old) result }
 {
     write_all(out, bank_line(bank).as_slice())?;
@@ -53,7 +56,8 @@ fn write_bank<W: Write>(rope: &Rope, bank: Bank, out: &mut W) -> Result<(), Writ
 
 /// Writes the lines of a bank's words.
 fn write_octals<W: Write>(rope: &Rope, bank: Bank, out: &mut W) -> Result<(), WriteFailed>
-    ensures written { W.told ≡ true → Writes (W.written out.old) (W.written out.new) (octal_lines rope.now bank) result }
+    ensures written { W.told ≡ true → Writes (W.written out.old) (W.written out.new) (octal_lines rope.now bank)
+        result }
     ensures failures { W.failures out.new ≡ failures_after (W.failures out.old) result }
 {
     let mut extra = false;

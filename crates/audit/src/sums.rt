@@ -11,8 +11,9 @@ use rope::Rope;
 use space::{BANK_WORDS, Bank, FIXED_BANKS};
 use words::{Overflow, Word, Write, WriteFailed, push_all, push_octal, write_all};
 
-/// Writes a line for each bank by its number, as `02 00002`: the number, and the ones' complement sum of the bank's words as
-/// a program adds them up that checks its own memory. Where a sum overflows, plus or minus one is added to what is stored.
+/// Writes a line for each bank by its number, as `02 00002`: the number, and the ones' complement sum of the bank's
+/// words as a program adds them up that checks its own memory. Where a sum overflows, plus or minus one is added to
+/// what is stored.
 ///
 /// After a failure a beginning of it was written.
 pub fn write_sums<W: Write>(rope: &Rope, out: &mut W) -> Result<(), WriteFailed>

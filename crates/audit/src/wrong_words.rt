@@ -4,7 +4,8 @@ ghost use Rattle.std.specs.Prelude.{◌≡◌, ◌+◌, ◌<◌, ◌≤◌, leng
 ghost use Rattle.words.specs.Devices.{Writes, failures_after};
 ghost use Rattle.rope.specs.Places.{banks};
 ghost use Rattle.audit.specs.BankFacts.{count_before, mends};
-ghost use Rattle.audit.specs.Damages.{candidate, candidate_text, candidates, is_told_by_sum, leading_text, verdict, wrong_head, wrong_lines, wrong_text};
+ghost use Rattle.audit.specs.Damages.{candidate, candidate_text, candidates, is_told_by_sum, leading_text, verdict};
+ghost use Rattle.audit.specs.Damages.{wrong_head, wrong_lines, wrong_text};
 
 use crate::bank_facts::{is_blank, is_wrong, mends, ways_to_mend, with_bit_turned, wrong_words};
 use crate::lines::{Line, offset_of, push_place};
@@ -24,7 +25,8 @@ pub(crate) fn write_wrong_words<W: Write>(
     out: &mut W,
 ) -> Result<(), WriteFailed>
     requires { bank < banks }
-    ensures written { W.told ≡ true → Writes (W.written out.old) (W.written out.new) (wrong_lines image.now turned bank) result }
+    ensures written { W.told ≡ true → Writes (W.written out.old) (W.written out.new) (wrong_lines image.now turned bank)
+        result }
     ensures failures { W.failures out.new ≡ failures_after (W.failures out.old) result }
 {
     let told = is_told_by_sum(image, turned, bank);
@@ -56,7 +58,8 @@ fn write_wrong_word<W: Write>(
 ) -> Result<(), WriteFailed>
     requires bank { bank < banks }
     requires told { told ≡ is_told_by_sum image.now turned bank }
-    ensures written { W.told ≡ true → Writes (W.written out.old) (W.written out.new) (wrong_text image.now turned bank offset) result }
+    ensures written { W.told ≡ true → Writes (W.written out.old) (W.written out.new)
+        (wrong_text image.now turned bank offset) result }
     ensures failures { W.failures out.new ≡ failures_after (W.failures out.old) result }
 {
     if !is_wrong(image, turned, bank, offset) {
@@ -89,7 +92,8 @@ fn write_verdict<W: Write>(
 ) -> Result<(), WriteFailed>
     requires bank { bank < banks }
     requires told { told ≡ is_told_by_sum image.now turned bank }
-    ensures written { W.told ≡ true → Writes (W.written out.old) (W.written out.new) (verdict image.now turned bank word) result }
+    ensures written { W.told ≡ true → Writes (W.written out.old) (W.written out.new)
+        (verdict image.now turned bank word) result }
     ensures failures { W.failures out.new ≡ failures_after (W.failures out.old) result }
 {
     if !told {
@@ -108,7 +112,8 @@ fn write_candidates<W: Write>(
     out: &mut W,
 ) -> Result<(), WriteFailed>
     requires { bank < banks }
-    ensures written { W.told ≡ true → Writes (W.written out.old) (W.written out.new) (candidates image.now turned bank word) result }
+    ensures written { W.told ≡ true → Writes (W.written out.old) (W.written out.new)
+        (candidates image.now turned bank word) result }
     ensures failures { W.failures out.new ≡ failures_after (W.failures out.old) result }
 {
     let mut before = 0;
@@ -132,7 +137,8 @@ fn write_candidate<W: Write>(
     requires bank { bank < banks }
     requires bit { bit < 16 }
     requires before { before ≡ count_before (mends image.now turned bank) bit }
-    ensures written { W.told ≡ true → Writes (W.written out.old) (W.written out.new) (candidate_text image.now turned bank word bit) result }
+    ensures written { W.told ≡ true → Writes (W.written out.old) (W.written out.new)
+        (candidate_text image.now turned bank word bit) result }
     ensures count { IfOk result (λ count. before + count ≡ count_before (mends image.now turned bank) (bit + 1)) }
     ensures few { IfOk result (λ count. count ≤ 1) }
     ensures failures { W.failures out.new ≡ failures_after (W.failures out.old) result }

@@ -18,7 +18,9 @@ use Rattle.calls.specs.Waiting.{standing_address, standing_place}
 next_to : (z : ℕ) → z < 4096 → ((z + 0o7777) % 0o10000 + 1) % 0o10000 ≡ z
 next_to z lt = grind (arith, nat_tests)
 
-address_by : (s : State) (o : Option ℕ) → next_address s < 4096 → cond (is_some o) (next_address s) (following_address s) ≡ (cond (is_some o) ((next_address s + 0o7777) % 0o10000) (next_address s) + 1) % 0o10000
+address_by : (s : State) (o : Option ℕ) → next_address s < 4096
+    → cond (is_some o) (next_address s) (following_address s)
+    ≡ (cond (is_some o) ((next_address s + 0o7777) % 0o10000) (next_address s) + 1) % 0o10000
 address_by s (Some w) lt = sym (next_to (next_address s) lt)
 address_by s None lt = refl
 
@@ -41,11 +43,13 @@ leading : (a b c : Bool) → a ≡ true → b ≡ true → c ≡ false → (a &&
 leading a b c p q r = rw (p, q, r) refl
 
 module _ (scenario : Scenario) (s : State) where
-  by_word : (back : Linear) → next_address s < 4096 → due scenario.inputs s.taken s.cycles ≡ None → entry s ≡ None → entered_by s (next_step_by scenario.rope s None None) ≡ Some back → Calls scenario s back
+  by_word : (back : Linear) → next_address s < 4096 → due scenario.inputs s.taken s.cycles ≡ None → entry s ≡ None
+      → entered_by s (next_step_by scenario.rope s None None) ≡ Some back → Calls scenario s back
   by_word back small no_input no_entry e =
       let call = taken _ (return_place s) back e in
       let parts = both _ (leads_on (standing_place s) (place_led_to scenario s)) call.0 in
-      let outer = both (is_fixed (standing_place s) && is_fixed (place_led_to scenario s)) (not (same_place (place_led_to scenario s) (standing_place s))) parts.1 in
+      let outer = both (is_fixed (standing_place s) && is_fixed (place_led_to scenario s))
+      (not (same_place (place_led_to scenario s) (standing_place s))) parts.1 in
       let inner = both (is_fixed (standing_place s)) (is_fixed (place_led_to scenario s)) outer.0 in
       record {
         executes = record { none_due = no_input; none_entered = no_entry; executes = refl };
@@ -56,7 +60,8 @@ module _ (scenario : Scenario) (s : State) where
         returns = sym call.1 ∙ ap (place_in s) (address_is s small);
       }
 
-  by_step : (back : Linear) (d : Option (Input × Option ℕ)) (k : Option ℕ) → next_address s < 4096 → due scenario.inputs s.taken s.cycles ≡ d → entry s ≡ k → entered_by s (next_step_by scenario.rope s d k) ≡ Some back
+  by_step : (back : Linear) (d : Option (Input × Option ℕ)) (k : Option ℕ) → next_address s < 4096
+      → due scenario.inputs s.taken s.cycles ≡ d → entry s ≡ k → entered_by s (next_step_by scenario.rope s d k) ≡ Some back
       → Calls scenario s back
   by_step back (Some given) k small is_due is_entry e = absurd (cc)
   by_step back None (Some k) small is_due is_entry e = absurd (cc)
@@ -65,7 +70,8 @@ module _ (scenario : Scenario) (s : State) where
   told : (back : Linear) → next_address s < 4096 → Calls scenario s back → enters scenario s ≡ Some back
   unfolding next_step
   told back small c =
-      let on = leading (is_fixed (standing_place s)) (is_fixed (place_led_to scenario s)) (same_place (place_led_to scenario s) (standing_place s)) c.from c.to c.away in
+      let on = leading (is_fixed (standing_place s)) (is_fixed (place_led_to scenario s))
+      (same_place (place_led_to scenario s) (standing_place s)) c.from c.to c.away in
       ap (λ d. entered_by s (next_step_by scenario.rope s d (entry s))) c.executes.none_due
       ∙ ap (λ k. entered_by s (next_step_by scenario.rope s None k)) c.executes.none_entered
       ∙ ap (λ b. cond (b && leads_on (standing_place s) (place_led_to scenario s)) (Some (return_place s)) None) c.tc

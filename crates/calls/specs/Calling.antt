@@ -18,8 +18,8 @@ word_executed scenario s = instruction_word scenario.rope s
 abbrev pub place_led_to : Scenario → State → Linear
 place_led_to scenario s = place_in s (word_executed scenario s % 0o10000)
 
--- The next step executes TC, which stands at an address of fixed memory and leads to another place there; the routine returns to the place of the address after that
--- at which TC stands.
+-- The next step executes TC, which stands at an address of fixed memory and leads to another place there; the routine returns to the place
+-- of the address after that at which TC stands.
 pub record Calls (scenario : Scenario) (s : State) (back : Linear) : Type 0 where
   pub executes : ExecutesCode scenario s (code_of s.extra (word_executed scenario s))
   pub tc : same_name (row_of (code_of s.extra (word_executed scenario s)).instruction).name (codes "TC") ≡ true

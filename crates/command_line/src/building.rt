@@ -8,8 +8,8 @@ use std::alloc::{AllocError, Global};
 /// The version of the program, as `--version` tells it.
 const PROGRAM_VERSION: &str = "0.1.0";
 
-/// The program with its subcommands and their arguments: the one alone that the words of a call name, or all where they name
-/// none. What is said of the words of one does not depend on the others.
+/// The program with its subcommands and their arguments: the one alone that the words of a call name, or all where they
+/// name none. What is said of the words of one does not depend on the others.
 pub fn command<'a>(alloc: Global, words: &[String]) -> Result<Command<'a>, AllocError> {
     let command = Command::new(alloc, "agcws")
         .about("Assembles, runs and debugs programs for the Apollo Guidance Computer")

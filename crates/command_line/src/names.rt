@@ -204,7 +204,8 @@ pub const ONLY: &str = "ONLY";
 /// That the sums of an image are told in both orders of the bits.
 pub const BOTH_FORMS: &str = "BOTH_FORMS";
 
-/// How an image may stand: the first names 1, and each that follows one more; 1 is hardware, 2 swapped, 4 complemented, 8 numbered.
+/// How an image may stand: the first names 1, and each that follows one more; 1 is hardware, 2 swapped, 4 complemented,
+/// 8 numbered.
 pub const FORMS: &[&str] = &[
     "hardware",
     "swapped",

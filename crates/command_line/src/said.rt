@@ -39,8 +39,8 @@ pub fn said<'a>(alloc: Global, words: &[String], error: &Error) -> Result<Parsed
     })
 }
 
-/// What `clap` says of a mistake, but for a tip and what it makes of it: it takes words for alike that are not, as `--version`
-/// and `--verbose`, and paths do not begin with `--`.
+/// What `clap` says of a mistake, but for a tip and what it makes of it: it takes words for alike that are not, as
+/// `--version` and `--verbose`, and paths do not begin with `--`.
 fn without_tip(alloc: Global, text: String) -> Result<String, AllocError> {
     let Some((mistake, others)) = text.as_str().split_once("\n\n  tip: ") else {
         return Ok(text);
@@ -74,7 +74,8 @@ fn with_view(mut text: String, words: &[String]) -> Result<String, AllocError> {
     Ok(text)
 }
 
-/// What is said where arguments that lack some lack the feed: those of a session always do, and those of `agcws run`, of
+/// What is said where arguments that lack some lack the feed: those of a session always do, and those of `agcws run`,
+/// of
 /// `agcws trace` and of `agcws cover` where they end with a number.
 fn said_of_feed(words: &[String]) -> &'static str {
     let (Some(name), Some(last)) = (words.get(1), words.last()) else {

@@ -1,5 +1,6 @@
 -- What lines of an extended session ask for.
-use Rattle.std.proofs.Common.{◌≡◌, ℕ, ◌≤◌, nat_lt, None, Some, List, ◌∷◌, All, length, drop, map, slice_index_or, refl, subst, inl, inr, arith}
+use Rattle.std.proofs.Common.{◌≡◌, ℕ, ◌≤◌, nat_lt, None, Some, List, ◌∷◌, All, length, drop, map, slice_index_or, refl, subst, inl, inr}
+use Rattle.std.proofs.Common.{arith}
 use Rattle.std.specs.List.{before_first, range_with_len, filter}
 use Rattle.std.proofs.lemmas.Bool.{cases_Bool}
 use Rattle.std.proofs.lemmas.List.{length-drop, length-take}
@@ -12,7 +13,8 @@ use Rattle.commands.specs.declared.command.ParsedLine.TheVariants.{TooLong}
 use Rattle.commands.specs.declared.extended.ExtendedLine.TheVariants.{Plain}
 
 -- what a line asks for that is kept whole
-pub extended-kept : (symbols : SymbolTable) (line text : List ℕ) → Some text ≡ kept_line line → extended_in symbols text (fields text) ≡ extended_line symbols line
+pub extended-kept : (symbols : SymbolTable) (line text : List ℕ) → Some text ≡ kept_line line
+    → extended_in symbols text (fields text) ≡ extended_line symbols line
 unfolding extended_line
 extended-kept symbols line text same =
     elim (cases_Bool (nat_lt command_length (length line))) [
@@ -36,16 +38,25 @@ shorter xs = simp length-take (omega arith)
 pub fields-short : (text : List ℕ) (n : ℕ) → length text ≤ n → All (λ field. length field ≤ n) (texts (runs text))
 unfolding runs
 fields-short text n short =
-    All-map (λ field. length field ≤ n) (λ (piece : Piece). piece.text) (map (run_at text) (filter (is_run_start text) (range_with_len 0 (length text))))
+    All-map (λ field. length field ≤ n) (λ (piece : Piece). piece.text)
+    (map (run_at text) (filter (is_run_start text) (range_with_len 0 (length text))))
     (All-map (λ (piece : Piece). length piece.text ≤ n) (run_at text) (filter (is_run_start text) (range_with_len 0 (length text)))
-    (λ k d below. omega (arith, shorter (drop (slice_index_or (filter (is_run_start text) (range_with_len 0 (length text))) k d) text), length-drop (slice_index_or (filter (is_run_start text) (range_with_len 0 (length text))) k d) text)))
+    (λ k d below. omega (
+      arith,
+      shorter (drop (slice_index_or (filter (is_run_start text) (range_with_len 0 (length text))) k d) text),
+      length-drop (slice_index_or (filter (is_run_start text) (range_with_len 0 (length text))) k d) text,
+    )))
 
 pub before_comment-short : (line : List ℕ) (n : ℕ) → length line ≤ n → length (before_comment line) ≤ n
 before_comment-short line n short = simp length-take (omega (arith, short))
 
 -- so is the first of them, and so are the others
-pub first-short : (n : ℕ) (all : List (List ℕ)) (first : List ℕ) (more : List (List ℕ)) → All (λ field. length field ≤ n) all → all ≡ first ∷ more → length first ≤ n
-first-short n all first more short is = All-head (λ field. length field ≤ n) first more (subst (λ (xs : List (List ℕ)). All (λ field. length field ≤ n) xs) is short)
+pub first-short : (n : ℕ) (all : List (List ℕ)) (first : List ℕ) (more : List (List ℕ)) → All (λ field. length field ≤ n) all
+    → all ≡ first ∷ more → length first ≤ n
+first-short n all first more short is = All-head (λ field. length field ≤ n) first more
+    (subst (λ (xs : List (List ℕ)). All (λ field. length field ≤ n) xs) is short)
 
-pub others-short : (n : ℕ) (all : List (List ℕ)) (first : List ℕ) (more : List (List ℕ)) → All (λ field. length field ≤ n) all → all ≡ first ∷ more → All (λ field. length field ≤ n) more
-others-short n all first more short is = All-tail (λ field. length field ≤ n) first more (subst (λ (xs : List (List ℕ)). All (λ field. length field ≤ n) xs) is short)
+pub others-short : (n : ℕ) (all : List (List ℕ)) (first : List ℕ) (more : List (List ℕ)) → All (λ field. length field ≤ n) all
+    → all ≡ first ∷ more → All (λ field. length field ≤ n) more
+others-short n all first more short is = All-tail (λ field. length field ≤ n) first more
+    (subst (λ (xs : List (List ℕ)). All (λ field. length field ≤ n) xs) is short)

@@ -1,5 +1,6 @@
 -- Lines taken off a text, a byte at a time.
-use Rattle.std.proofs.Common.{◌≡◌, ◌≢◌, ℕ, ◌+◌, Bool, true, false, not, ◌||◌, Option, List, [], ◌∷◌, ◌++◌, length, take, refl, ap, ◌∙◌, sym, eqb, arith, add-one, append_assoc, length-append}
+use Rattle.std.proofs.Common.{◌≡◌, ◌≢◌, ℕ, ◌+◌, Bool, true, false, not, ◌||◌, Option, List, [], ◌∷◌, ◌++◌, length, take, refl, ap, ◌∙◌, sym}
+use Rattle.std.proofs.Common.{eqb, arith, add-one, append_assoc, length-append}
 use Rattle.std.proofs.Math.Seq.{take-append-add}
 use Rattle.std.proofs.lemmas.List.{append-nil}
 use Rattle.std.proofs.lemmas.Bool.{ne_eqb, eqb-false, both_ways}
@@ -19,7 +20,8 @@ pub record Reading (text : List ℕ) (before : ℕ) (line : Option (List ℕ)) (
   pub some : begun ≡ not (eqb (length part) 0)
 
 -- one byte more was read, which is no line feed
-pub reading-push : {text : List ℕ} {before : ℕ} {line : Option (List ℕ)} {rest : List ℕ} {now : ℕ} {begun : Bool} (byte : ℕ) (rest' : List ℕ) (line' : Option (List ℕ)) (now' : ℕ)
+pub reading-push : {text : List ℕ} {before : ℕ} {line : Option (List ℕ)} {rest : List ℕ} {now : ℕ} {begun : Bool} (byte : ℕ)
+    (rest' : List ℕ) (line' : Option (List ℕ)) (now' : ℕ)
     → Reading text before line rest now begun → rest ≡ byte ∷ rest' → now ≡ now' + 1 → byte ≢ line_feed
     → ((part : List ℕ) → line ≡ kept_line part → line' ≡ kept_line (part ++ byte ∷ []))
     → Reading text before line' rest' now' true
@@ -33,7 +35,8 @@ reading-push {text} {before} {line} {rest} {now} {begun} byte rest' line' now' r
 }
 
 -- the line that a line feed ended
-pub keeps-ended : {text : List ℕ} {before : ℕ} {line : Option (List ℕ)} {rest : List ℕ} {now : ℕ} {begun : Bool} (byte : ℕ) (rest' : List ℕ) (now' : ℕ)
+pub keeps-ended : {text : List ℕ} {before : ℕ} {line : Option (List ℕ)} {rest : List ℕ} {now : ℕ} {begun : Bool} (byte : ℕ) (rest' : List ℕ)
+    (now' : ℕ)
     → Reading text before line rest now begun → rest ≡ byte ∷ rest' → now ≡ now' + 1 → byte ≡ line_feed
     → KeepsLine line text before rest' now'
 keeps-ended {text} {before} {line} {rest} {now} {begun} byte rest' now' r e b feed =
@@ -43,7 +46,9 @@ keeps-ended {text} {before} {line} {rest} {now} {begun} byte rest' now' r e b fe
       bytes = r.part;
       kept_of = r.kept_of;
       taken = record {
-        lines = ap (λ t. lines (take before t)) whole ∙ ap (λ n. lines (take n (r.part ++ line_feed ∷ rest'))) count ∙ ap lines (take-append-add r.part (line_feed ∷ rest') (now' + 1)) ∙ rw add-one (lines-ended r.part (take now' rest') r.no_feed);
+        lines = ap (λ t. lines (take before t)) whole ∙ ap (λ n. lines (take n (r.part ++ line_feed ∷ rest'))) count
+            ∙ ap lines (take-append-add r.part (line_feed ∷ rest') (now' + 1))
+            ∙ rw add-one (lines-ended r.part (take now' rest') r.no_feed);
         ended = λ _. (r.no_feed, whole);
       };
     }
@@ -54,7 +59,8 @@ not-empty [] some none = cc
 not-empty (byte ∷ part) some none = cc
 
 -- all of a text was read
-read-all : {text : List ℕ} {before : ℕ} {line : Option (List ℕ)} {rest : List ℕ} {now : ℕ} {begun : Bool} → (r : Reading text before line rest now begun) → take now rest ≡ [] → take before text ≡ r.part
+read-all : {text : List ℕ} {before : ℕ} {line : Option (List ℕ)} {rest : List ℕ} {now : ℕ} {begun : Bool}
+    → (r : Reading text before line rest now begun) → take now rest ≡ [] → take before text ≡ r.part
 read-all {text} {before} {line} {rest} {now} {begun} r none = rw (r.split, r.count, take-append-add, none, append-nil) refl
 
 -- the line that the end of the text ended
@@ -65,13 +71,15 @@ keeps-last {text} {before} {line} {rest} {now} {begun} rest' r none some = recor
   bytes = r.part;
   kept_of = r.kept_of;
   taken = record {
-    lines = ap lines (read-all r none) ∙ lines-last r.part r.no_feed (not-empty r.part (sym r.some ∙ some)) ∙ ap (λ more. r.part ∷ more) (sym (lines-none [] refl));
+    lines = ap lines (read-all r none) ∙ lines-last r.part r.no_feed (not-empty r.part (sym r.some ∙ some))
+        ∙ ap (λ more. r.part ∷ more) (sym (lines-none [] refl));
     ended = λ more. absurd (omega arith);
   };
 }
 
 -- reads one after another
-pub reads-more : {old now new : List ℕ} {before between after : ℕ} → ReadsWithin old now before between → ReadsWithin now new between after → ReadsWithin old new before after
+pub reads-more : {old now new : List ℕ} {before between after : ℕ} → ReadsWithin old now before between → ReadsWithin now new between after
+    → ReadsWithin old new before after
 reads-more {old} {now} {new} {before} {between} {after} first second = record {
   bytes = first.bytes ++ second.bytes;
   split = first.split ∙ ap (λ t. first.bytes ++ t) second.split ∙ sym (append_assoc first.bytes second.bytes new);

@@ -15,7 +15,8 @@ NoneTakes [] texts = Unit {0}
 NoneTakes (entry ∷ more) texts = (entry.1 texts ≡ None) × NoneTakes more texts
 
 -- then no name gives a command
-none-taken : (table : List (List ℕ × Form)) (name : List ℕ) (texts : List (List ℕ)) → NoneTakes table texts → option_and_then (λ form. form texts) (value_in table name) ≡ None
+none-taken : (table : List (List ℕ × Form)) (name : List ℕ) (texts : List (List ℕ)) → NoneTakes table texts
+    → option_and_then (λ form. form texts) (value_in table name) ≡ None
 none-taken [] name texts none = refl
 none-taken (entry ∷ more) name texts none =
     elim (cases_Bool (same_name name entry.0)) [
@@ -24,13 +25,16 @@ none-taken (entry ∷ more) name texts none =
     ]
 
 -- four fields are too many after any name
-pub too-many : (symbols : SymbolTable) (name a b c d : List ℕ) (more : List (List ℕ)) → option_and_then (λ form. form (a ∷ b ∷ c ∷ d ∷ more)) (value_in (forms symbols) name) ≡ None
+pub too-many : (symbols : SymbolTable) (name a b c d : List ℕ) (more : List (List ℕ))
+    → option_and_then (λ form. form (a ∷ b ∷ c ∷ d ∷ more)) (value_in (forms symbols) name) ≡ None
 unfolding forms
 too-many symbols name a b c d more =
-    none-taken (forms symbols) name (a ∷ b ∷ c ∷ d ∷ more) (refl, (refl, (refl, (refl, (refl, (refl, (refl, (refl, (refl, (refl, (refl, (refl, (refl, (refl, (refl, tt)))))))))))))))
+    none-taken (forms symbols) name (a ∷ b ∷ c ∷ d ∷ more)
+    (refl, (refl, (refl, (refl, (refl, (refl, (refl, (refl, (refl, (refl, (refl, (refl, (refl, (refl, (refl, tt)))))))))))))))
 
 -- what a line asks for that is kept whole
-pub request-kept : (symbols : SymbolTable) (line text : List ℕ) → Some text ≡ kept_line line → parsed_in symbols text (fields text) ≡ parsed_line symbols line
+pub request-kept : (symbols : SymbolTable) (line text : List ℕ) → Some text ≡ kept_line line
+    → parsed_in symbols text (fields text) ≡ parsed_line symbols line
 unfolding parsed_line
 request-kept symbols line text same =
     elim (cases_Bool (nat_lt command_length (length line))) [

@@ -1,5 +1,6 @@
 -- What a line of an extended session asks for: the commands of any session, some more, and refusals in words.
-use Rattle.std.specs.Prelude.{ℕ, ◌+◌, nat_lt, nat_le, Bool, false, List, [], ◌∷◌, ◌++◌, length, drop, Option, None, Some, codes, if◌then◌else◌, option_and_then, true}
+use Rattle.std.specs.Prelude.{ℕ, ◌+◌, nat_lt, nat_le, Bool, false, List, [], ◌∷◌, ◌++◌, length, drop, Option, None, Some, codes}
+use Rattle.std.specs.Prelude.{if◌then◌else◌, option_and_then, true}
 use Rattle.std.specs.Option.{option_map, option_or, option_map_or}
 use Rattle.agc_text.specs.Fields.{Piece, fields, is_blank, texts}
 use Rattle.agc_text.specs.Tables.{same_name, value_in}
@@ -24,7 +25,9 @@ use Rattle.commands.specs.declared.extended.IndexLines.{IndexLines}
 use Rattle.commands.specs.declared.extended.IndexLines.TheVariants.{Omitted, Told}
 use Rattle.commands.specs.declared.extended.LinkLines.{LinkLines}
 use Rattle.commands.specs.declared.extended.ExtendedLine.{ExtendedLine}
-use Rattle.commands.specs.declared.extended.ExtendedLine.TheVariants.{Plain, Common, Says, Help, Breaks, ClearOne, On, AllRegisters, Until, WhyStep, Why, Words, Where, Find, Trace, Inputs, Over, Out, Listed, Values, Channels, Differs, WhySince, TailSteps, Survey, Say, Calls}
+use Rattle.commands.specs.declared.extended.ExtendedLine.TheVariants.{Plain, Common, Says, Help, Breaks, ClearOne, On, AllRegisters, Until}
+use Rattle.commands.specs.declared.extended.ExtendedLine.TheVariants.{WhyStep, Why, Words, Where, Find, Trace, Inputs, Over, Out, Listed}
+use Rattle.commands.specs.declared.extended.ExtendedLine.TheVariants.{Values, Channels, Differs, WhySince, TailSteps, Survey, Say, Calls}
 
 -- the most steps that a command can name
 abbrev pub most_count : ℕ
@@ -155,7 +158,8 @@ since_after subject links index =
     option_map (λ t. WhySince subject links (telling (index_told index.0) places.0) t) (since_in places.1)
 
 abbrev pub since_of : Option Subject → List (List ℕ) → Option ExtendedLine
-since_of subject fields = option_and_then (λ s. since_after s (links_then fields).0 (word_then (codes "index") (links_then fields).1)) subject
+since_of subject fields = option_and_then (λ s. since_after s (links_then fields).0 (word_then (codes "index") (links_then fields).1))
+    subject
 
 abbrev pub why_since : SymbolTable → ExtendedForm
 why_since symbols [] = None
@@ -164,7 +168,8 @@ why_since symbols (field ∷ more) =
 
 -- none of these; and where `index` or `places` stands alone it is the word, though a symbol has this name
 abbrev pub why_form : SymbolTable → ExtendedForm
-why_form symbols fields = option_or (option_map (λ lines. WhyStep lines) (lines_in fields)) (option_or (why_place symbols fields) (why_since symbols fields))
+why_form symbols fields = option_or (option_map (λ lines. WhyStep lines) (lines_in fields))
+    (option_or (why_place symbols fields) (why_since symbols fields))
 
 -- the word at a place, or so many from there on
 abbrev pub memory_of : Linear → List (List ℕ) → Option ExtendedLine
@@ -176,7 +181,8 @@ abbrev pub channel_form : SymbolTable → ExtendedForm
 channel_form symbols fields = option_map (λ c. Common (Channel c)) (option_and_then (channel_named symbols) (sole fields))
 
 abbrev pub memory_form : SymbolTable → ExtendedForm
-memory_form symbols fields = option_or (option_and_then (λ place. memory_of place (after_place fields)) (place_first symbols fields)) (channel_form symbols fields)
+memory_form symbols fields = option_or (option_and_then (λ place. memory_of place (after_place fields)) (place_first symbols fields))
+    (channel_form symbols fields)
 
 -- a place and a number of words, or the usual one where none is named
 abbrev pub count_after : ℕ → List (List ℕ) → Option ℕ
@@ -208,7 +214,8 @@ broken_at breakpoint = Common (Break breakpoint)
 -- an erasable place, and then a word
 abbrev pub watches : SymbolTable → List (List ℕ) → Option ExtendedLine
 watches symbols fields =
-    option_and_then (λ p. option_map (λ w. broken_at (breakpoint.Word p w)) (option_and_then word_in (sole (after_place fields)))) (erasable_first symbols fields)
+    option_and_then (λ p. option_map (λ w. broken_at (breakpoint.Word p w)) (option_and_then word_in (sole (after_place fields))))
+    (erasable_first symbols fields)
 
 -- a channel, a word and a mask, where each stands
 abbrev pub bits_of : Option ℕ → Option ℕ → Option ℕ → Option ExtendedLine
@@ -302,7 +309,8 @@ abbrev pub extended_in : SymbolTable → List ℕ → List Piece → ExtendedLin
 extended_in symbols line [] = Plain Nothing
 extended_in symbols line (name ∷ more) =
     if same_name name.text (codes "echo") then echoed line (name ∷ more)
-    else or_plain (option_and_then (λ form. form (texts more)) (value_in (extended_forms symbols) name.text)) (in_words symbols name.text (texts more) (parsed_in symbols line (name ∷ more)))
+    else or_plain (option_and_then (λ form. form (texts more)) (value_in (extended_forms symbols) name.text))
+    (in_words symbols name.text (texts more) (parsed_in symbols line (name ∷ more)))
 
 -- what a line asks for
 unfoldable pub extended_line : SymbolTable → List ℕ → ExtendedLine

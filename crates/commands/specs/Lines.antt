@@ -1,5 +1,6 @@
 -- Lines taken off commands.
-use Rattle.std.specs.Prelude.{◌≡◌, ℕ, ◌+◌, ◌≤◌, ◌<◌, nat_lt, Bool, true, false, List, ◌∷◌, ◌++◌, length, take, Option, None, Some, Result, Ok, Err, if◌then◌else◌}
+use Rattle.std.specs.Prelude.{◌≡◌, ℕ, ◌+◌, ◌≤◌, ◌<◌, nat_lt, Bool, true, false, List, ◌∷◌, ◌++◌, length, take, Option, None, Some, Result}
+use Rattle.std.specs.Prelude.{Ok, Err, if◌then◌else◌}
 use Rattle.agc_text.specs.Bytes.{line_feed}
 use Rattle.agc_text.specs.Lines.{lines, HasNoFeed}
 use Rattle.commands.specs.declared.reading.DeviceFault.{DeviceFault}

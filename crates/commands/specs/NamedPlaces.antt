@@ -1,6 +1,7 @@
 -- Places as an extended session takes them: as any session, by a register's or a counter's name, as a listing has
 -- them, and moved on.
-use Rattle.std.specs.Prelude.{ℕ, ◌+◌, ◌*◌, ◌%◌, ◌==◌, nat_lt, nat_le, Bool, List, [], ◌∷◌, take, drop, Option, None, Some, is_some, codes, if◌then◌else◌, option_and_then}
+use Rattle.std.specs.Prelude.{ℕ, ◌+◌, ◌*◌, ◌%◌, ◌==◌, nat_lt, nat_le, Bool, List, [], ◌∷◌, take, drop, Option, None, Some, is_some, codes}
+use Rattle.std.specs.Prelude.{if◌then◌else◌, option_and_then}
 use Rattle.std.specs.Option.{option_map, option_or}
 use Rattle.agc_text.specs.Digits.{number_of}
 use Rattle.agc_text.specs.Tables.{same_name, value_in}
@@ -82,7 +83,8 @@ words_on field = number_of 8 5 (drop 1 field)
 -- a place that is moved on by a field after it, where this begins with a plus sign
 abbrev pub moved_by : Option Linear → List (List ℕ) → Option Linear
 moved_by place [] = place
-moved_by place (field ∷ more) = if begins_with_plus field then option_and_then (λ k. option_and_then (moved_on k) place) (words_on field) else place
+moved_by place (field ∷ more) = if begins_with_plus field then option_and_then (λ k. option_and_then (moved_on k) place) (words_on field)
+    else place
 
 -- the place that some fields begin with, and the fields after it
 abbrev pub place_first : SymbolTable → List (List ℕ) → Option Linear

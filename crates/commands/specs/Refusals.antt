@@ -1,5 +1,6 @@
 -- What an extended session says of a line that is no command.
-use Rattle.std.specs.Prelude.{ℕ, ◌&&◌, ◌||◌, not, Bool, false, true, List, [], ◌∷◌, ◌++◌, take, drop, find, Option, None, Some, is_some, codes, if◌then◌else◌}
+use Rattle.std.specs.Prelude.{ℕ, ◌&&◌, ◌||◌, not, Bool, false, true, List, [], ◌∷◌, ◌++◌, take, drop, find, Option, None, Some, is_some}
+use Rattle.std.specs.Prelude.{codes, if◌then◌else◌}
 use Rattle.std.specs.Option.{option_map_or}
 use Rattle.agc_text.specs.Digits.{digits_value}
 use Rattle.agc_text.specs.Tables.{same_name, value_in}
@@ -14,7 +15,8 @@ use Rattle.commands.specs.Usages.{Usage, usages}
 -- a command that begins with a place
 abbrev pub begins_with_place : List ℕ → Bool
 begins_with_place name =
-    same_name name (codes "mem") || same_name name (codes "last") || same_name name (codes "why") || same_name name (codes "list") || same_name name (codes "value")
+    same_name name (codes "mem") || same_name name (codes "last") || same_name name (codes "why") || same_name name (codes "list")
+    || same_name name (codes "value")
 
 -- the field that names a place
 abbrev pub breakpoint_place_field : List ℕ → List (List ℕ) → Option (List ℕ)
@@ -30,7 +32,8 @@ place_field name (field ∷ more) =
 
 -- it names none, and is no symbol and no channel
 abbrev pub is_no_symbol : SymbolTable → List ℕ → Bool
-is_no_symbol symbols field = not (is_some (named_place symbols field)) && not (is_some (value_in symbols field)) && not (is_some (channel_named symbols field))
+is_no_symbol symbols field = not (is_some (named_place symbols field)) && not (is_some (value_in symbols field))
+    && not (is_some (channel_named symbols field))
 
 -- the symbol that is missing
 abbrev pub missing_symbol : SymbolTable → Option (List ℕ) → Option (List ℕ)
@@ -40,7 +43,8 @@ missing_symbol symbols (Some field) = if is_no_symbol symbols field then Some fi
 -- the field that names an erasable place alone
 abbrev pub erasable_breakpoint_field : List ℕ → List (List ℕ) → Option (List ℕ)
 erasable_breakpoint_field kind [] = None
-erasable_breakpoint_field kind (field ∷ more) = if same_name kind (codes "word") || same_name kind (codes "change") then Some field else None
+erasable_breakpoint_field kind (field ∷ more) = if same_name kind (codes "word")
+    || same_name kind (codes "change") then Some field else None
 
 abbrev pub erasable_field : List ℕ → List (List ℕ) → Option (List ℕ)
 erasable_field name [] = None
@@ -90,20 +94,24 @@ is_octal text = is_some (digits_value 8 text)
 abbrev pub is_numbered : List ℕ → Bool
 is_numbered field =
     is_octal field
-    || (is_octal (if same_name (take 1 field) (codes "E") then drop 1 (before_comma field) else before_comma field) && is_octal (after_comma field))
+    || (is_octal (if same_name (take 1 field) (codes "E") then drop 1 (before_comma field) else before_comma field)
+    && is_octal (after_comma field))
 
 -- what is said of a field that names no place
 abbrev pub no_such : List ℕ → List ℕ
 no_such field =
-    if is_numbered field then codes "no place " ++ field ++ codes ": places are octal, to 7777, or BANK,OFFSET to 47,1777, or as a listing has them"
+    if is_numbered field then codes "no place " ++ field
+    ++ codes ": places are octal, to 7777, or BANK,OFFSET to 47,1777, or as a listing has them"
     else codes "no symbol " ++ field
 
 -- why a line has no form of its command
 abbrev pub wrong_form : SymbolTable → List ℕ → List (List ℕ) → List ℕ → List ℕ
 wrong_form symbols name fields takes =
-    option_map_or (λ field. codes "numbers of places, channels and words are octal, and " ++ field ++ codes " has a digit 8 or 9") (find (is_no_octal symbols) (octal_fields name fields))
+    option_map_or (λ field. codes "numbers of places, channels and words are octal, and " ++ field ++ codes " has a digit 8 or 9")
+    (find (is_no_octal symbols) (octal_fields name fields))
     (option_map_or no_such (missing_symbol symbols (place_field name fields))
-    (option_map_or (λ field. field ++ codes " is in fixed memory, whose words never change") (fixed_field symbols (erasable_field name fields)) (name ++ codes " takes " ++ takes)))
+    (option_map_or (λ field. field ++ codes " is in fixed memory, whose words never change")
+    (fixed_field symbols (erasable_field name fields)) (name ++ codes " takes " ++ takes)))
 
 -- why a line is no command
 abbrev pub wrong_command : SymbolTable → List ℕ → List (List ℕ) → Option Usage → List ℕ

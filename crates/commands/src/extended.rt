@@ -7,7 +7,14 @@ ghost use Rattle.agc_text.specs.Tables.{value_in};
 ghost use Rattle.commands.specs.Lines.{kept_line};
 ghost use Rattle.commands.specs.Commands.{count_in};
 ghost use Rattle.commands.specs.declared.extended.ExtendedLine.TheVariants as asked;
-ghost use Rattle.commands.specs.Extended.{extended_forms, most_count, sole, with_none, with_word, with_field, with_field_or, help_in, few_in, counted_links, links_in, why_of, why_place, why_form, memory_of, channel_form, memory_form, count_after, counted_place, with_counted_place, usual_links, if_none, place_alone, last_form, broken_at, watches, bits_of, watches_bits, subject_alone, break_form, in_words, behind_blank, echoed, extended_in, extended_line, steps_in, telling, places_in, lines_in, word_alone, stepped_in, word_then, links_then, since_in, index_told, since_of, why_since};
+ghost use Rattle.commands.specs.Extended.{extended_forms, most_count, sole, with_none, with_word, with_field};
+ghost use Rattle.commands.specs.Extended.{with_field_or, help_in, few_in, counted_links, links_in, why_of, why_place};
+ghost use Rattle.commands.specs.Extended.{why_form, memory_of, channel_form, memory_form, count_after, counted_place};
+ghost use Rattle.commands.specs.Extended.{with_counted_place, usual_links, if_none, place_alone, last_form, broken_at};
+ghost use Rattle.commands.specs.Extended.{watches, bits_of, watches_bits, subject_alone, break_form, in_words};
+ghost use Rattle.commands.specs.Extended.{behind_blank, echoed, extended_in, extended_line, steps_in, telling};
+ghost use Rattle.commands.specs.Extended.{places_in, lines_in, word_alone, stepped_in, word_then, links_then, since_in};
+ghost use Rattle.commands.specs.Extended.{index_told, since_of, why_since};
 
 use crate::command::{Breakpoint, Command, ParsedLine};
 use crate::fields::{channel_in, count_in, is_word};
@@ -178,7 +185,8 @@ fn behind_blank(text: &[u8]) -> &[u8]
 #[tactic(auto, unfolding(crate::specs::Extended::extended_forms))]
 fn command_in(symbols: &Symbols, name: &[u8], rest: &[u8]) -> Option<ExtendedLine>
     requires { All (λ field. length field ≤ 80) (texts (runs rest.now)) }
-    ensures { result ≡ option_and_then (λ form. form (texts (runs rest.now))) (value_in (extended_forms symbols.now) name.now) }
+    ensures { result ≡ option_and_then (λ form. form (texts (runs rest.now)))
+        (value_in (extended_forms symbols.now) name.now) }
 {
     if is_word(name, "on") {
         steps_in(rest).map(ExtendedLine::On)
@@ -197,7 +205,8 @@ fn command_in(symbols: &Symbols, name: &[u8], rest: &[u8]) -> Option<ExtendedLin
 #[tactic(auto, unfolding(crate::specs::Extended::extended_forms))]
 fn still_command_in(symbols: &Symbols, name: &[u8], rest: &[u8]) -> Option<ExtendedLine>
     requires { All (λ field. length field ≤ 80) (texts (runs rest.now)) }
-    ensures { result ≡ option_and_then (λ form. form (texts (runs rest.now))) (value_in (drop 4 (extended_forms symbols.now)) name.now) }
+    ensures { result ≡ option_and_then (λ form. form (texts (runs rest.now)))
+        (value_in (drop 4 (extended_forms symbols.now)) name.now) }
 {
     if is_word(name, "why") {
         why_form(symbols, rest)
@@ -224,7 +233,8 @@ fn still_command_in(symbols: &Symbols, name: &[u8], rest: &[u8]) -> Option<Exten
 #[tactic(auto, unfolding(crate::specs::Extended::extended_forms))]
 fn row_command_in(symbols: &Symbols, name: &[u8], rest: &[u8]) -> Option<ExtendedLine>
     requires { All (λ field. length field ≤ 80) (texts (runs rest.now)) }
-    ensures { result ≡ option_and_then (λ form. form (texts (runs rest.now))) (value_in (drop 12 (extended_forms symbols.now)) name.now) }
+    ensures { result ≡ option_and_then (λ form. form (texts (runs rest.now)))
+        (value_in (drop 12 (extended_forms symbols.now)) name.now) }
 {
     if is_word(name, "inputs") {
         with_none(ExtendedLine::Inputs, rest)
@@ -249,7 +259,8 @@ fn row_command_in(symbols: &Symbols, name: &[u8], rest: &[u8]) -> Option<Extende
 #[tactic(auto, unfolding(crate::specs::Extended::extended_forms))]
 fn state_command_in(symbols: &Symbols, name: &[u8], rest: &[u8]) -> Option<ExtendedLine>
     requires { All (λ field. length field ≤ 80) (texts (runs rest.now)) }
-    ensures { result ≡ option_and_then (λ form. form (texts (runs rest.now))) (value_in (drop 19 (extended_forms symbols.now)) name.now) }
+    ensures { result ≡ option_and_then (λ form. form (texts (runs rest.now)))
+        (value_in (drop 19 (extended_forms symbols.now)) name.now) }
 {
     if is_word(name, "chans") {
         with_none(ExtendedLine::Channels, rest)
@@ -387,7 +398,8 @@ fn why_form(symbols: &Symbols, rest: &[u8]) -> Option<ExtendedLine>
 // `why` of an erasable place or a channel, by all steps or since one.
 fn why_of_place(symbols: &Symbols, rest: &[u8]) -> Option<ExtendedLine>
     requires { All (λ field. length field ≤ 80) (texts (runs rest.now)) }
-    ensures { result ≡ option_or (why_place symbols.now (texts (runs rest.now))) (why_since symbols.now (texts (runs rest.now))) }
+    ensures { result ≡ option_or (why_place symbols.now (texts (runs rest.now)))
+        (why_since symbols.now (texts (runs rest.now))) }
 {
     match why_place(symbols, rest) {
         Some(request) => Some(request),
@@ -617,7 +629,8 @@ fn memory_of(place: Linear, rest: &[u8]) -> Option<ExtendedLine>
 // What `list` takes.
 fn list_form(symbols: &Symbols, rest: &[u8]) -> Option<ExtendedLine>
     requires { All (λ field. length field ≤ 80) (texts (runs rest.now)) }
-    ensures { result ≡ with_counted_place symbols.now usual_links (λ place k. asked.Listed place k) (texts (runs rest.now)) }
+    ensures { result ≡ with_counted_place symbols.now usual_links (λ place k. asked.Listed place k)
+        (texts (runs rest.now)) }
 {
     let (place, count) = counted_place(symbols, rest, USUAL_LINKS)?;
     Some(ExtendedLine::Listed(place, count))

@@ -4,7 +4,9 @@ ghost use Rattle.std.specs.Prelude.{◌≡◌, ◌≤◌, ◌==◌, All, IfSome,
 ghost use Rattle.agc_text.specs.Fields.{runs, texts};
 ghost use Rattle.agc_text.specs.Tables.{value_in};
 ghost use Rattle.space.specs.Places.{window};
-ghost use Rattle.commands.specs.NamedPlaces.{registers, in_erasable_bank, in_fixed_bank, erasable_bank_in, place_of_bank, listed_place, unnamed_place, further_place, named_place, own_place, moved_on, begins_with_plus, words_on, place_first, after_place};
+ghost use Rattle.commands.specs.NamedPlaces.{registers, in_erasable_bank, in_fixed_bank, erasable_bank_in};
+ghost use Rattle.commands.specs.NamedPlaces.{place_of_bank, listed_place, unnamed_place, further_place, named_place};
+ghost use Rattle.commands.specs.NamedPlaces.{own_place, moved_on, begins_with_plus, words_on, place_first, after_place};
 
 use crate::fields::{OCTAL_DIGITS, bank_in, is_word};
 use crate::places::{fixed_place_in, numbered_place, place_in};
@@ -31,7 +33,8 @@ pub(crate) fn place_first(symbols: &Symbols, rest: &[u8]) -> Option<Linear>
 
 // A place, moved on by a field that begins with a plus sign.
 fn moved_by(place: Option<Linear>, field: &[u8]) -> Option<Linear>
-    ensures { result ≡ (if begins_with_plus field.now then option_and_then (λ k. option_and_then (moved_on k) place) (words_on field.now) else place) }
+    ensures { result ≡ (if begins_with_plus field.now then option_and_then (λ k. option_and_then (moved_on k) place)
+        (words_on field.now) else place) }
 {
     if !begins_with_plus(field) {
         return place;
@@ -58,7 +61,8 @@ pub(crate) fn after_place(rest: &[u8]) -> &[u8]
     }
 }
 
-/// A place as any session takes it; where no symbol has the name, by a register's or a counter's, or as a listing has it.
+/// A place as any session takes it; where no symbol has the name, by a register's or a counter's, or as a listing has
+/// it.
 pub fn named_place(symbols: &Symbols, field: &[u8]) -> Option<Linear>
     ensures { result ≡ named_place symbols.now field.now }
 {
@@ -71,7 +75,8 @@ pub fn named_place(symbols: &Symbols, field: &[u8]) -> Option<Linear>
     further_place(field)
 }
 
-/// A place for which no symbol is needed: a number's, a bank and an offset as `02,0013`, or as a listing has it, as `02,4013` and
+/// A place for which no symbol is needed: a number's, a bank and an offset as `02,0013`, or as a listing has it, as
+/// `02,4013` and
 /// `E3,1400`.
 pub fn unnamed_place(field: &[u8]) -> Option<Linear>
     ensures { result ≡ unnamed_place field.now }

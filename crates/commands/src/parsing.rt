@@ -119,7 +119,8 @@ fn command_of_one(symbols: &Symbols, name: &[u8], field: &[u8]) -> Option<Comman
 // The command of a name and two fields.
 #[tactic(auto, unfolding(crate::specs::Commands::forms))]
 fn command_of_two(symbols: &Symbols, name: &[u8], first: &[u8], second: &[u8]) -> Option<Command>
-    ensures { result ≡ option_and_then (λ form. form (first.now ∷ second.now ∷ [])) (value_in (forms symbols.now) name.now) }
+    ensures { result ≡ option_and_then (λ form. form (first.now ∷ second.now ∷ []))
+        (value_in (forms symbols.now) name.now) }
 {
     if is_word(name, "break") && is_word(first, "at") {
         match place_in(symbols, second) {
@@ -140,7 +141,8 @@ fn command_of_three(
     watched: &[u8],
     word: &[u8],
 ) -> Option<Command>
-    ensures { result ≡ option_and_then (λ form. form (kind.now ∷ watched.now ∷ word.now ∷ [])) (value_in (forms symbols.now) name.now) }
+    ensures { result ≡ option_and_then (λ form. form (kind.now ∷ watched.now ∷ word.now ∷ []))
+        (value_in (forms symbols.now) name.now) }
 {
     if is_word(name, "break") {
         break_word(symbols, kind, watched, word)

@@ -3,7 +3,8 @@
 ghost use Rattle.std.specs.Prelude.{◌≡◌, option_and_then};
 ghost use Rattle.std.specs.Option.{option_map};
 ghost use Rattle.space.specs.declared.place.Linear.TheVariants as Place;
-ghost use Rattle.commands.specs.Commands.{numbered_place, symbol_place, fixed_place_in, place_in, erasable_number, erasable_in, bank_in, offset_in};
+ghost use Rattle.commands.specs.Commands.{numbered_place, symbol_place, fixed_place_in, place_in, erasable_number};
+ghost use Rattle.commands.specs.Commands.{erasable_in, bank_in, offset_in};
 
 use crate::fields::{OCTAL_DIGITS, bank_in, offset_in};
 use agc_text::{length_before_byte, octal};
@@ -63,7 +64,8 @@ pub(crate) fn fixed_place_in(field: &[u8]) -> Option<Linear>
 
 // A bank and an offset.
 fn fixed_place_of(bank: &[u8], offset: &[u8]) -> Option<Linear>
-    ensures { result ≡ option_and_then (λ b. option_map (λ o. Place.Fixed b o) (offset_in offset.now)) (bank_in bank.now) }
+    ensures { result ≡ option_and_then (λ b. option_map (λ o. Place.Fixed b o) (offset_in offset.now))
+        (bank_in bank.now) }
 {
     match bank_in(bank) {
         Some(number) => match offset_in(offset) {

@@ -1,9 +1,12 @@
 //! Lines of commands from a reader.
 
-ghost use Rattle.std.specs.Prelude.{◌≡◌, ◌↔◌, ◌+◌, ◌<◌, ◌≤◌, [], ◌∷◌, ◌++◌, true, false, Ok, Err, None, Some, OnErr, OnOk, IfOk, IfErr, IfNone, MatchOption, length, take, codes, decimal, if◌then◌else◌};
+ghost use Rattle.std.specs.Prelude.{◌≡◌, ◌↔◌, ◌+◌, ◌<◌, ◌≤◌, [], ◌∷◌, ◌++◌, true, false, Ok, Err, None, Some, OnErr};
+ghost use Rattle.std.specs.Prelude.{OnOk, IfOk, IfErr, IfNone, MatchOption, length, take, codes, decimal};
+ghost use Rattle.std.specs.Prelude.{if◌then◌else◌};
 ghost use Rattle.words.specs.Devices.{one_more, failures_after};
 ghost use Rattle.agc_text.specs.Lines.{HasNoFeed};
-ghost use Rattle.commands.specs.Lines.{KeepsLine, EndsNoLine, ReadsWithin, IsToWait, text_ahead, most_ahead, is_read_failed, is_write_failed, number_of};
+ghost use Rattle.commands.specs.Lines.{KeepsLine, EndsNoLine, ReadsWithin, IsToWait, text_ahead, most_ahead};
+ghost use Rattle.commands.specs.Lines.{is_read_failed, is_write_failed, number_of};
 
 use crate::line::CommandLine;
 use std::fmt;
@@ -46,8 +49,8 @@ impl std::error::Error for DeviceFault {}
 
 /// Takes lines off the first bytes of a reader, as many as it is made for.
 ///
-/// The bytes are asked for some 4,000 at once, and only where no line is left of those before; what was written is handed
-/// on before that. So whoever waits for replies at the other end has those to all lines that were read.
+/// The bytes are asked for some 4,000 at once, and only where no line is left of those before; what was written is
+/// handed on before that. So whoever waits for replies at the other end has those to all lines that were read.
 #[derive(Drop)]
 pub struct LineReader {
     chunk: [u8; CHUNK],
@@ -84,31 +87,39 @@ impl LineReader {
         }
     }
 
-    /// Takes the next line off, and answers whether there is one. What was written is handed on before more bytes are asked
-    /// for.
+    /// Takes the next line off, and answers whether there is one. What was written is handed on before more bytes are
+    /// asked for.
     ///
-    /// Lines end with a line feed; a last line without one counts unless it is empty. `ReadFailed` where a read failed: no line
-    /// feed stands in what was read before it. `WriteFailed` where what was written could not be handed on: then nothing was
-    /// read.
+    /// Lines end with a line feed; a last line without one counts unless it is empty. `ReadFailed` where a read failed:
+    /// no line feed stands in what was read before it. `WriteFailed` where what was written could not be handed on:
+    /// then nothing was read.
     pub fn next_line<R: Read, W: Write>(
         &mut self,
         reader: &mut R,
         out: &mut W,
         line: &mut CommandLine,
     ) -> Result<bool, DeviceFault>
-        ensures line { R.told ≡ true → result ≡ Ok true → KeepsLine line.new (text_ahead self.old (R.left reader.old)) (most_ahead self.old) (text_ahead self.new (R.left reader.new)) (most_ahead self.new) }
-        ensures end { R.told ≡ true → result ≡ Ok false → take (most_ahead self.old) (text_ahead self.old (R.left reader.old)) ≡ [] }
+        ensures line { R.told ≡ true → result ≡ Ok true
+            → KeepsLine line.new (text_ahead self.old (R.left reader.old)) (most_ahead self.old)
+            (text_ahead self.new (R.left reader.new)) (most_ahead self.new) }
+        ensures end { R.told ≡ true → result ≡ Ok false
+            → take (most_ahead self.old) (text_ahead self.old (R.left reader.old)) ≡ [] }
         ensures done { result ≡ Ok false → most_ahead self.new ≡ 0 }
-        ensures failed { R.told ≡ true → OnErr result (EndsNoLine (text_ahead self.old (R.left reader.old)) (R.left reader.new)) }
+        ensures failed { R.told ≡ true → OnErr result
+            (EndsNoLine (text_ahead self.old (R.left reader.old)) (R.left reader.new)) }
         ensures asked { OnErr result (0 < most_ahead self.old) }
         ensures less { result ≡ Ok true → most_ahead self.new < most_ahead self.old }
-        ensures reads { R.told ≡ true → ReadsWithin (R.left reader.old) (R.left reader.new) self.old.more self.new.more }
+        ensures reads { R.told ≡ true → ReadsWithin (R.left reader.old) (R.left reader.new) self.old.more
+            self.new.more }
         ensures written { W.told ≡ true → W.written out.new ≡ W.written out.old }
-        ensures read_failures { R.failures reader.new ≡ (if is_read_failed result then one_more (R.failures reader.old) else R.failures reader.old) }
-        ensures write_failures { W.failures out.new ≡ (if is_write_failed result then one_more (W.failures out.old) else W.failures out.old) }
+        ensures read_failures { R.failures reader.new
+            ≡ (if is_read_failed result then one_more (R.failures reader.old) else R.failures reader.old) }
+        ensures write_failures { W.failures out.new
+            ≡ (if is_write_failed result then one_more (W.failures out.old) else W.failures out.old) }
 
         // Where more has to be waited for, all that was written is handed on; where that fails nothing is read.
-        ensures handed_on { W.told ≡ true → IsToWait self.old → is_write_failed result ≡ false → W.handed_on out.new ≡ W.written out.new }
+        ensures handed_on { W.told ≡ true → IsToWait self.old → is_write_failed result ≡ false
+            → W.handed_on out.new ≡ W.written out.new }
         ensures unread { is_write_failed result ≡ true → reader.new ≡ reader.old }
     {
         line.clear();
@@ -143,10 +154,12 @@ impl LineReader {
         ensures byte { R.told ≡ true → IfOk result (λ byte. MatchOption byte
             (take (most_ahead self.old) (text_ahead self.old (R.left reader.old)) ≡ [])
             (λ b. text_ahead self.old (R.left reader.old) ≡ b ∷ text_ahead self.new (R.left reader.new))) }
-        ensures most { IfOk result (λ byte. MatchOption byte (most_ahead self.new ≡ 0) (λ _. most_ahead self.old ≡ most_ahead self.new + 1)) }
+        ensures most { IfOk result (λ byte. MatchOption byte (most_ahead self.new ≡ 0)
+            (λ _. most_ahead self.old ≡ most_ahead self.new + 1)) }
         ensures failed { R.told ≡ true → OnErr result (text_ahead self.old (R.left reader.old) ≡ R.left reader.new) }
         ensures asked { OnErr result (0 < most_ahead self.old) }
-        ensures reads { R.told ≡ true → ReadsWithin (R.left reader.old) (R.left reader.new) self.old.more self.new.more }
+        ensures reads { R.told ≡ true → ReadsWithin (R.left reader.old) (R.left reader.new) self.old.more
+            self.new.more }
         ensures fault { IfErr result (λ fault. fault ≡ DeviceFault.ReadFailed) }
         ensures failures { R.failures reader.new ≡ failures_after (R.failures reader.old) result }
     {
@@ -176,11 +189,13 @@ impl LineReader {
         requires { self.old.held ≡ [] }
         ensures held { R.told ≡ true → OnOk result (R.left reader.old ≡ self.new.held ++ R.left reader.new) }
         ensures end { R.told ≡ true → OnOk result (self.new.held ≡ [] → take self.old.more (R.left reader.old) ≡ []) }
-        ensures counted { OnOk result (0 < length self.new.held → self.old.more ≡ length self.new.held + self.new.more) }
+        ensures counted { OnOk result (0 < length self.new.held
+            → self.old.more ≡ length self.new.held + self.new.more) }
         ensures done { OnOk result (self.new.held ≡ [] → self.new.more ≡ 0) }
         ensures failed { R.told ≡ true → OnErr result (R.left reader.new ≡ R.left reader.old) }
         ensures asked { OnErr result (0 < self.old.more) }
-        ensures reads { R.told ≡ true → ReadsWithin (R.left reader.old) (R.left reader.new) self.old.more self.new.more }
+        ensures reads { R.told ≡ true → ReadsWithin (R.left reader.old) (R.left reader.new) self.old.more
+            self.new.more }
         ensures fault { IfErr result (λ fault. fault ≡ DeviceFault.ReadFailed) }
         ensures failures { R.failures reader.new ≡ failures_after (R.failures reader.old) result }
     {

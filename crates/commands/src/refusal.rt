@@ -4,7 +4,10 @@ ghost use Rattle.std.specs.Prelude.{◌≡◌, ◌+◌, ◌≤◌, ◌++◌, All
 ghost use Rattle.std.specs.Option.{option_map};
 ghost use Rattle.agc_text.specs.Fields.{runs, texts};
 ghost use Rattle.commands.specs.Commands.{before_comma, after_comma};
-ghost use Rattle.commands.specs.Refusals.{begins_with_place, breakpoint_place_field, place_field, is_no_symbol, missing_symbol, erasable_breakpoint_field, erasable_field, is_in_fixed_memory, fixed_field, octal_fields, is_beyond_octal, is_no_octal, is_octal, is_numbered, no_such, wrong_form, refusal_line};
+ghost use Rattle.commands.specs.Refusals.{begins_with_place, breakpoint_place_field, place_field, is_no_symbol};
+ghost use Rattle.commands.specs.Refusals.{missing_symbol, erasable_breakpoint_field, erasable_field};
+ghost use Rattle.commands.specs.Refusals.{is_in_fixed_memory, fixed_field, octal_fields, is_beyond_octal, is_no_octal};
+ghost use Rattle.commands.specs.Refusals.{is_octal, is_numbered, no_such, wrong_form, refusal_line};
 
 use crate::fields::is_word;
 use crate::named_places::{begins_with_plus, named_place};
@@ -101,7 +104,8 @@ fn is_octal(text: &[u8]) -> bool
 // The first of the fields in which octal numbers stand that is none.
 fn number_not_octal<'a>(symbols: &Symbols, name: &[u8], rest: &'a [u8]) -> Option<&'a [u8]>
     requires { All (λ field. length field ≤ 80) (texts (runs rest.now)) }
-    ensures field { option_map (λ field. field.now) result ≡ find (is_no_octal symbols.now) (octal_fields name.now (texts (runs rest.now))) }
+    ensures field { option_map (λ field. field.now) result
+        ≡ find (is_no_octal symbols.now) (octal_fields name.now (texts (runs rest.now))) }
     ensures short { IfSome result (λ field. length field.now ≤ 80) }
 {
     let (first, more) = split_field(rest)?;
@@ -127,7 +131,8 @@ fn number_not_octal<'a>(symbols: &Symbols, name: &[u8], rest: &'a [u8]) -> Optio
 // The first of three fields that is no octal number.
 fn first_not_octal<'a>(symbols: &Symbols, rest: &'a [u8]) -> Option<&'a [u8]>
     requires { All (λ field. length field ≤ 80) (texts (runs rest.now)) }
-    ensures field { option_map (λ field. field.now) result ≡ find (is_no_octal symbols.now) (take 3 (texts (runs rest.now))) }
+    ensures field { option_map (λ field. field.now) result
+        ≡ find (is_no_octal symbols.now) (take 3 (texts (runs rest.now))) }
     ensures short { IfSome result (λ field. length field.now ≤ 80) }
 {
     let (first, rest) = split_field(rest)?;
@@ -170,7 +175,8 @@ fn is_beyond_octal(text: &[u8]) -> bool
 // The symbol that is missing where a place is named.
 fn missing_symbol<'a>(symbols: &Symbols, name: &[u8], rest: &'a [u8]) -> Option<&'a [u8]>
     requires { All (λ field. length field ≤ 80) (texts (runs rest.now)) }
-    ensures symbol { option_map (λ symbol. symbol.now) result ≡ missing_symbol symbols.now (place_field name.now (texts (runs rest.now))) }
+    ensures symbol { option_map (λ symbol. symbol.now) result
+        ≡ missing_symbol symbols.now (place_field name.now (texts (runs rest.now))) }
     ensures short { IfSome result (λ symbol. length symbol.now ≤ 80) }
 {
     match place_field(name, rest) {
@@ -232,7 +238,8 @@ fn breakpoint_place_field<'a>(kind: &[u8], rest: &'a [u8]) -> Option<&'a [u8]>
 // The field that names an erasable place alone, where it names one of fixed memory.
 fn fixed_field<'a>(symbols: &Symbols, name: &[u8], rest: &'a [u8]) -> Option<&'a [u8]>
     requires { All (λ field. length field ≤ 80) (texts (runs rest.now)) }
-    ensures field { option_map (λ field. field.now) result ≡ fixed_field symbols.now (erasable_field name.now (texts (runs rest.now))) }
+    ensures field { option_map (λ field. field.now) result
+        ≡ fixed_field symbols.now (erasable_field name.now (texts (runs rest.now))) }
     ensures short { IfSome result (λ field. length field.now ≤ 80) }
 {
     match erasable_field(name, rest) {
@@ -267,7 +274,8 @@ fn erasable_field<'a>(name: &[u8], rest: &'a [u8]) -> Option<&'a [u8]>
 // The field of `break` that names an erasable place alone.
 fn erasable_breakpoint_field<'a>(kind: &[u8], rest: &'a [u8]) -> Option<&'a [u8]>
     requires { All (λ field. length field ≤ 80) (texts (runs rest.now)) }
-    ensures field { option_map (λ field. field.now) result ≡ erasable_breakpoint_field kind.now (texts (runs rest.now)) }
+    ensures field { option_map (λ field. field.now) result
+        ≡ erasable_breakpoint_field kind.now (texts (runs rest.now)) }
     ensures short { IfSome result (λ field. length field.now ≤ 80) }
 {
     let (field, _) = split_field(rest)?;

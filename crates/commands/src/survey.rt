@@ -5,7 +5,8 @@ ghost use Rattle.std.specs.Option.{option_map};
 ghost use Rattle.agc_text.specs.Fields.{runs, texts};
 ghost use Rattle.arrayvec.specs.ArrayVec.{array_vec_len};
 ghost use Rattle.commands.specs.Extended.{if_none};
-ghost use Rattle.commands.specs.Surveys.{most_surveyed, most_buckets, steps_from, buckets_in, subject_then, subjects_in, survey_in};
+ghost use Rattle.commands.specs.Surveys.{most_surveyed, most_buckets, steps_from, buckets_in, subject_then};
+ghost use Rattle.commands.specs.Surveys.{subjects_in, survey_in};
 
 use crate::fields::count_in;
 use crate::named_places::after_place;
@@ -172,7 +173,8 @@ fn if_all_read(left: &[u8], subjects: Subjects) -> Option<Subjects>
 // The erasable place or, where no symbol has the name, the channel that some fields begin with, and what is left.
 fn subject_then<'a>(symbols: &Symbols, rest: &'a [u8]) -> Option<(Subject, &'a [u8])>
     requires { All (λ field. length field ≤ 80) (texts (runs rest.now)) }
-    ensures found { option_map (λ r. (r.0, texts (runs r.1.now))) result ≡ subject_then symbols.now (texts (runs rest.now)) }
+    ensures found { option_map (λ r. (r.0, texts (runs r.1.now))) result
+        ≡ subject_then symbols.now (texts (runs rest.now)) }
     ensures short { IfSome result (λ r. All (λ field. length field ≤ 80) (texts (runs r.1.now))) }
 {
     let (field, more) = split_field(rest)?;

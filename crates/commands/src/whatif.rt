@@ -4,7 +4,8 @@ ghost use Rattle.std.specs.Prelude.{◌≡◌};
 ghost use Rattle.agc_text.specs.Fields.{runs, texts};
 ghost use Rattle.agc_text.specs.Tables.{value_in};
 ghost use Rattle.feed.specs.Names.{sequences};
-ghost use Rattle.feed.specs.Statements.{channel_in as input_channel_in, formed, long_input, pulse_of, request_in, short_input};
+ghost use Rattle.feed.specs.Statements.{channel_in as input_channel_in, formed, long_input, pulse_of, request_in};
+ghost use Rattle.feed.specs.Statements.{short_input};
 ghost use Rattle.commands.specs.WhatIfs.{tried_in, tried_of_three, usual_steps, whatif_form};
 
 use crate::command::ParsedLine;

@@ -1,5 +1,6 @@
 -- Each account stands once among all.
-use Rattle.std.proofs.Common.{◌≡◌, ◌≢◌, ℕ, zero, suc, ◌+◌, ◌*◌, ◌<◌, ◌≤◌, ◌==◌, ◌&&◌, nat_lt, true, false, List, [], ◌∷◌, ◌++◌, map, refl, ap, ◌∙◌, inl, inr, arith}
+use Rattle.std.proofs.Common.{◌≡◌, ◌≢◌, ℕ, zero, suc, ◌+◌, ◌*◌, ◌<◌, ◌≤◌, ◌==◌, ◌&&◌, nat_lt, true, false, List, [], ◌∷◌, ◌++◌, map, refl}
+use Rattle.std.proofs.Common.{ap, ◌∙◌, inl, inr, arith}
 use Rattle.std.proofs.lemmas.Bool.{eqb-true, eqb-false, and_parts, ltb-true, lt-ltb}
 use Rattle.std.proofs.lemmas.Bool.Decides.{eqb_tells, nat_tests}
 use Rattle.std.specs.List.{range_with_len, flat_map}
@@ -15,7 +16,8 @@ times_append a [] ys = omega arith
 times_append a (x ∷ xs) ys = let rest = times_append a xs ys in omega (arith, rest)
 
 -- in a range of which no number gives the account
-none_in : (a : Account) (f : ℕ → Account) (from n : ℕ) → ((j : ℕ) → from ≤ j → j < from + n → same_account (f j) a ≡ false) → times_in a (map f (range_with_len from n)) ≡ 0
+none_in : (a : Account) (f : ℕ → Account) (from n : ℕ) → ((j : ℕ) → from ≤ j → j < from + n → same_account (f j) a ≡ false)
+    → times_in a (map f (range_with_len from n)) ≡ 0
 none_in a f from zero apart = refl
 none_in a f from (suc n) apart =
     let first : same_account (f from) a ≡ false = apart from (omega arith) (omega arith) in
@@ -23,7 +25,8 @@ none_in a f from (suc n) apart =
     rw (first, rest) refl
 
 -- in a range of which one number gives it
-one_in : (a : Account) (f : ℕ → Account) (x from n : ℕ) → same_account (f x) a ≡ true → ((j : ℕ) → j ≢ x → same_account (f j) a ≡ false) → from ≤ x → x < from + n
+one_in : (a : Account) (f : ℕ → Account) (x from n : ℕ) → same_account (f x) a ≡ true → ((j : ℕ) → j ≢ x → same_account (f j) a ≡ false)
+    → from ≤ x → x < from + n
     → times_in a (map f (range_with_len from n)) ≡ 1
 one_in a f x from zero hit miss h lt = absurd (omega (arith, h, lt))
 one_in a f x from (suc n) hit miss h lt =
@@ -38,7 +41,8 @@ one_in a f x from (suc n) hit miss h lt =
     ]
 
 -- the same of a range whose numbers give lists
-pub none_of : (a : Account) (f : ℕ → List Account) (from n : ℕ) → ((j : ℕ) → from ≤ j → j < from + n → times_in a (f j) ≡ 0) → times_in a (flat_map f (range_with_len from n)) ≡ 0
+pub none_of : (a : Account) (f : ℕ → List Account) (from n : ℕ) → ((j : ℕ) → from ≤ j → j < from + n → times_in a (f j) ≡ 0)
+    → times_in a (flat_map f (range_with_len from n)) ≡ 0
 none_of a f from zero apart = refl
 none_of a f from (suc n) apart =
     let first = apart from (omega arith) (omega arith) in
@@ -46,7 +50,8 @@ none_of a f from (suc n) apart =
     let both = times_append a (f from) (flat_map f (range_with_len (from + 1) n)) in
     omega (arith, first, rest, both)
 
-pub one_of : (a : Account) (f : ℕ → List Account) (x from n : ℕ) → times_in a (f x) ≡ 1 → ((j : ℕ) → j ≢ x → times_in a (f j) ≡ 0) → from ≤ x → x < from + n
+pub one_of : (a : Account) (f : ℕ → List Account) (x from n : ℕ) → times_in a (f x) ≡ 1 → ((j : ℕ) → j ≢ x → times_in a (f j) ≡ 0)
+    → from ≤ x → x < from + n
     → times_in a (flat_map f (range_with_len from n)) ≡ 1
 one_of a f x from zero hit miss h lt = absurd (omega (arith, h, lt))
 one_of a f x from (suc n) hit miss h lt =
@@ -70,7 +75,8 @@ other_number n m apart = grind (arith, nat_tests)
 
 -- places of erasable memory
 pub erasable_once : (p : ℕ) → p < 2048 → times_in (Place (Erasable p)) erasable_accounts ≡ 1
-erasable_once p lt = one_in (Place (Erasable p)) (λ j. Place (Erasable j)) p 0 2048 (same_number p) (λ j apart. other_number j p apart) (omega arith) (omega (arith, lt))
+erasable_once p lt = one_in (Place (Erasable p)) (λ j. Place (Erasable j)) p 0 2048 (same_number p) (λ j apart. other_number j p apart)
+    (omega arith) (omega (arith, lt))
 
 no_bank_erasable : (p bank : ℕ) → times_in (Place (Erasable p)) (bank_accounts bank) ≡ 0
 no_bank_erasable p bank = none_in (Place (Erasable p)) (λ j. Place (Fixed bank j)) 0 1024 (λ j h lt. refl)
@@ -85,24 +91,31 @@ fixed_once bank offset lt =
     (λ j apart. rw (same_number bank, other_number j offset apart) refl) (omega arith) (omega (arith, lt))
 
 other_bank : (bank offset other : ℕ) → other ≢ bank → times_in (Place (Fixed bank offset)) (bank_accounts other) ≡ 0
-other_bank bank offset other apart = none_in (Place (Fixed bank offset)) (λ j. Place (Fixed other j)) 0 1024 (λ j h lt. rw (other_number other bank apart) refl)
+other_bank bank offset other apart = none_in (Place (Fixed bank offset)) (λ j. Place (Fixed other j)) 0 1024
+    (λ j h lt. rw (other_number other bank apart) refl)
 
-banks_once : (bank offset : ℕ) → bank < 40 → offset < 1024 → times_in (Place (Fixed bank offset)) (flat_map bank_accounts (range_with_len 0 40)) ≡ 1
+banks_once : (bank offset : ℕ) → bank < 40 → offset < 1024
+    → times_in (Place (Fixed bank offset)) (flat_map bank_accounts (range_with_len 0 40)) ≡ 1
 banks_once bank offset few lt =
-    one_of (Place (Fixed bank offset)) bank_accounts bank 0 40 (fixed_once bank offset lt) (λ j apart. other_bank bank offset j apart) (omega arith) (omega (arith, few))
+    one_of (Place (Fixed bank offset)) bank_accounts bank 0 40 (fixed_once bank offset lt) (λ j apart. other_bank bank offset j apart)
+    (omega arith) (omega (arith, few))
 
 -- what is served at no place stands among no places
 pub none_erasable : (a : Account) → ((place : Linear) → same_account (Place place) a ≡ false) → times_in a erasable_accounts ≡ 0
 none_erasable a apart = none_in a (λ j. Place (Erasable j)) 0 2048 (λ j h lt. apart (Erasable j))
 
-none_fixed : (a : Account) → ((place : Linear) → same_account (Place place) a ≡ false) → times_in a (flat_map bank_accounts (range_with_len 0 40)) ≡ 0
-none_fixed a apart = none_of a bank_accounts 0 40 (λ bank h lt. none_in a (λ j. Place (Fixed bank j)) 0 1024 (λ j g l. apart (Fixed bank j)))
+none_fixed : (a : Account) → ((place : Linear) → same_account (Place place) a ≡ false)
+    → times_in a (flat_map bank_accounts (range_with_len 0 40)) ≡ 0
+none_fixed a apart = none_of a bank_accounts 0 40
+    (λ bank h lt. none_in a (λ j. Place (Fixed bank j)) 0 1024 (λ j g l. apart (Fixed bank j)))
 
-sum_of_three : (all places k e b first second third : ℕ) → first ≡ k → second ≡ e → third ≡ b → places ≡ second + third → all ≡ first + places → all ≡ k + (e + b)
+sum_of_three : (all places k e b first second third : ℕ) → first ≡ k → second ≡ e → third ≡ b → places ≡ second + third
+    → all ≡ first + places → all ≡ k + (e + b)
 sum_of_three all places k e b first second third p q r s t = omega arith
 
 -- how often an account stands among all
-among_all : (a : Account) (k e b : ℕ) → times_in a (Input ∷ Entry ∷ Waiting ∷ []) ≡ k → times_in a erasable_accounts ≡ e → times_in a (flat_map bank_accounts (range_with_len 0 40)) ≡ b
+among_all : (a : Account) (k e b : ℕ) → times_in a (Input ∷ Entry ∷ Waiting ∷ []) ≡ k → times_in a erasable_accounts ≡ e
+    → times_in a (flat_map bank_accounts (range_with_len 0 40)) ≡ b
     → times_in a all_accounts ≡ k + (e + b)
 unfolding all_accounts
 among_all a k e b first second third =
@@ -115,12 +128,14 @@ once Input known = among_all Input 1 0 0 refl (none_erasable Input (λ place. re
 once Entry known = among_all Entry 1 0 0 refl (none_erasable Entry (λ place. refl)) (none_fixed Entry (λ place. refl))
 once Waiting known = among_all Waiting 1 0 0 refl (none_erasable Waiting (λ place. refl)) (none_fixed Waiting (λ place. refl))
 once (Place (Erasable p)) known =
-    among_all (Place (Erasable p)) 0 1 0 refl (erasable_once p known) (none_of (Place (Erasable p)) bank_accounts 0 40 (λ bank h lt. no_bank_erasable p bank))
+    among_all (Place (Erasable p)) 0 1 0 refl (erasable_once p known)
+    (none_of (Place (Erasable p)) bank_accounts 0 40 (λ bank h lt. no_bank_erasable p bank))
 once (Place (Fixed bank offset)) known =
     among_all (Place (Fixed bank offset)) 0 0 1 refl (no_erasable_fixed bank offset) (banks_once bank offset known.0 known.1)
 
 -- an account is told by its number
-same_place_number : (bank offset c k : ℕ) → offset < 1024 → k < 1024 → (bank == c && offset == k) ≡ false → 1024 * bank + offset ≢ 1024 * c + k
+same_place_number : (bank offset c k : ℕ) → offset < 1024 → k < 1024 → (bank == c && offset == k) ≡ false
+    → 1024 * bank + offset ≢ 1024 * c + k
 same_place_number bank offset c k lt less apart e =
     let first : bank ≡ c = omega (arith, lt, less, e) in
     let second : offset ≡ k = omega (arith, lt, less, e) in

@@ -1,5 +1,6 @@
 -- The figures of a run, step by step.
-use Rattle.std.proofs.Common.{◌≡◌, ℕ, zero, suc, ◌+◌, ◌<◌, ◌≤◌, ◌^◌, true, false, List, length, replicate, get_or, set, refl, sym, ap, ◌∙◌, inl, inr, arith, add-one}
+use Rattle.std.proofs.Common.{◌≡◌, ℕ, zero, suc, ◌+◌, ◌<◌, ◌≤◌, ◌^◌, true, false, List, length, replicate, get_or, set, refl, sym, ap, ◌∙◌}
+use Rattle.std.proofs.Common.{inl, inr, arith, add-one}
 use Rattle.std.proofs.lemmas.Bool.{cases_Bool}
 use Rattle.std.proofs.lemmas.Bool.Decides.{eqb_tells}
 use Rattle.std.proofs.lemmas.List.{get_or-set_same, get_or-set_other, length-replicate, length-set}
@@ -14,7 +15,8 @@ use Rattle.cpu.proofs.TakenLaws.{run-fits}
 use Rattle.cpu.proofs.Profiling.{profile_adds_up}
 use Rattle.cpu.proofs.RunLaws.{cycles-run, rise-next, run-add-one}
 use Rattle.cover.specs.declared.tally.Figures.{Figures}
-use Rattle.cover.specs.Tallies.{AllAddUp, all_accounts, ShownAddUp, shown_accounts, AreSmall, Counts, IsAccount, is_account, account_count, account_number, figures_at, no_figures, one_step_more, profile_of, put_down}
+use Rattle.cover.specs.Tallies.{AllAddUp, all_accounts, ShownAddUp, shown_accounts, AreSmall, Counts, IsAccount, is_account, account_count}
+use Rattle.cover.specs.Tallies.{account_number, figures_at, no_figures, one_step_more, profile_of, put_down}
 use Rattle.cover.proofs.Accounts.{is_one, once, one_is, other_account, same_is_one}
 use Rattle.cover.proofs.ShownAccounts.{shown_once}
 
@@ -64,7 +66,8 @@ more_at : (scenario : Scenario) (n : ℕ) (a : Account) → same_account a (acco
 unfolding count_at cycles_at
 more_at scenario n a same = rw (add-one n, same) refl
 
-as_before_at : (scenario : Scenario) (n : ℕ) (a : Account) → same_account a (account_of scenario (run scenario n)) ≡ false → profile_of scenario (n + 1) a ≡ profile_of scenario n a
+as_before_at : (scenario : Scenario) (n : ℕ) (a : Account) → same_account a (account_of scenario (run scenario n)) ≡ false
+    → profile_of scenario (n + 1) a ≡ profile_of scenario n a
 unfolding count_at cycles_at
 as_before_at scenario n a apart = rw (add-one n, apart, and_nothing (count_at scenario a n), and_nothing (cycles_at scenario a n)) refl
 
@@ -79,8 +82,10 @@ number_within (Place (Fixed bank offset)) known = omega (arith, known.0, known.1
 held_at : (figures : List Figures) (a : Account) → IsAccount a → figures_at figures a ≡ get_or figures (account_number a) no_figures
 held_at figures a known = rw (is_one a known) refl
 
-counted_at : (scenario : Scenario) (n : ℕ) (old : List Figures) (a : Account) → Counts scenario n old → IsAccount a → IsAccount (account_of scenario (run scenario n))
-    → figures_at (put_down old (account_of scenario (run scenario n)) (step_cycles scenario (run scenario n))) a ≡ profile_of scenario (n + 1) a
+counted_at : (scenario : Scenario) (n : ℕ) (old : List Figures) (a : Account) → Counts scenario n old → IsAccount a
+    → IsAccount (account_of scenario (run scenario n))
+    → figures_at (put_down old (account_of scenario (run scenario n)) (step_cycles scenario (run scenario n))) a
+    ≡ profile_of scenario (n + 1) a
 counted_at scenario n old a before known here =
     let b = account_of scenario (run scenario n) in
     let cycles = step_cycles scenario (run scenario n) in
@@ -98,7 +103,8 @@ counted_at scenario n old a before known here =
           ∙ sym (held_at old a known) ∙ before.profile a known ∙ sym (as_before_at scenario n a apart)
     ]
 
-known_more : (scenario : Scenario) (n : ℕ) → ((t : ℕ) → t < n → IsAccount (account_of scenario (run scenario t))) → IsAccount (account_of scenario (run scenario n))
+known_more : (scenario : Scenario) (n : ℕ) → ((t : ℕ) → t < n → IsAccount (account_of scenario (run scenario t)))
+    → IsAccount (account_of scenario (run scenario n))
     → (t : ℕ) → t < n + 1 → IsAccount (account_of scenario (run scenario t))
 known_more scenario n before here t lt =
     elim (eqb_tells t n) [
@@ -106,7 +112,8 @@ known_more scenario n before here t lt =
       | inr apart ↦ before t (omega (arith, lt, apart.1))
     ]
 
-pub counts_more : (scenario now : Scenario) (n : ℕ) (s : State) (old new : List Figures) → now ≡ scenario → s ≡ run scenario n → Counts scenario n old
+pub counts_more : (scenario now : Scenario) (n : ℕ) (s : State) (old new : List Figures) → now ≡ scenario → s ≡ run scenario n
+    → Counts scenario n old
     → IsAccount (account_of now s) → new ≡ put_down old (account_of now s) (step_cycles now s) → Counts scenario (n + 1) new
 counts_more scenario now n s old new same at before here e =
     let known : IsAccount (account_of scenario (run scenario n)) = rw (same, at) at here in
@@ -119,14 +126,17 @@ counts_more scenario now n s old new same at before here e =
 
 -- all of them
 pub adds_up : (scenario : Scenario) (n : ℕ) (figures : List Figures) → Counts scenario n figures → AllAddUp scenario n
-adds_up scenario n figures counts = profile_adds_up scenario n all_accounts (λ t lt. once (account_of scenario (run scenario t)) (counts.known t lt))
+adds_up scenario n figures counts = profile_adds_up scenario n all_accounts
+    (λ t lt. once (account_of scenario (run scenario t)) (counts.known t lt))
 
 pub shown_add_up : (scenario : Scenario) (n : ℕ) (figures : List Figures) → Counts scenario n figures → ShownAddUp scenario n
 shown_add_up scenario n figures counts =
-    profile_adds_up scenario n (shown_accounts scenario.rope) (λ t lt. shown_once scenario.rope (account_of scenario (run scenario t)) (counts.known t lt))
+    profile_adds_up scenario n (shown_accounts scenario.rope)
+    (λ t lt. shown_once scenario.rope (account_of scenario (run scenario t)) (counts.known t lt))
 
 -- the figures of each account are small
-pub small : (scenario : Scenario) (n : ℕ) (figures : List Figures) → n < 2 ^ 40 → Counts scenario n figures → (a : Account) → IsAccount a → AreSmall (figures_at figures a)
+pub small : (scenario : Scenario) (n : ℕ) (figures : List Figures) → n < 2 ^ 40 → Counts scenario n figures → (a : Account) → IsAccount a
+    → AreSmall (figures_at figures a)
 small scenario n figures few counts a known =
     let count : (figures_at figures a).count ≡ count_at scenario a n = ap (λ f. f.count) (counts.profile a known) in
     let cycles : (figures_at figures a).cycles ≡ cycles_at scenario a n = ap (λ f. f.cycles) (counts.profile a known) in
@@ -138,11 +148,13 @@ few_cycles scenario n s e h = rw e (omega (arith, cycles-run scenario n))
 pub fits_after : (scenario now : Scenario) (n : ℕ) (s : State) → now ≡ scenario → s ≡ run scenario n → FitsRun now s
 fits_after scenario now n s same e = rw (same, e) (run-fits scenario n)
 
-pub state_more : (scenario now : Scenario) (n : ℕ) (s t : State) → now ≡ scenario → s ≡ run scenario n → t ≡ (next now s).0 → t ≡ run scenario (n + 1)
+pub state_more : (scenario now : Scenario) (n : ℕ) (s t : State) → now ≡ scenario → s ≡ run scenario n → t ≡ (next now s).0
+    → t ≡ run scenario (n + 1)
 state_more scenario now n s t same e h = rw (run-add-one scenario n) (rw (same, e) at h)
 
 -- what is no account has no figures
-no_other : (scenario : Scenario) (n : ℕ) (a : Account) → is_account a ≡ false → ((t : ℕ) → t < n → IsAccount (account_of scenario (run scenario t))) → profile_of scenario n a ≡ no_figures
+no_other : (scenario : Scenario) (n : ℕ) (a : Account) → is_account a ≡ false
+    → ((t : ℕ) → t < n → IsAccount (account_of scenario (run scenario t))) → profile_of scenario n a ≡ no_figures
 unfolding count_at cycles_at
 no_other scenario zero a e known = refl
 no_other scenario (suc n) a e known =
@@ -153,16 +165,19 @@ no_other scenario (suc n) a e known =
           let is : is_account a ≡ true = ap is_account one ∙ is_one (account_of scenario (run scenario n)) here in
           absurd (let both : true ≡ false = sym is ∙ e in cc)
       | inr apart ↦
-          rw (apart, and_nothing (count_at scenario a n), and_nothing (cycles_at scenario a n)) (no_other scenario n a e (λ t lt. known t (omega (arith, lt))))
+          rw (apart, and_nothing (count_at scenario a n), and_nothing (cycles_at scenario a n))
+          (no_other scenario n a e (λ t lt. known t (omega (arith, lt))))
     ]
 
 -- the figures are the run's profile
-profile_at : (scenario : Scenario) (n : ℕ) (figures : List Figures) → Counts scenario n figures → (a : Account) → figures_at figures a ≡ profile_of scenario n a
+profile_at : (scenario : Scenario) (n : ℕ) (figures : List Figures) → Counts scenario n figures → (a : Account)
+    → figures_at figures a ≡ profile_of scenario n a
 profile_at scenario n figures counts a =
     elim (cases_Bool (is_account a)) [
       | inl there ↦ counts.profile a (one_is a there)
       | inr none ↦ rw none (sym (no_other scenario n a none counts.known))
     ]
 
-pub profile_is : (scenario : Scenario) (n : ℕ) (figures : List Figures) → Counts scenario n figures → figures_at figures ≡ profile_of scenario n
+pub profile_is : (scenario : Scenario) (n : ℕ) (figures : List Figures) → Counts scenario n figures
+    → figures_at figures ≡ profile_of scenario n
 profile_is scenario n figures counts = λ i a. profile_at scenario n figures counts a i

@@ -83,15 +83,18 @@ figures_in Json f name = figure_object f name
 abbrev pub end_rows : Notation → Profile → Figures → List ℕ
 end_rows notation profile total =
     figures_in notation (profile Input) (codes "INPUT")
-    ++ (figures_in notation (profile Entry) (codes "ENTRY") ++ (figures_in notation (profile Waiting) (codes "BRUPT") ++ figures_in notation total (codes "TOTAL")))
+    ++ (figures_in notation (profile Entry) (codes "ENTRY")
+    ++ (figures_in notation (profile Waiting) (codes "BRUPT") ++ figures_in notation total (codes "TOTAL")))
 
 -- what stands below the words: places where no word of the program stands, and what is executed at no place
 unfoldable pub rest_rows : Notation → Option SymbolTable → Profile → Words → Figures → List ℕ
-rest_rows notation names profile words total = erasable_rows notation names profile ++ (empty_rows notation names profile words ++ end_rows notation profile total)
+rest_rows notation names profile words total = erasable_rows notation names profile
+    ++ (empty_rows notation names profile words ++ end_rows notation profile total)
 
 -- the rows of a source's lines
 abbrev pub source_rows : Notation → Option SymbolTable → Profile → Words → Source → List ℕ
-source_rows notation names profile words source = rows (line_in notation (margin_in notation names profile)) 1 (start source.language) words (lines source.text)
+source_rows notation names profile words source = rows (line_in notation (margin_in notation names profile)) 1 (start source.language) words
+    (lines source.text)
 
 -- a word of an image, with names or without
 abbrev pub image_line : Option SymbolTable → Words → ℕ → ℕ → List ℕ
@@ -121,7 +124,8 @@ names_of (shown.Image names) = names
 
 -- a profile in a notation, with all steps and cycles
 abbrev pub profile_text : Notation → Profile → Figures → Words → Shown → List ℕ
-profile_text notation profile total words lines = word_rows notation profile words lines ++ rest_rows notation (names_of lines) profile words total
+profile_text notation profile total words lines = word_rows notation profile words lines
+    ++ rest_rows notation (names_of lines) profile words total
 
 -- all steps of a run
 abbrev pub total_of : Scenario → ℕ → Figures

@@ -1,5 +1,6 @@
 -- The figures of a run's accounts: how often each was served, and the cycles that this took.
-use Rattle.std.specs.Prelude.{◌≡◌, ℕ, ◌+◌, ◌*◌, ◌<◌, ◌≤◌, ◌^◌, ◌&&◌, Bool, true, nat_lt, if◌then◌else◌, List, [], ◌∷◌, ◌++◌, map, length, get_or, set}
+use Rattle.std.specs.Prelude.{◌≡◌, ℕ, ◌+◌, ◌*◌, ◌<◌, ◌≤◌, ◌^◌, ◌&&◌, Bool, true, nat_lt, if◌then◌else◌, List, [], ◌∷◌, ◌++◌, map, length}
+use Rattle.std.specs.Prelude.{get_or, set}
 use Rattle.std.specs.List.{range_with_len, flat_map}
 use Rattle.space.specs.Cells.{erasable_count}
 use Rattle.space.specs.declared.place.Linear.TheVariants.{Erasable, Fixed}

@@ -22,9 +22,10 @@ use space::{BANK_WORDS, Bank, FIXED_BANKS, Linear, Offset};
 use trace::PlaceNames;
 use words::{Write, WriteFailed, write_all};
 
-/// Writes a row for each word of an image: as text as `         2          4 02,4001 64005 AD 4005`: how often it was executed, the cycles
-/// that this took, and the word as `write_words` writes it, or as `write_named_words` does where there are names.
-/// As JSON it writes an object with the same. Then it writes what was executed elsewhere, and what all steps took.
+/// Writes a row for each word of an image: as text as `         2          4 02,4001 64005 AD 4005`: how often it was
+/// executed, the cycles that this took, and the word as `write_words` writes it, or as `write_named_words` does where
+/// there are names. As JSON it writes an object with the same. Then it writes what was executed elsewhere, and what all
+/// steps took.
 ///
 /// After a failure a beginning of it was written.
 pub fn write_image_profile<W: Write>(
@@ -35,7 +36,8 @@ pub fn write_image_profile<W: Write>(
     names: &Option<PlaceNames>,
     out: &mut W,
 ) -> Result<(), WriteFailed>
-    ensures written { W.told ≡ true → Writes (W.written out.old) (W.written out.new) (profile_text notation (figures_at tally.now) total rope.now (shown.Image names.now)) result }
+    ensures written { W.told ≡ true → Writes (W.written out.old) (W.written out.new)
+        (profile_text notation (figures_at tally.now) total rope.now (shown.Image names.now)) result }
     ensures failures { W.failures out.new ≡ failures_after (W.failures out.old) result }
 {
     write_words(notation, tally, rope, names, out)?;
@@ -50,7 +52,8 @@ fn write_words<W: Write>(
     names: &Option<PlaceNames>,
     out: &mut W,
 ) -> Result<(), WriteFailed>
-    ensures written { W.told ≡ true → Writes (W.written out.old) (W.written out.new) (image_rows notation names.now (figures_at tally.now) rope.now) result }
+    ensures written { W.told ≡ true → Writes (W.written out.old) (W.written out.new)
+        (image_rows notation names.now (figures_at tally.now) rope.now) result }
     ensures failures { W.failures out.new ≡ failures_after (W.failures out.old) result }
 {
     for number in 0..FIXED_BANKS {
@@ -68,7 +71,8 @@ fn write_bank<W: Write>(
     bank: Bank,
     out: &mut W,
 ) -> Result<(), WriteFailed>
-    ensures written { W.told ≡ true → Writes (W.written out.old) (W.written out.new) (image_rows_of notation names.now (figures_at tally.now) rope.now bank) result }
+    ensures written { W.told ≡ true → Writes (W.written out.old) (W.written out.new)
+        (image_rows_of notation names.now (figures_at tally.now) rope.now bank) result }
     ensures failures { W.failures out.new ≡ failures_after (W.failures out.old) result }
 {
     let mut extra = false;
@@ -92,7 +96,8 @@ fn write_word<W: Write>(
     out: &mut W,
 ) -> Result<(), WriteFailed>
     requires { extra ≡ extracode_at rope.now bank offset }
-    ensures written { W.told ≡ true → Writes (W.written out.old) (W.written out.new) (image_row notation names.now (figures_at tally.now) rope.now bank offset) result }
+    ensures written { W.told ≡ true → Writes (W.written out.old) (W.written out.new)
+        (image_row notation names.now (figures_at tally.now) rope.now bank offset) result }
     ensures failures { W.failures out.new ≡ failures_after (W.failures out.old) result }
 {
     let figures = tally.figures(Account::Place(Linear::Fixed(bank, offset)));
@@ -116,7 +121,8 @@ fn write_columns<W: Write>(
     out: &mut W,
 ) -> Result<(), WriteFailed>
     requires { extra ≡ extracode_at rope.now bank offset }
-    ensures written { W.told ≡ true → Writes (W.written out.old) (W.written out.new) (figure_columns figures ++ image_line names.now rope.now bank offset) result }
+    ensures written { W.told ≡ true → Writes (W.written out.old) (W.written out.new)
+        (figure_columns figures ++ image_line names.now rope.now bank offset) result }
     ensures failures { W.failures out.new ≡ failures_after (W.failures out.old) result }
 {
     write_all(out, figure_columns(figures).as_slice())?;
@@ -133,7 +139,8 @@ fn write_line<W: Write>(
     out: &mut W,
 ) -> Result<(), WriteFailed>
     requires { extra ≡ extracode_at rope.now bank offset }
-    ensures written { W.told ≡ true → Writes (W.written out.old) (W.written out.new) (image_line names.now rope.now bank offset) result }
+    ensures written { W.told ≡ true → Writes (W.written out.old) (W.written out.new)
+        (image_line names.now rope.now bank offset) result }
     ensures failures { W.failures out.new ≡ failures_after (W.failures out.old) result }
 {
     match names {

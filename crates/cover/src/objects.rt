@@ -4,7 +4,8 @@ ghost use Rattle.std.specs.Prelude.{◌≡◌, ◌+◌, ◌≤◌, ◌++◌, IfS
 ghost use Rattle.std.specs.Option.{option_map};
 ghost use Rattle.arrayvec.specs.ArrayVec.{array_vec_len};
 ghost use Rattle.audit.specs.WordLines.{extracode_at};
-ghost use Rattle.cover.specs.CoverObjects.{account_members, figure_members, figure_object, image_object, instruction_in, place_object, symbol_in};
+ghost use Rattle.cover.specs.CoverObjects.{account_members, figure_members, figure_object, image_object};
+ghost use Rattle.cover.specs.CoverObjects.{instruction_in, place_object, symbol_in};
 ghost use Rattle.space.specs.declared.place.Linear.TheVariants.{Fixed};
 
 use crate::tally::Figures;

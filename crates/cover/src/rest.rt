@@ -2,7 +2,8 @@
 
 ghost use Rattle.std.specs.Prelude.{◌≡◌, ◌<◌, ◌≤◌, length, true};
 ghost use Rattle.words.specs.Devices.{Writes, failures_after};
-ghost use Rattle.cover.specs.CoverText.{bare_in, empty_row, empty_rows, empty_rows_of, end_rows, erasable_row, erasable_rows, figure_row, figures_in, rest_rows};
+ghost use Rattle.cover.specs.CoverText.{bare_in, empty_row, empty_rows, empty_rows_of, end_rows, erasable_row};
+ghost use Rattle.cover.specs.CoverText.{erasable_rows, figure_row, figures_in, rest_rows};
 ghost use Rattle.rope.specs.Places.{bank_words};
 ghost use Rattle.space.specs.Cells.{erasable_count};
 ghost use Rattle.cover.specs.Tallies.{figures_at, selected_banks};
@@ -23,8 +24,8 @@ const ERASABLE_PLACES: u16 = 0o4000;
 /// How many banks FB and the superbank bit select.
 const SELECTED_BANKS: u16 = 0o50;
 
-/// Writes the places without a word of the program that were executed, then inputs, entries of interrupts and words that RESUME
-/// brought, and then all steps.
+/// Writes the places without a word of the program that were executed, then inputs, entries of interrupts and words
+/// that RESUME brought, and then all steps.
 pub(crate) fn write_rest<W: Write>(
     notation: Notation,
     names: &Option<PlaceNames>,
@@ -33,7 +34,8 @@ pub(crate) fn write_rest<W: Write>(
     rope: &Rope,
     out: &mut W,
 ) -> Result<(), WriteFailed>
-    ensures written { W.told ≡ true → Writes (W.written out.old) (W.written out.new) (rest_rows notation names.now (figures_at tally.now) rope.now total) result }
+    ensures written { W.told ≡ true → Writes (W.written out.old) (W.written out.new)
+        (rest_rows notation names.now (figures_at tally.now) rope.now total) result }
     ensures failures { W.failures out.new ≡ failures_after (W.failures out.old) result }
 {
     write_erasable(notation, names, tally, out)?;
@@ -48,7 +50,8 @@ fn write_erasable<W: Write>(
     tally: &Tally,
     out: &mut W,
 ) -> Result<(), WriteFailed>
-    ensures written { W.told ≡ true → Writes (W.written out.old) (W.written out.new) (erasable_rows notation names.now (figures_at tally.now)) result }
+    ensures written { W.told ≡ true → Writes (W.written out.old) (W.written out.new)
+        (erasable_rows notation names.now (figures_at tally.now)) result }
     ensures failures { W.failures out.new ≡ failures_after (W.failures out.old) result }
 {
     for number in 0..ERASABLE_PLACES {
@@ -66,7 +69,8 @@ fn write_erasable_at<W: Write>(
     place: Eras,
     out: &mut W,
 ) -> Result<(), WriteFailed>
-    ensures written { W.told ≡ true → Writes (W.written out.old) (W.written out.new) (erasable_row notation names.now (figures_at tally.now) place) result }
+    ensures written { W.told ≡ true → Writes (W.written out.old) (W.written out.new)
+        (erasable_row notation names.now (figures_at tally.now) place) result }
     ensures failures { W.failures out.new ≡ failures_after (W.failures out.old) result }
 {
     let figures = tally.figures(Account::Place(Linear::Erasable(place)));
@@ -81,7 +85,8 @@ fn write_empty<W: Write>(
     rope: &Rope,
     out: &mut W,
 ) -> Result<(), WriteFailed>
-    ensures written { W.told ≡ true → Writes (W.written out.old) (W.written out.new) (empty_rows notation names.now (figures_at tally.now) rope.now) result }
+    ensures written { W.told ≡ true → Writes (W.written out.old) (W.written out.new)
+        (empty_rows notation names.now (figures_at tally.now) rope.now) result }
     ensures failures { W.failures out.new ≡ failures_after (W.failures out.old) result }
 {
     for number in 0..SELECTED_BANKS {
@@ -99,7 +104,8 @@ fn write_empty_of<W: Write>(
     bank: Bank,
     out: &mut W,
 ) -> Result<(), WriteFailed>
-    ensures written { W.told ≡ true → Writes (W.written out.old) (W.written out.new) (empty_rows_of notation names.now (figures_at tally.now) rope.now bank) result }
+    ensures written { W.told ≡ true → Writes (W.written out.old) (W.written out.new)
+        (empty_rows_of notation names.now (figures_at tally.now) rope.now bank) result }
     ensures failures { W.failures out.new ≡ failures_after (W.failures out.old) result }
 {
     for number in 0..BANK_WORDS {
@@ -119,7 +125,8 @@ fn write_empty_at<W: Write>(
     offset: Offset,
     out: &mut W,
 ) -> Result<(), WriteFailed>
-    ensures written { W.told ≡ true → Writes (W.written out.old) (W.written out.new) (empty_row notation names.now (figures_at tally.now) rope.now bank offset) result }
+    ensures written { W.told ≡ true → Writes (W.written out.old) (W.written out.new)
+        (empty_row notation names.now (figures_at tally.now) rope.now bank offset) result }
     ensures failures { W.failures out.new ≡ failures_after (W.failures out.old) result }
 {
     if rope.has(bank, offset) {
@@ -138,7 +145,8 @@ fn write_bare<W: Write>(
     place: Linear,
     out: &mut W,
 ) -> Result<(), WriteFailed>
-    ensures written { W.told ≡ true → Writes (W.written out.old) (W.written out.new) (bare_in notation names.now figures place) result }
+    ensures written { W.told ≡ true → Writes (W.written out.old) (W.written out.new)
+        (bare_in notation names.now figures place) result }
     ensures failures { W.failures out.new ≡ failures_after (W.failures out.old) result }
 {
     if figures.count == 0 {
@@ -157,7 +165,8 @@ fn write_end<W: Write>(
     total: Figures,
     out: &mut W,
 ) -> Result<(), WriteFailed>
-    ensures written { W.told ≡ true → Writes (W.written out.old) (W.written out.new) (end_rows notation (figures_at tally.now) total) result }
+    ensures written { W.told ≡ true → Writes (W.written out.old) (W.written out.new)
+        (end_rows notation (figures_at tally.now) total) result }
     ensures failures { W.failures out.new ≡ failures_after (W.failures out.old) result }
 {
     write_figures(notation, tally.figures(Account::Input), b"INPUT", out)?;
@@ -174,7 +183,8 @@ fn write_figures<W: Write>(
     out: &mut W,
 ) -> Result<(), WriteFailed>
     requires { length name.now ≤ 8 }
-    ensures written { W.told ≡ true → Writes (W.written out.old) (W.written out.new) (figures_in notation figures name.now) result }
+    ensures written { W.told ≡ true → Writes (W.written out.old) (W.written out.new)
+        (figures_in notation figures name.now) result }
     ensures failures { W.failures out.new ≡ failures_after (W.failures out.old) result }
 {
     match notation {
@@ -185,7 +195,8 @@ fn write_figures<W: Write>(
 
 /// Writes a row: figures, and what they are of.
 fn write_row<W: Write>(figures: Figures, name: &[u8], out: &mut W) -> Result<(), WriteFailed>
-    ensures written { W.told ≡ true → Writes (W.written out.old) (W.written out.new) (figure_row figures name.now) result }
+    ensures written { W.told ≡ true → Writes (W.written out.old) (W.written out.new) (figure_row figures name.now)
+        result }
     ensures failures { W.failures out.new ≡ failures_after (W.failures out.old) result }
 {
     write_all(out, figure_columns(figures).as_slice())?;

@@ -79,9 +79,9 @@ impl<'a> Margin for Members<'a> {
     }
 }
 
-/// Writes the rows of a source's lines: as text as `         2          4    25 02,4104 54100  LOOP    TS      COUNT`: how often the word was
-/// executed, the cycles that this took, and the row as a listing has it. As JSON it writes an object with the same. Then it
-/// writes what was executed elsewhere, and what all steps took.
+/// Writes the rows of a source's lines: as text as `         2          4    25 02,4104 54100  LOOP    TS      COUNT`:
+/// how often the word was executed, the cycles that this took, and the row as a listing has it. As JSON it writes an
+/// object with the same. Then it writes what was executed elsewhere, and what all steps took.
 ///
 /// After a failure a beginning of it was written.
 pub fn write_source_profile<W: Write>(
@@ -93,7 +93,8 @@ pub fn write_source_profile<W: Write>(
     rows: &SourceRows,
     out: &mut W,
 ) -> Result<(), WriteFailed>
-    ensures written { W.told ≡ true → Writes (W.written out.old) (W.written out.new) (profile_text notation (figures_at tally.now) total rope.now (shown.Source rows.now names.now)) result }
+    ensures written { W.told ≡ true → Writes (W.written out.old) (W.written out.new)
+        (profile_text notation (figures_at tally.now) total rope.now (shown.Source rows.now names.now)) result }
     ensures failures { W.failures out.new ≡ failures_after (W.failures out.old) result }
 {
     write_rows(notation, names, tally, rope, rows, out)?;
@@ -109,7 +110,8 @@ fn write_rows<W: Write>(
     rows: &SourceRows,
     out: &mut W,
 ) -> Result<(), WriteFailed>
-    ensures written { W.told ≡ true → Writes (W.written out.old) (W.written out.new) (source_rows notation names.now (figures_at tally.now) rope.now rows.now) result }
+    ensures written { W.told ≡ true → Writes (W.written out.old) (W.written out.new)
+        (source_rows notation names.now (figures_at tally.now) rope.now rows.now) result }
     ensures failures { W.failures out.new ≡ failures_after (W.failures out.old) result }
 {
     match notation {

@@ -6,7 +6,8 @@ ghost use Rattle.cpu.specs.Next.{next};
 ghost use Rattle.cpu.specs.Profiles.{account_of, step_cycles};
 ghost use Rattle.cpu.specs.Run.{run};
 ghost use Rattle.cpu.specs.State.{FitsRun, Scenario};
-ghost use Rattle.cover.specs.Tallies.{account_count, account_number, AllAddUp, AreSmall, Counts, ShownAddUp, figures_at, is_account, IsAccount, no_figures, one_step_more, put_down};
+ghost use Rattle.cover.specs.Tallies.{account_count, account_number, AllAddUp, AreSmall, Counts, ShownAddUp};
+ghost use Rattle.cover.specs.Tallies.{figures_at, is_account, IsAccount, no_figures, one_step_more, put_down};
 
 use cpu::{Account, Machine, Processor};
 use space::{BANK_WORDS, Linear};
@@ -108,7 +109,8 @@ impl Tally {
         ensures meter { processor.new.meter ≤ processor.old.meter + 1 }
         ensures state { machine.new ≡ (next processor.old.scenario machine.old).0 }
         ensures known { IsAccount (account_of processor.old.scenario machine.old) }
-        ensures counted { self.new ≡ put_down self.old (account_of processor.old.scenario machine.old) (step_cycles processor.old.scenario machine.old) }
+        ensures counted { self.new ≡ put_down self.old (account_of processor.old.scenario machine.old)
+            (step_cycles processor.old.scenario machine.old) }
     {
         let number = number_of(processor.account(machine));
         let before = machine.cycles();

@@ -6,12 +6,15 @@ use Rattle.rope.specs.Places.{Words}
 use Rattle.feed.specs.declared.input.Input.{Input}
 use Rattle.feed.specs.Merged.{due}
 use Rattle.cpu.specs.declared.instruction.Instruction.{Instruction}
-use Rattle.cpu.specs.declared.instruction.Instruction.TheVariants.{Relint, Inhint, Extend, Tc, Ccs, Tcf, Das, Lxch, Incr, Ads, Ca, Cs, Dxch, Ts, Xch, Ad, Mask, Read, Rand, Ror, Rxor, Edrupt, Dv, Bzf, Msu, Qxch, Aug, Dim, Dca, Dcs, Su, Bzmf, Mp}
+use Rattle.cpu.specs.declared.instruction.Instruction.TheVariants.{Relint, Inhint, Extend, Tc, Ccs, Tcf, Das, Lxch, Incr, Ads, Ca, Cs, Dxch}
+use Rattle.cpu.specs.declared.instruction.Instruction.TheVariants.{Ts, Xch, Ad, Mask, Read, Rand, Ror, Rxor, Edrupt, Dv, Bzf, Msu, Qxch}
+use Rattle.cpu.specs.declared.instruction.Instruction.TheVariants.{Aug, Dim, Dca, Dcs, Su, Bzmf, Mp}
 use Rattle.cpu.specs.declared.output.Output.{Output}
 use Rattle.cpu.specs.State.{State, Scenario}
 use Rattle.cpu.specs.Codes.{Code, code_of, row_of}
 use Rattle.cpu.specs.Effects.{accumulator_of, has_overflow}
-use Rattle.cpu.specs.Next.{word_at_z, with_sum, instruction_word, fetched, written_by, executed, execute_code, execute, output_on, least_request, entry, next_by, next}
+use Rattle.cpu.specs.Next.{word_at_z, with_sum, instruction_word, fetched, written_by, executed, execute_code, execute, output_on}
+use Rattle.cpu.specs.Next.{least_request, entry, next_by, next}
 use Rattle.cpu.specs.Run.{run}
 use Rattle.cpu.specs.Silent.{IsSilent}
 use Rattle.cpu.specs.Bursts.{IsStill, is_plain}
@@ -69,13 +72,16 @@ either_none false o e = e
 
 still_entry : (s : State) → IsStill s → entry s ≡ None
 unfolding entry
-still_entry s still = either_none (s.inhibit || s.inside || s.extra || is_some s.waiting_sum || is_some s.waiting_word || has_overflow (over (accumulator_of s))) (least_request s.requests) still.unasked
+still_entry s still = either_none (s.inhibit || s.inside || s.extra || is_some s.waiting_sum || is_some s.waiting_word
+    || has_overflow (over (accumulator_of s))) (least_request s.requests) still.unasked
 
 -- where no input is due, an instruction is executed
-still_next : (scenario : Scenario) (s : State) → IsStill s → due scenario.inputs s.taken s.cycles ≡ None → next scenario s ≡ execute scenario.rope s
+still_next : (scenario : Scenario) (s : State) → IsStill s → due scenario.inputs s.taken s.cycles ≡ None
+    → next scenario s ≡ execute scenario.rope s
 unfolding next
 still_next scenario s still none =
-    ap (λ (d : Option (Input × Option ℕ)). next_by scenario.rope s d (entry s)) none ∙ ap (λ (o : Option ℕ). next_by scenario.rope s None o) (still_entry s still)
+    ap (λ (d : Option (Input × Option ℕ)). next_by scenario.rope s d (entry s)) none
+    ∙ ap (λ (o : Option ℕ). next_by scenario.rope s None o) (still_entry s still)
 
 -- and that is the one at Z
 still_word : (rope : Words) (s : State) → IsStill s → instruction_word rope s ≡ word_at_z rope s
@@ -102,7 +108,8 @@ plain_made rope s i k still plain same_instruction same_operand =
     ∙ ap (λ (n : Option ℕ). (t, output_on t n)) (plain_row rope s i k plain).written
 
 -- and leaves nothing that waits
-pub plain_still : (rope : Words) (s : State) (i : Instruction) (k : ℕ) → IsStill s → is_plain i ≡ true → IsStill (executed rope (fetched s) (record { instruction = i; operand = k }))
+pub plain_still : (rope : Words) (s : State) (i : Instruction) (k : ℕ) → IsStill s → is_plain i ≡ true
+    → IsStill (executed rope (fetched s) (record { instruction = i; operand = k }))
 unfolding executed fetched
 plain_still rope s i k still plain =
     let row = plain_row rope (fetched s) i k plain in
@@ -122,7 +129,8 @@ pub record HasCome (p : Scenario) (from : State) (d n : ℕ) (m : State) : Type 
   pub silent : IsSilent p d n
 
 pub comes_on : (p : Scenario) (from : State) (d n silent : ℕ) (m t : State) → HasCome p from d n m → d ≤ n
-    → ((cycles : ℕ) → cycles < silent → due p.inputs from.taken cycles ≡ None) → m.cycles < silent → execute p.rope m ≡ (t, None) → IsStill t → HasCome p from d (n + 1) t
+    → ((cycles : ℕ) → cycles < silent → due p.inputs from.taken cycles ≡ None) → m.cycles < silent → execute p.rope m ≡ (t, None)
+    → IsStill t → HasCome p from d (n + 1) t
 comes_on p from d n silent m t come low none before made still =
     let none_due : due p.inputs m.taken m.cycles ≡ None = rw come.taken (none m.cycles before) in
     let step = sym (still_next p m come.still none_due ∙ made) in

@@ -1,5 +1,6 @@
 -- What instructions come to by the value.
-use Rattle.std.proofs.Common.{◌≡◌, ◌≢◌, ◌≤◌, ◌<◌, ℕ, zero, suc, ◌+◌, ◌-◌, ◌*◌, ◌/◌, ◌%◌, Bool, true, false, cond, ◌==◌, ◌||◌, ◌&&◌, nat_lt, if◌then◌else◌, List, [], ◌∷◌, Option, Some, None, refl, ap, ◌∙◌, sym, arith, inl, inr}
+use Rattle.std.proofs.Common.{◌≡◌, ◌≢◌, ◌≤◌, ◌<◌, ℕ, zero, suc, ◌+◌, ◌-◌, ◌*◌, ◌/◌, ◌%◌, Bool, true, false, cond, ◌==◌, ◌||◌, ◌&&◌, nat_lt}
+use Rattle.std.proofs.Common.{if◌then◌else◌, List, [], ◌∷◌, Option, Some, None, refl, ap, ◌∙◌, sym, arith, inl, inr}
 use Rattle.std.specs.Prelude.{ℤ, pos, negsuc, ◌+ℤ◌, ◌*ℤ◌, int_lt, unsigned_abs, is_some, nat_le}
 use Rattle.std.proofs.lemmas.Int.{ints}
 use Rattle.std.proofs.lemmas.Bool.Decides.{nat_tests}
@@ -11,12 +12,14 @@ use Rattle.words.specs.declared.wide.Overflow.{Overflow}
 use Rattle.words.specs.declared.wide.Overflow.TheVariants.{No, Plus, Minus}
 use Rattle.words.specs.declared.counters.Carry.TheVariants as carry'
 use Rattle.words.specs.Counters.{pinc}
-use Rattle.words.specs.Products.{product, product_is_minus, product_magnitude, quotient, quotient_fits, dividend_magnitude, dividend_is_minus, is_minus, magnitude, signed}
+use Rattle.words.specs.Products.{product, product_is_minus, product_magnitude, quotient, quotient_fits, dividend_magnitude}
+use Rattle.words.specs.Products.{dividend_is_minus, is_minus, magnitude, signed}
 use Rattle.words.specs.Laws.{Divides}
 use Rattle.std.proofs.lemmas.Nat.{mul-lt}
 use Rattle.words.proofs.Values.{makes_product, divides, magnitude_small}
 use Rattle.rope.specs.Places.{Words}
-use Rattle.space.specs.Cells.{Cells, at, get, put, kept, superbank, erasable_bank, fixed_bank, accumulator, lower_accumulator, program_counter, cycle_right, edit_opcode, both_banks}
+use Rattle.space.specs.Cells.{Cells, at, get, put, kept, superbank, erasable_bank, fixed_bank, accumulator, lower_accumulator}
+use Rattle.space.specs.Cells.{program_counter, cycle_right, edit_opcode, both_banks}
 use Rattle.space.specs.Places.{place, selected_bank}
 use Rattle.space.specs.declared.place.Linear.{Linear}
 use Rattle.space.specs.declared.place.Linear.TheVariants.{Erasable, Fixed}
@@ -29,17 +32,20 @@ use Rattle.cpu.specs.declared.instruction.Instruction.TheVariants.{Ccs, Das, Ind
 use Rattle.cpu.specs.declared.output.Output.{Output}
 use Rattle.cpu.specs.State.{State, Scenario}
 use Rattle.cpu.specs.Codes.{Code}
-use Rattle.cpu.specs.Effects.{Change, changes, erasable_number, accumulator_of, lower_of, next_address, place_in, operand, erasable_in, first_of, greatest_short, edits, carry, has_overflow, ccs_skip, after, ccs, mp, dv, das, index}
+use Rattle.cpu.specs.Effects.{Change, changes, erasable_number, accumulator_of, lower_of, next_address, place_in, operand, erasable_in}
+use Rattle.cpu.specs.Effects.{first_of, greatest_short, edits, carry, has_overflow, ccs_skip, after, ccs, mp, dv, das, index}
 use Rattle.cpu.specs.Effects.Change.{AtPlace}
 use Rattle.cpu.specs.Inputs.{take, counted, is_overflow}
 use Rattle.cpu.specs.Next.{fetched_cells, fetched, following_address, instruction_word, word_at_z, executed, entry, least_request, next}
 use Rattle.cpu.specs.Laws.{ExecutesCode}
-use Rattle.cpu.specs.ByValue.{is_plain, double, MultipliesByValue, DividesByValue, CountsDown, IndexesByValue, AddsDoubles, DoublesByValue, TicksAsOne}
+use Rattle.cpu.specs.ByValue.{is_plain, double, MultipliesByValue, DividesByValue, CountsDown, IndexesByValue, AddsDoubles, DoublesByValue}
+use Rattle.cpu.specs.ByValue.{TicksAsOne}
 use Rattle.cpu.proofs.StepLaws.{by_input, by_code, corrected_twice}
 use Rattle.cpu.proofs.Resuming.{fetched_place}
 
 -- ## What a step leaves
-step_is : (scenario : Scenario) (s : State) (code : Code) → ExecutesCode scenario s code → (next scenario s).0 ≡ executed scenario.rope (fetched s) code
+step_is : (scenario : Scenario) (s : State) (code : Code) → ExecutesCode scenario s code
+    → (next scenario s).0 ≡ executed scenario.rope (fetched s) code
 step_is scenario s code e = ap (λ (t : State × Option Output). t.0) (by_code scenario s code e)
 
 -- the fetch moves Z alone
@@ -57,7 +63,8 @@ unfolding edits
 edits_leave (Fixed bank offset) x s p lt n6 = refl
 edits_leave (Erasable q) x s p lt n6 = on (nat_le cycle_right q && nat_le q edit_opcode) refl
   where
-    on : (b : Bool) → (nat_le cycle_right q && nat_le q edit_opcode) ≡ b → get (changes s (cond b (AtPlace q x ∷ []) [])).cells p ≡ get s.cells p
+    on : (b : Bool) → (nat_le cycle_right q && nat_le q edit_opcode) ≡ b
+        → get (changes s (cond b (AtPlace q x ∷ []) [])).cells p ≡ get s.cells p
     on false e = refl
     on true e = let low : 16 ≤ q = grind (arith, nat_tests) in get-put_other s.cells q x p (λ e. omega arith) n6 (λ e. omega arith)
 
@@ -81,7 +88,8 @@ edits_word (Erasable q) x s = on (nat_le cycle_right q && nat_le q edit_opcode)
 
 -- A and L after both are stored
 stored_a : (c : Cells) (x y : ℕ) → get (put (put c accumulator x) lower_accumulator y) accumulator ≡ x
-stored_a c x y = get-put_other (put c accumulator x) lower_accumulator y accumulator (λ e. omega arith) (λ e. omega arith) (λ e. omega arith) ∙ get-put_accumulator c x
+stored_a c x y = get-put_other (put c accumulator x) lower_accumulator y accumulator (λ e. omega arith) (λ e. omega arith)
+    (λ e. omega arith) ∙ get-put_accumulator c x
 
 stored_l : (c : Cells) (y : ℕ) → get (put c lower_accumulator y) lower_accumulator ≡ extend (correct y)
 unfolding get kept
@@ -113,7 +121,8 @@ corrected_below x = grind (arith, nat_tests)
 
 -- ## MP
 mp_leaves : (rope : Words) (u : State) (k a x : ℕ) → correct (accumulator_of u) ≡ a → correct (operand rope u k) ≡ x
-    → (accumulator_of (executed rope u (record { instruction = Mp; operand = k })) ≡ extend (product a x).high) × (lower_of (executed rope u (record { instruction = Mp; operand = k })) ≡ extend (correct (extend (product a x).low)))
+    → (accumulator_of (executed rope u (record { instruction = Mp; operand = k })) ≡ extend (product a x).high)
+    × (lower_of (executed rope u (record { instruction = Mp; operand = k })) ≡ extend (correct (extend (product a x).low)))
 unfolding executed after mp
 mp_leaves rope u k a x ea ex =
     let p = product (correct (accumulator_of u)) (correct (operand rope u k)) in
@@ -121,15 +130,22 @@ mp_leaves rope u k a x ea ex =
     let l = place_in u k in
     let y = operand rope u k in
     let same : p ≡ product a x = ap (λ b. product b (correct (operand rope u k))) ea ∙ ap (product a) ex in (
-      edits_leave l y v accumulator (omega arith) (λ e. omega arith) ∙ stored_a u.cells (extend p.high) (extend p.low) ∙ ap (λ q. extend q.high) same,
-      edits_leave l y v lower_accumulator (omega arith) (λ e. omega arith) ∙ stored_l (put u.cells accumulator (extend p.high)) (extend p.low) ∙ ap (λ q. extend (correct (extend q.low))) same,
+      edits_leave l y v accumulator (omega arith) (λ e. omega arith) ∙ stored_a u.cells (extend p.high) (extend p.low)
+          ∙ ap (λ q. extend q.high) same,
+      edits_leave l y v lower_accumulator (omega arith) (λ e. omega arith)
+          ∙ stored_l (put u.cells accumulator (extend p.high)) (extend p.low) ∙ ap (λ q. extend (correct (extend q.low))) same,
     )
 
 product_bounds : (a x : ℕ) → a < 32768 → x < 32768 → ((product a x).high < 32768) × ((product a x).low < 32768)
-product_bounds a x p q = (signed_below (product_is_minus a x) (product_magnitude a x / 16384) (high_below a x p q), signed_below (product_is_minus a x) (product_magnitude a x % 16384) (omega arith))
+product_bounds a x p q = (
+  signed_below (product_is_minus a x) (product_magnitude a x / 16384) (high_below a x p q),
+  signed_below
+      (product_is_minus a x) (product_magnitude a x % 16384) (omega arith),
+)
   where
     high_below : (a x : ℕ) → a < 32768 → x < 32768 → magnitude a * magnitude x / 16384 < 16384
-    high_below a x p q = let small = mul-lt (magnitude a) (magnitude x) 16384 16384 (magnitude_small a p) (magnitude_small x q) in omega arith
+    high_below a x p q = let small = mul-lt (magnitude a) (magnitude x) 16384 16384 (magnitude_small a p) (magnitude_small x q) in omega
+        arith
 
 pub multiplies_by_value : (scenario : Scenario) (s : State) (k a x : ℕ) → a < 32768 → x < 32768 → MultipliesByValue scenario s k a x
 multiplies_by_value scenario s k a x p q e ea ex =
@@ -149,22 +165,29 @@ multiplies_by_value scenario s k a x p q e ea ex =
     }
 
 -- ## DV
-dv_leaves : (rope : Words) (u : State) (k a l x : ℕ) → correct (accumulator_of u) ≡ a → correct (lower_of u) ≡ l → correct (operand rope u k) ≡ x
-    → (accumulator_of (executed rope u (record { instruction = Dv; operand = k })) ≡ extend (quotient a l x).quotient) × (lower_of (executed rope u (record { instruction = Dv; operand = k })) ≡ extend (correct (extend (quotient a l x).remainder)))
+dv_leaves : (rope : Words) (u : State) (k a l x : ℕ) → correct (accumulator_of u) ≡ a → correct (lower_of u) ≡ l
+    → correct (operand rope u k) ≡ x
+    → (accumulator_of (executed rope u (record { instruction = Dv; operand = k })) ≡ extend (quotient a l x).quotient)
+    × (lower_of (executed rope u (record { instruction = Dv; operand = k })) ≡ extend (correct (extend (quotient a l x).remainder)))
 unfolding executed after dv
 dv_leaves rope u k a l x ea el ex =
     let p = quotient (correct (accumulator_of u)) (correct (lower_of u)) (correct (operand rope u k)) in
     let v = record u { cells = put (put u.cells accumulator (extend p.quotient)) lower_accumulator (extend p.remainder) } in
     let place = place_in u k in
     let y = operand rope u k in
-    let same : p ≡ quotient a l x = ap (λ b. quotient b (correct (lower_of u)) (correct (operand rope u k))) ea ∙ ap (λ b. quotient a b (correct (operand rope u k))) el ∙ ap (quotient a l) ex in (
-      edits_leave place y v accumulator (omega arith) (λ e. omega arith) ∙ stored_a u.cells (extend p.quotient) (extend p.remainder) ∙ ap (λ q. extend q.quotient) same,
-      edits_leave place y v lower_accumulator (omega arith) (λ e. omega arith) ∙ stored_l (put u.cells accumulator (extend p.quotient)) (extend p.remainder) ∙ ap (λ q. extend (correct (extend q.remainder))) same,
+    let same : p ≡ quotient a l x = ap (λ b. quotient b (correct (lower_of u)) (correct (operand rope u k))) ea
+    ∙ ap (λ b. quotient a b (correct (operand rope u k))) el ∙ ap (quotient a l) ex in (
+      edits_leave place y v accumulator (omega arith) (λ e. omega arith) ∙ stored_a u.cells (extend p.quotient) (extend p.remainder)
+          ∙ ap (λ q. extend q.quotient) same,
+      edits_leave place y v lower_accumulator (omega arith) (λ e. omega arith)
+          ∙ stored_l (put u.cells accumulator (extend p.quotient)) (extend p.remainder)
+          ∙ ap (λ q. extend (correct (extend q.remainder))) same,
     )
 
 remainder_below : (a l x : ℕ) → x < 32768 → quotient_fits a l x ≡ true → (quotient a l x).remainder < 32768
 remainder_below a l x lt fit =
-    let is : (quotient a l x).remainder ≡ signed (dividend_is_minus a l) (dividend_magnitude a l % magnitude x) = ap (λ (b : Bool). if b then signed (dividend_is_minus a l) (dividend_magnitude a l % magnitude x) else l) fit in
+    let is : (quotient a l x).remainder ≡ signed (dividend_is_minus a l) (dividend_magnitude a l % magnitude x) = ap
+    (λ (b : Bool). if b then signed (dividend_is_minus a l) (dividend_magnitude a l % magnitude x) else l) fit in
     let some : 0 < magnitude x = grind (arith, nat_tests) in
     let m = magnitude_small x lt in
     let few : dividend_magnitude a l % magnitude x < 16384 = omega arith in
@@ -176,7 +199,8 @@ divides_by_value scenario s k a l x lt e ea el ex less =
     let t = (next scenario s).0 in
     let fit : quotient_fits a l x ≡ true = grind (arith, nat_tests) in
     let d : Divides a l x = divides a l x lt fit in
-    let leaves = dv_leaves rope (fetched s) k a l x (ap correct (fetched_get s accumulator (λ e. omega arith) (λ e. omega arith)) ∙ ea) (ap correct (fetched_get s lower_accumulator (λ e. omega arith) (λ e. omega arith)) ∙ el) ex in
+    let leaves = dv_leaves rope (fetched s) k a l x (ap correct (fetched_get s accumulator (λ e. omega arith) (λ e. omega arith)) ∙ ea)
+    (ap correct (fetched_get s lower_accumulator (λ e. omega arith) (λ e. omega arith)) ∙ el) ex in
     let is = step_is scenario s (record { instruction = Dv; operand = k }) e in
     let q = (quotient a l x).quotient in
     let r = (quotient a l x).remainder in
@@ -193,7 +217,8 @@ divides_by_value scenario s k a l x lt e ea el ex less =
 
 -- ## CCS
 ccs_leaves : (rope : Words) (u : State) (k x z : ℕ) → operand rope u k ≡ x → next_address u ≡ z
-    → (accumulator_of (executed rope u (record { instruction = Ccs; operand = k })) ≡ dabs x) × (next_address (executed rope u (record { instruction = Ccs; operand = k })) ≡ extend (correct (z + ccs_skip x) % 4096))
+    → (accumulator_of (executed rope u (record { instruction = Ccs; operand = k })) ≡ dabs x)
+    × (next_address (executed rope u (record { instruction = Ccs; operand = k })) ≡ extend (correct (z + ccs_skip x) % 4096))
 unfolding executed after ccs
 ccs_leaves rope u k x z ex ez =
     let y = operand rope u k in
@@ -201,7 +226,8 @@ ccs_leaves rope u k x z ex ez =
     let v = record u { cells = put (put u.cells accumulator (dabs y)) program_counter n } in
     let l = place_in u k in (
       edits_leave l y v accumulator (omega arith) (λ e. omega arith)
-          ∙ get-put_other (put u.cells accumulator (dabs y)) program_counter n accumulator (λ e. omega arith) (λ e. omega arith) (λ e. omega arith) ∙ get-put_accumulator u.cells (dabs y) ∙ ap dabs ex,
+          ∙ get-put_other (put u.cells accumulator (dabs y)) program_counter n accumulator (λ e. omega arith) (λ e. omega arith)
+          (λ e. omega arith) ∙ get-put_accumulator u.cells (dabs y) ∙ ap dabs ex,
       edits_leave l y v program_counter (omega arith) (λ e. omega arith) ∙ stored_z (put u.cells accumulator (dabs y)) n
           ∙ ap (λ m. extend (correct m % 4096)) (ap (λ b. b + ccs_skip y) ez ∙ ap (λ b. z + ccs_skip b) ex),
     )
@@ -241,7 +267,8 @@ counts_down scenario s k x z lx lz e ex ez =
 
 -- ## INDEX
 index_leaves : (rope : Words) (u : State) (k x : ℕ) → operand rope u k ≡ x
-    → ((executed rope u (record { instruction = Index; operand = k })).waiting_sum ≡ Some x) × ((executed rope u (record { instruction = Index; operand = k })).waiting_word ≡ u.waiting_word)
+    → ((executed rope u (record { instruction = Index; operand = k })).waiting_sum ≡ Some x)
+    × ((executed rope u (record { instruction = Index; operand = k })).waiting_word ≡ u.waiting_word)
 unfolding executed after index
 index_leaves rope u k x ex =
     let y = operand rope u k in
@@ -256,13 +283,16 @@ pub sum_bars : (t : State) (x : ℕ) → t.waiting_sum ≡ Some x → entry t �
 unfolding entry
 sum_bars t x e =
     let overflows = has_overflow (over (accumulator_of t)) in
-    ap (λ (o : Option ℕ). cond (t.inhibit || t.inside || t.extra || is_some o || is_some t.waiting_word || overflows) None (least_request t.requests)) e
+    ap (λ (o : Option ℕ). cond (t.inhibit || t.inside || t.extra || is_some o || is_some t.waiting_word || overflows) None
+    (least_request t.requests)) e
     ∙ barred (t.inhibit || t.inside || t.extra) (is_some t.waiting_word) overflows (least_request t.requests)
 
-pub indexed : (w x : ℕ) → w < 32768 → x < 32768 → unsigned_abs (value w +ℤ value x) < 16384 → value (correct (sum (extend w) (extend x))) ≡ value w +ℤ value x
+pub indexed : (w x : ℕ) → w < 32768 → x < 32768 → unsigned_abs (value w +ℤ value x) < 16384
+    → value (correct (sum (extend w) (extend x))) ≡ value w +ℤ value x
 indexed w x p q few = grind (arith, ints, nat_tests)
 
-pub word_of : (rope : Words) (t : State) (x : ℕ) → t.waiting_sum ≡ Some x → t.waiting_word ≡ None → instruction_word rope t ≡ correct (sum (extend (word_at_z rope t)) x)
+pub word_of : (rope : Words) (t : State) (x : ℕ) → t.waiting_sum ≡ Some x → t.waiting_word ≡ None
+    → instruction_word rope t ≡ correct (sum (extend (word_at_z rope t)) x)
 unfolding instruction_word
 word_of rope t x es ew = rw (es, ew) refl
 
@@ -276,7 +306,8 @@ indexes_by_value scenario s k x lt e ex =
     let waits : t.waiting_sum ≡ Some (extend x) = ap (λ (v : State). v.waiting_sum) is ∙ leaves.0 in
     let no_word : t.waiting_word ≡ None = ap (λ (v : State). v.waiting_word) is ∙ leaves.1 in
     record {
-      sum = λ few. ap value (word_of rope t (extend x) waits no_word) ∙ indexed (word_at_z rope t) x (corrected_below (operand rope t (next_address t))) lt few;
+      sum = λ few. ap value (word_of rope t (extend x) waits no_word)
+          ∙ indexed (word_at_z rope t) x (corrected_below (operand rope t (next_address t))) lt few;
       extra = ap (λ (v : State). v.extra) is;
       none_entered = sum_bars t (extend x) waits;
     }
@@ -292,7 +323,8 @@ corrected_value : (x : ℕ) → x < 65536 → value_wide (extend (correct x)) +�
 unfolding weight
 corrected_value x lt = grind (arith, ints, nat_tests)
 
-sum_value : (x y : ℕ) → x < 65536 → y < 65536 → unsigned_abs (value_wide x +ℤ value_wide y) < 32768 → value_wide (sum x y) ≡ value_wide x +ℤ value_wide y
+sum_value : (x y : ℕ) → x < 65536 → y < 65536 → unsigned_abs (value_wide x +ℤ value_wide y) < 32768
+    → value_wide (sum x y) ≡ value_wide x +ℤ value_wide y
 sum_value x y p q few = grind (arith, ints, nat_tests)
 
 sum_below : (x y : ℕ) → sum x y < 65536
@@ -330,22 +362,31 @@ carry_one_of Minus = refl
 
 -- 2^14 times a sum
 times : (x y z : ℤ) → z ≡ x +ℤ y → z *ℤ pos 16384 ≡ x *ℤ pos 16384 +ℤ y *ℤ pos 16384
-times (pos a) (pos b) (pos c) e = let p = pos-*ℤ-pos a 16384 in let q = pos-*ℤ-pos b 16384 in let r = pos-*ℤ-pos c 16384 in omega (arith, ints)
+times (pos a) (pos b) (pos c) e = let p = pos-*ℤ-pos a 16384 in let q = pos-*ℤ-pos b 16384 in let r = pos-*ℤ-pos c 16384 in omega
+    (arith, ints)
 times (pos a) (pos b) (negsuc c) e = absurd (omega (arith, ints))
-times (pos a) (negsuc b) (pos c) e = let p = pos-*ℤ-pos a 16384 in let q = negsuc-*ℤ-pos b 16384 in let r = pos-*ℤ-pos c 16384 in omega (arith, ints)
-times (pos a) (negsuc b) (negsuc c) e = let p = pos-*ℤ-pos a 16384 in let q = negsuc-*ℤ-pos b 16384 in let r = negsuc-*ℤ-pos c 16384 in omega (arith, ints)
-times (negsuc a) (pos b) (pos c) e = let p = negsuc-*ℤ-pos a 16384 in let q = pos-*ℤ-pos b 16384 in let r = pos-*ℤ-pos c 16384 in omega (arith, ints)
-times (negsuc a) (pos b) (negsuc c) e = let p = negsuc-*ℤ-pos a 16384 in let q = pos-*ℤ-pos b 16384 in let r = negsuc-*ℤ-pos c 16384 in omega (arith, ints)
+times (pos a) (negsuc b) (pos c) e = let p = pos-*ℤ-pos a 16384 in let q = negsuc-*ℤ-pos b 16384 in let r = pos-*ℤ-pos c 16384 in omega
+    (arith, ints)
+times (pos a) (negsuc b) (negsuc c) e = let p = pos-*ℤ-pos a 16384 in let q = negsuc-*ℤ-pos b 16384 in let r = negsuc-*ℤ-pos c 16384 in
+    omega (arith, ints)
+times (negsuc a) (pos b) (pos c) e = let p = negsuc-*ℤ-pos a 16384 in let q = pos-*ℤ-pos b 16384 in let r = pos-*ℤ-pos c 16384 in omega
+    (arith, ints)
+times (negsuc a) (pos b) (negsuc c) e = let p = negsuc-*ℤ-pos a 16384 in let q = pos-*ℤ-pos b 16384 in let r = negsuc-*ℤ-pos c 16384 in
+    omega (arith, ints)
 times (negsuc a) (negsuc b) (pos c) e = absurd (omega (arith, ints))
-times (negsuc a) (negsuc b) (negsuc c) e = let p = negsuc-*ℤ-pos a 16384 in let q = negsuc-*ℤ-pos b 16384 in let r = negsuc-*ℤ-pos c 16384 in omega (arith, ints)
+times (negsuc a) (negsuc b) (negsuc c) e = let p = negsuc-*ℤ-pos a 16384 in let q = negsuc-*ℤ-pos b 16384 in let r = negsuc-*ℤ-pos c 16384
+    in omega (arith, ints)
 
 -- the low sum and the high one, with the carry
-low_value : (l y : ℕ) → l < 32768 → y < 32768 → value_wide (extend (correct (sum (extend l) (extend y)))) +ℤ weight (over (sum (extend l) (extend y))) ≡ value l +ℤ value y
+low_value : (l y : ℕ) → l < 32768 → y < 32768 → value_wide (extend (correct (sum (extend l) (extend y)))) +ℤ weight
+    (over (sum (extend l) (extend y))) ≡ value l +ℤ value y
 low_value l y p q =
     let vl = value_extended l in
     let vy = value_extended y in
-    let few : unsigned_abs (value_wide (extend l) +ℤ value_wide (extend y)) < 32768 = (let sl = value_small l p in let sy = value_small y q in rw (vl, vy) (grind (arith, ints))) in
-    corrected_value (sum (extend l) (extend y)) (sum_below (extend l) (extend y)) ∙ sum_value (extend l) (extend y) (extend_below l p) (extend_below y q) few
+    let few : unsigned_abs (value_wide (extend l) +ℤ value_wide (extend y))
+    < 32768 = (let sl = value_small l p in let sy = value_small y q in rw (vl, vy) (grind (arith, ints))) in
+    corrected_value (sum (extend l) (extend y)) (sum_below (extend l) (extend y))
+    ∙ sum_value (extend l) (extend y) (extend_below l p) (extend_below y q) few
     ∙ ap (λ v. v +ℤ value_wide (extend y)) vl ∙ ap (λ v. value l +ℤ v) vy
 
 high_value : (a x : ℕ) (o : Overflow) → a < 65536 → x < 65536 → unsigned_abs (value_wide a +ℤ value_wide x) + 1 < 32768
@@ -353,7 +394,8 @@ high_value : (a x : ℕ) (o : Overflow) → a < 65536 → x < 65536 → unsigned
 high_value a x o p q few =
     let first : value_wide (sum a x) ≡ value_wide a +ℤ value_wide x = sum_value a x p q (omega arith) in
     let c = carry_small o in
-    let small : unsigned_abs (value_wide (sum a x) +ℤ value_wide (carry o)) < 32768 = rw first (near (value_wide a +ℤ value_wide x) (value_wide (carry o)) few c) in
+    let small : unsigned_abs (value_wide (sum a x) +ℤ value_wide (carry o))
+    < 32768 = rw first (near (value_wide a +ℤ value_wide x) (value_wide (carry o)) few c) in
     sum_value (sum a x) (carry o) (sum_below a x) (carry_below o) small ∙ ap (λ v. v +ℤ value_wide (carry o)) first
   where
     near : (v w : ℤ) → unsigned_abs v + 1 < 32768 → unsigned_abs w ≤ 1 → unsigned_abs (v +ℤ w) < 32768
@@ -368,7 +410,8 @@ joined a b l o low high v w e1 e2 e3 e4 =
 
 das_value : (a l x y : ℕ) → a < 65536 → l < 32768 → x < 32768 → y < 32768 → unsigned_abs (value_wide a +ℤ value x) + 1 < 32768
     → value_wide (carry (over (sum (sum a (extend x)) (carry (over (sum (extend l) (extend y))))))) *ℤ pos 268435456
-    +ℤ double (value_wide (extend (correct (sum (sum a (extend x)) (carry (over (sum (extend l) (extend y)))))))) (value_wide (extend (correct (sum (extend l) (extend y)))))
+    +ℤ double (value_wide (extend (correct (sum (sum a (extend x)) (carry (over (sum (extend l) (extend y))))))))
+    (value_wide (extend (correct (sum (extend l) (extend y)))))
     ≡ double (value_wide a +ℤ value x) (value l +ℤ value y)
 das_value a l x y pa pl px py few =
     let xl = sum (extend l) (extend y) in
@@ -378,11 +421,13 @@ das_value a l x y pa pl px py few =
     let high : value_wide yh ≡ (value_wide a +ℤ value x) +ℤ value_wide (carry o) =
     high_value a (extend x) o pa (extend_below x px) (rw vx few) ∙ ap (λ v. (value_wide a +ℤ v) +ℤ value_wide (carry o)) vx in
     ap (λ v. v +ℤ double (value_wide (extend (correct yh))) (value_wide (extend (correct xl)))) (sym (weight_twice (over yh)))
-    ∙ joined (value_wide a +ℤ value x) (weight (over yh)) (value l +ℤ value y) (weight o) (value_wide (extend (correct xl))) (value_wide yh) (value_wide (carry o)) (value_wide (extend (correct yh)))
+    ∙ joined (value_wide a +ℤ value x) (weight (over yh)) (value l +ℤ value y) (weight o) (value_wide (extend (correct xl))) (value_wide yh)
+    (value_wide (carry o)) (value_wide (extend (correct yh)))
     (low_value l y pl py) (carry_weight o) high (corrected_value yh (sum_below (sum a (extend x)) (carry o)))
 
 doubled_value : (a l : ℕ) → a < 65536 → l < 32768 → unsigned_abs (value_wide a +ℤ value_wide a) + 1 < 32768
-    → double (value_wide (sum (sum a a) (carry (over (sum (extend l) (extend l)))))) (value_wide (extend (correct (sum (extend l) (extend l))))) ≡ double (value_wide a +ℤ value_wide a) (value l +ℤ value l)
+    → double (value_wide (sum (sum a a) (carry (over (sum (extend l) (extend l))))))
+    (value_wide (extend (correct (sum (extend l) (extend l))))) ≡ double (value_wide a +ℤ value_wide a) (value l +ℤ value l)
 doubled_value a l pa pl few =
     let o = over (sum (extend l) (extend l)) in
     let high = high_value a a o pa pa few in
@@ -405,7 +450,8 @@ unfolding erasable_in
 fetched_number s k = ap erasable_number (fetched_places s k)
 
 -- the number of a plain place, by its address
-number_by : (b c d e : Bool) (x y m n o p q r : ℕ) → b ≡ false → c ≡ false → erasable_number (cond b (Erasable x) (cond c (Erasable y) (cond d (Fixed m n) (cond e (Fixed o p) (Fixed q r))))) ≡ 0
+number_by : (b c d e : Bool) (x y m n o p q r : ℕ) → b ≡ false → c ≡ false
+    → erasable_number (cond b (Erasable x) (cond c (Erasable y) (cond d (Fixed m n) (cond e (Fixed o p) (Fixed q r))))) ≡ 0
 number_by false false true e x y m n o p q r f g = refl
 number_by false false false true x y m n o p q r f g = refl
 number_by false false false false x y m n o p q r f g = refl
@@ -417,7 +463,8 @@ unfolding place
 above a eb fb super le =
     let one : nat_lt a 768 ≡ false = grind (arith, nat_tests) in
     let two : nat_lt a 1024 ≡ false = grind (arith, nat_tests) in
-    number_by (nat_lt a 768) (nat_lt a 1024) (nat_lt a 2048) (nat_lt a 3072) a (eb * 256 + (a - 768)) (selected_bank fb super) (a - 1024) 2 (a - 2048) 3 (a - 3072) one two
+    number_by (nat_lt a 768) (nat_lt a 1024) (nat_lt a 2048) (nat_lt a 3072) a (eb * 256 + (a - 768)) (selected_bank fb super) (a - 1024) 2
+    (a - 2048) 3 (a - 3072) one two
 
 below : (a eb fb : ℕ) (super : Bool) → a < 768 → erasable_number (place a eb fb super) ≡ a
 unfolding place
@@ -434,7 +481,8 @@ plain_from : (p : ℕ) → is_plain p ≡ true → 8 ≤ p
 plain_from p e = grind (arith, nat_tests)
 
 -- the places of two addresses that follow one another
-steps_apart : (j eb fb : ℕ) (super : Bool) → 8 ≤ erasable_number (place (suc j) eb fb super) → erasable_number (place j eb fb super) ≢ erasable_number (place (suc j) eb fb super)
+steps_apart : (j eb fb : ℕ) (super : Bool) → 8 ≤ erasable_number (place (suc j) eb fb super)
+    → erasable_number (place j eb fb super) ≢ erasable_number (place (suc j) eb fb super)
 steps_apart j eb fb super ge same =
     elim (cases_lt (suc j) 768) [
       | inl low ↦ (let x = below j eb fb super (omega arith) in let y = below (suc j) eb fb super low in omega arith)
@@ -447,7 +495,8 @@ steps_apart j eb fb super ge same =
       ]
     ]
 
-places_apart : (k eb fb : ℕ) (super : Bool) → 8 ≤ erasable_number (place k eb fb super) → erasable_number (place (first_of greatest_short k) eb fb super) ≢ erasable_number (place k eb fb super)
+places_apart : (k eb fb : ℕ) (super : Bool) → 8 ≤ erasable_number (place k eb fb super)
+    → erasable_number (place (first_of greatest_short k) eb fb super) ≢ erasable_number (place k eb fb super)
 places_apart zero eb fb super ge = let y = below 0 eb fb super (omega arith) in absurd (omega arith)
 places_apart (suc j) eb fb super ge =
     let before : first_of greatest_short (suc j) ≡ j = grind (arith, nat_tests) in
@@ -469,7 +518,9 @@ read_plain c p e = grind (arith, nat_tests)
 plain_back : (c : Cells) (p x : ℕ) → is_plain p ≡ true → get (put c p (extend (correct x))) p ≡ extend (correct x)
 plain_back c p x e =
     let ge = plain_from p e in
-    read_plain (put c p (extend (correct x))) p e ∙ ap extend (at-put c p (extend (correct x)) (λ e. omega arith) (λ e. omega arith) ∙ kept_plain p (extend (correct x)) e ∙ corrected_twice x)
+    read_plain (put c p (extend (correct x))) p e
+    ∙ ap extend (at-put c p (extend (correct x)) (λ e. omega arith) (λ e. omega arith) ∙ kept_plain p (extend (correct x)) e
+    ∙ corrected_twice x)
 
 abbrev low_sum : State → ℕ → ℕ
 low_sum u k = sum (lower_of u) (get u.cells (erasable_in u k))
@@ -480,7 +531,8 @@ high_sum u k = sum (sum (accumulator_of u) (get u.cells (erasable_in u (first_of
 -- the changes where the pair is not A and L, and where it is
 abbrev das_stores : State → ℕ → List Change
 das_stores u k =
-    AtPlace (erasable_in u k) (extend (correct (low_sum u k))) ∷ AtPlace (erasable_in u (first_of greatest_short k)) (extend (correct (high_sum u k)))
+    AtPlace (erasable_in u k) (extend (correct (low_sum u k)))
+    ∷ AtPlace (erasable_in u (first_of greatest_short k)) (extend (correct (high_sum u k)))
     ∷ AtPlace lower_accumulator 0 ∷ AtPlace accumulator (carry (over (high_sum u k))) ∷ []
 
 abbrev das_keeps : State → ℕ → List Change
@@ -502,7 +554,8 @@ das_is_double : (u : State) (k : ℕ) → (erasable_in u (first_of greatest_shor
 unfolding das
 das_is_double u k e = chosen_first (erasable_in u (first_of greatest_short k) == accumulator) (das_keeps u k) (das_stores u k) e
 
-das_cells : (rope : Words) (u : State) (k : ℕ) (cs : List Change) → das u k ≡ cs → (executed rope u (record { instruction = Das; operand = k })).cells ≡ (changes u cs).cells
+das_cells : (rope : Words) (u : State) (k : ℕ) (cs : List Change) → das u k ≡ cs
+    → (executed rope u (record { instruction = Das; operand = k })).cells ≡ (changes u cs).cells
 unfolding executed after
 das_cells rope u k cs e = ap (λ (ds : List Change). (changes u ds).cells) e
 
@@ -513,7 +566,8 @@ four c p q x y z = put (put (put (put c p (extend (correct x))) q (extend (corre
 four_l : (c : Cells) (p q x y z : ℕ) → get (four c p q x y z) lower_accumulator ≡ 0
 four_l c p q x y z =
     let d = put (put c p (extend (correct x))) q (extend (correct y)) in
-    get-put_other (put d lower_accumulator 0) accumulator z lower_accumulator (λ e. omega arith) (λ e. omega arith) (λ e. omega arith) ∙ stored_l d 0
+    get-put_other (put d lower_accumulator 0) accumulator z lower_accumulator (λ e. omega arith) (λ e. omega arith) (λ e. omega arith)
+    ∙ stored_l d 0
 
 four_q : (c : Cells) (p q x y z : ℕ) → is_plain q ≡ true → get (four c p q x y z) q ≡ extend (correct y)
 four_q c p q x y z e =
@@ -533,7 +587,8 @@ four_p c p q x y z e f ne =
     ∙ get-put_other (put c p (extend (correct x))) q (extend (correct y)) p (λ e. omega arith) (λ e. omega arith) (λ e. ne (sym e))
     ∙ plain_back c p x e
 
-pub adds_doubles : (scenario : Scenario) (s : State) (k a l x y : ℕ) → a < 65536 → l < 32768 → x < 32768 → y < 32768 → AddsDoubles scenario s k a l x y
+pub adds_doubles : (scenario : Scenario) (s : State) (k a l x y : ℕ) → a < 65536 → l < 32768 → x < 32768 → y < 32768
+    → AddsDoubles scenario s k a l x y
 adds_doubles scenario s k a l x y pa pl px py e plain plain' ea el ex ey few =
     let rope = scenario.rope in
     let u = fetched s in
@@ -549,27 +604,36 @@ adds_doubles scenario s k a l x y pa pl px py e plain plain' ea el ex ey few =
     let no : (erasable_in u j == accumulator) ≡ false = rw fj (grind (arith, nat_tests)) in
     let a' : accumulator_of u ≡ a = fetched_get s accumulator (λ e. omega arith) (λ e. omega arith) ∙ ea in
     let l' : lower_of u ≡ extend l = fetched_get s lower_accumulator (λ e. omega arith) (λ e. omega arith) ∙ el in
-    let x' : get u.cells (erasable_in u j) ≡ extend x = ap (get u.cells) fj ∙ fetched_get s first (λ e. omega arith) (λ e. omega arith) ∙ ex in
-    let y' : get u.cells (erasable_in u k) ≡ extend y = ap (get u.cells) fk ∙ fetched_get s second (λ e. omega arith) (λ e. omega arith) ∙ ey in
+    let x' : get u.cells (erasable_in u j) ≡ extend x = ap (get u.cells) fj ∙ fetched_get s first (λ e. omega arith) (λ e. omega arith)
+    ∙ ex in
+    let y' : get u.cells (erasable_in u k) ≡ extend y = ap (get u.cells) fk ∙ fetched_get s second (λ e. omega arith) (λ e. omega arith)
+    ∙ ey in
     let xl : low_sum u k ≡ sum (extend l) (extend y) = ap (λ v. sum v (get u.cells (erasable_in u k))) l' ∙ ap (sum (extend l)) y' in
     let yh : high_sum u k ≡ sum (sum a (extend x)) (carry (over (sum (extend l) (extend y)))) =
-    ap (λ v. sum (sum v (get u.cells (erasable_in u j))) (carry (over (low_sum u k)))) a' ∙ ap (λ v. sum (sum a v) (carry (over (low_sum u k)))) x' ∙ ap (λ v. sum (sum a (extend x)) (carry (over v))) xl in
+    ap (λ v. sum (sum v (get u.cells (erasable_in u j))) (carry (over (low_sum u k)))) a'
+    ∙ ap (λ v. sum (sum a v) (carry (over (low_sum u k)))) x' ∙ ap (λ v. sum (sum a (extend x)) (carry (over v))) xl in
     let cells : (next scenario s).0.cells ≡ four u.cells second first (low_sum u k) (high_sum u k) (carry (over (high_sum u k))) =
     ap (λ (t : State). t.cells) is ∙ das_cells rope u k (das_stores u k) (das_is u k no)
     ∙ ap (λ p. four u.cells p (erasable_in u j) (low_sum u k) (high_sum u k) (carry (over (high_sum u k)))) fk
     ∙ ap (λ q. four u.cells second q (low_sum u k) (high_sum u k) (carry (over (high_sum u k)))) fj in
     let z = carry (over (high_sum u k)) in
     let ra : accumulator_of (next scenario s).0 ≡ carry (over (sum (sum a (extend x)) (carry (over (sum (extend l) (extend y)))))) =
-    ap (λ c. get c accumulator) cells ∙ get-put_accumulator (put (put (put u.cells second (extend (correct (low_sum u k)))) first (extend (correct (high_sum u k)))) lower_accumulator 0) z ∙ ap (λ v. carry (over v)) yh in
+    ap (λ c. get c accumulator) cells ∙ get-put_accumulator
+    (put (put (put u.cells second (extend (correct (low_sum u k)))) first (extend (correct (high_sum u k)))) lower_accumulator 0) z
+    ∙ ap (λ v. carry (over v)) yh in
     let rq : get (next scenario s).0.cells first ≡ extend (correct (sum (sum a (extend x)) (carry (over (sum (extend l) (extend y)))))) =
     ap (λ c. get c first) cells ∙ four_q u.cells second first (low_sum u k) (high_sum u k) z plain ∙ ap (λ v. extend (correct v)) yh in
     let rp : get (next scenario s).0.cells second ≡ extend (correct (sum (extend l) (extend y))) =
-    ap (λ c. get c second) cells ∙ four_p u.cells second first (low_sum u k) (high_sum u k) z plain' plain ne ∙ ap (λ v. extend (correct v)) xl in
+    ap (λ c. get c second) cells ∙ four_p u.cells second first (low_sum u k) (high_sum u k) z plain' plain ne
+    ∙ ap (λ v. extend (correct v)) xl in
     record {
       makes =
-          ap (λ v. value_wide v *ℤ pos 268435456 +ℤ double (value_wide (get (next scenario s).0.cells first)) (value_wide (get (next scenario s).0.cells second))) ra
-          ∙ ap (λ v. value_wide (carry (over (sum (sum a (extend x)) (carry (over (sum (extend l) (extend y))))))) *ℤ pos 268435456 +ℤ double (value_wide v) (value_wide (get (next scenario s).0.cells second))) rq
-          ∙ ap (λ v. value_wide (carry (over (sum (sum a (extend x)) (carry (over (sum (extend l) (extend y))))))) *ℤ pos 268435456 +ℤ double (value_wide (extend (correct (sum (sum a (extend x)) (carry (over (sum (extend l) (extend y)))))))) (value_wide v)) rp
+          ap (λ v. value_wide v *ℤ pos 268435456 +ℤ double (value_wide (get (next scenario s).0.cells first))
+          (value_wide (get (next scenario s).0.cells second))) ra
+          ∙ ap (λ v. value_wide (carry (over (sum (sum a (extend x)) (carry (over (sum (extend l) (extend y))))))) *ℤ pos 268435456 +ℤ
+          double (value_wide v) (value_wide (get (next scenario s).0.cells second))) rq
+          ∙ ap (λ v. value_wide (carry (over (sum (sum a (extend x)) (carry (over (sum (extend l) (extend y))))))) *ℤ pos 268435456 +ℤ
+          double (value_wide (extend (correct (sum (sum a (extend x)) (carry (over (sum (extend l) (extend y)))))))) (value_wide v)) rp
           ∙ das_value a l x y pa pl px py few;
       carry = rw ra (carry_one_of (over (sum (sum a (extend x)) (carry (over (sum (extend l) (extend y)))))));
       lower = ap (λ c. get c lower_accumulator) cells ∙ four_l u.cells second first (low_sum u k) (high_sum u k) z;
@@ -596,17 +660,22 @@ doubles_by_value scenario s a l pa pl e ea el few =
     let y' : get u.cells (erasable_in u 1) ≡ extend l = ap (get u.cells) f1 ∙ l' in
     let xl : low_sum u 1 ≡ sum (extend l) (extend l) = ap (λ v. sum v (get u.cells (erasable_in u 1))) l' ∙ ap (sum (extend l)) y' in
     let yh : high_sum u 1 ≡ sum (sum a a) (carry (over (sum (extend l) (extend l)))) =
-    ap (λ v. sum (sum v (get u.cells (erasable_in u (first_of greatest_short 1)))) (carry (over (low_sum u 1)))) a' ∙ ap (λ v. sum (sum a v) (carry (over (low_sum u 1)))) x' ∙ ap (λ v. sum (sum a a) (carry (over v))) xl in
-    let cells : (next scenario s).0.cells ≡ put (put u.cells lower_accumulator (extend (correct (low_sum u 1)))) accumulator (high_sum u 1) =
+    ap (λ v. sum (sum v (get u.cells (erasable_in u (first_of greatest_short 1)))) (carry (over (low_sum u 1)))) a'
+    ∙ ap (λ v. sum (sum a v) (carry (over (low_sum u 1)))) x' ∙ ap (λ v. sum (sum a a) (carry (over v))) xl in
+    let cells : (next scenario s).0.cells ≡ put (put u.cells lower_accumulator (extend (correct (low_sum u 1)))) accumulator (high_sum u 1)
+    =
     ap (λ (t : State). t.cells) is ∙ das_cells scenario.rope u 1 (das_keeps u 1) (das_is_double u 1 yes) in
     let ra : accumulator_of (next scenario s).0 ≡ sum (sum a a) (carry (over (sum (extend l) (extend l)))) =
-    ap (λ c. get c accumulator) cells ∙ get-put_accumulator (put u.cells lower_accumulator (extend (correct (low_sum u 1)))) (high_sum u 1) ∙ yh in
+    ap (λ c. get c accumulator) cells ∙ get-put_accumulator (put u.cells lower_accumulator (extend (correct (low_sum u 1)))) (high_sum u 1)
+    ∙ yh in
     let rl : lower_of (next scenario s).0 ≡ extend (correct (sum (extend l) (extend l))) =
     ap (λ c. get c lower_accumulator) cells
-    ∙ get-put_other (put u.cells lower_accumulator (extend (correct (low_sum u 1)))) accumulator (high_sum u 1) lower_accumulator (λ e. omega arith) (λ e. omega arith) (λ e. omega arith)
+    ∙ get-put_other (put u.cells lower_accumulator (extend (correct (low_sum u 1)))) accumulator (high_sum u 1) lower_accumulator
+    (λ e. omega arith) (λ e. omega arith) (λ e. omega arith)
     ∙ stored_l u.cells (extend (correct (low_sum u 1))) ∙ ap extend (corrected_twice (low_sum u 1)) ∙ ap (λ v. extend (correct v)) xl in
     ap (λ v. double (value_wide v) (value_wide (lower_of (next scenario s).0))) ra
-    ∙ ap (λ v. double (value_wide (sum (sum a a) (carry (over (sum (extend l) (extend l)))))) (value_wide v)) rl ∙ doubled_value a l pa pl few
+    ∙ ap (λ v. double (value_wide (sum (sum a a) (carry (over (sum (extend l) (extend l)))))) (value_wide v)) rl
+    ∙ doubled_value a l pa pl few
 
 -- ## TIME2 and TIME1
 pinc_value : (w : ℕ) → w < 32768 → w ≢ 16383 → value (pinc w).word ≡ value w +ℤ pos 1
@@ -631,26 +700,32 @@ carrying_tick : (s : State) (t2 : ℕ) (series : Option ℕ) → t2 < 32768 → 
     → (take s (Count Time1 Pinc, series)).cells ≡ put (put s.cells 0o25 0) 0o24 (extend (pinc t2).word)
 unfolding take counted
 carrying_tick s t2 series lt e f =
-    let stays : get (put s.cells 0o25 0) 0o24 ≡ extend t2 = get-put_other s.cells 0o25 0 0o24 (omega arith) (omega arith) (omega arith) ∙ f in
+    let stays : get (put s.cells 0o25 0) 0o24 ≡ extend t2 = get-put_other s.cells 0o25 0 0o24 (omega arith) (omega arith) (omega arith)
+    ∙ f in
     let w : correct (get (put s.cells 0o25 0) 0o24) ≡ t2 = ap correct stays ∙ back t2 lt in
     rw e (rw w refl)
 
 -- what TIME2 and TIME1 then hold
 plain_clock : (c : Cells) (t1 t2 : ℕ) → t1 < 32768 → t1 ≢ 16383 → get c 0o25 ≡ extend t1 → get c 0o24 ≡ extend t2
-    → double (value_wide (get (put c 0o25 (extend (pinc t1).word)) 0o24)) (value_wide (get (put c 0o25 (extend (pinc t1).word)) 0o25)) ≡ double (value_wide (get c 0o24)) (value_wide (get c 0o25)) +ℤ pos 1
+    → double (value_wide (get (put c 0o25 (extend (pinc t1).word)) 0o24)) (value_wide (get (put c 0o25 (extend (pinc t1).word)) 0o25))
+    ≡ double (value_wide (get c 0o24)) (value_wide (get c 0o25)) +ℤ pos 1
 plain_clock c t1 t2 lt ne e f =
     let x = extend (pinc t1).word in
     let two : get (put c 0o25 x) 0o24 ≡ get c 0o24 = get-put_other c 0o25 x 0o24 (omega arith) (omega arith) (omega arith) in
-    let one : value_wide (get (put c 0o25 x) 0o25) ≡ value (pinc t1).word = ap value_wide (get-put_word c 0o25 x (omega arith) ∙ ap extend (back (pinc t1).word (pinc_below t1))) ∙ value_extended (pinc t1).word in
+    let one : value_wide (get (put c 0o25 x) 0o25)
+    ≡ value (pinc t1).word = ap value_wide (get-put_word c 0o25 x (omega arith) ∙ ap extend (back (pinc t1).word (pinc_below t1)))
+    ∙ value_extended (pinc t1).word in
     let was : value_wide (get c 0o25) ≡ value t1 = ap value_wide e ∙ value_extended t1 in
     let more = pinc_value t1 lt ne in
     ap (λ v. double (value_wide v) (value_wide (get (put c 0o25 x) 0o25))) two ∙ omega (arith, ints)
 
 carrying_two : (c : Cells) (t2 : ℕ) → value_wide (get (put (put c 0o25 0) 0o24 (extend (pinc t2).word)) 0o24) ≡ value (pinc t2).word
-carrying_two c t2 = ap value_wide (get-put_word (put c 0o25 0) 0o24 (extend (pinc t2).word) (omega arith) ∙ ap extend (back (pinc t2).word (pinc_below t2))) ∙ value_extended (pinc t2).word
+carrying_two c t2 = ap value_wide (get-put_word (put c 0o25 0) 0o24 (extend (pinc t2).word) (omega arith)
+    ∙ ap extend (back (pinc t2).word (pinc_below t2))) ∙ value_extended (pinc t2).word
 
 carrying_one : (c : Cells) (y : ℕ) → value_wide (get (put (put c 0o25 0) 0o24 y) 0o25) ≡ pos 0
-carrying_one c y = ap value_wide (get-put_other (put c 0o25 0) 0o24 y 0o25 (omega arith) (omega arith) (omega arith) ∙ get-put_word c 0o25 0 (omega arith))
+carrying_one c y = ap value_wide (get-put_other (put c 0o25 0) 0o24 y 0o25 (omega arith) (omega arith) (omega arith)
+    ∙ get-put_word c 0o25 0 (omega arith))
 
 tick_sum : (v w : ℤ) → w ≡ v +ℤ pos 1 → double w (pos 0) ≡ double v (pos 16383) +ℤ pos 1
 tick_sum v w e =
@@ -659,19 +734,24 @@ tick_sum v w e =
     omega (arith, ints)
 
 carrying_clock : (c : Cells) (t2 : ℕ) → t2 < 32768 → t2 ≢ 16383 → get c 0o25 ≡ 16383 → get c 0o24 ≡ extend t2
-    → double (value_wide (get (put (put c 0o25 0) 0o24 (extend (pinc t2).word)) 0o24)) (value_wide (get (put (put c 0o25 0) 0o24 (extend (pinc t2).word)) 0o25)) ≡ double (value_wide (get c 0o24)) (value_wide (get c 0o25)) +ℤ pos 1
+    → double (value_wide (get (put (put c 0o25 0) 0o24 (extend (pinc t2).word)) 0o24))
+    (value_wide (get (put (put c 0o25 0) 0o24 (extend (pinc t2).word)) 0o25))
+    ≡ double (value_wide (get c 0o24)) (value_wide (get c 0o25)) +ℤ pos 1
 carrying_clock c t2 lt ne e f =
     let two = carrying_two c t2 in
     let one = carrying_one c (extend (pinc t2).word) in
     let was : value_wide (get c 0o24) ≡ value t2 = ap value_wide f ∙ value_extended t2 in
     let full : value_wide (get c 0o25) ≡ pos 16383 = ap value_wide e in
-    ap (λ v. double v (value_wide (get (put (put c 0o25 0) 0o24 (extend (pinc t2).word)) 0o25))) two ∙ ap (double (value (pinc t2).word)) one
-    ∙ tick_sum (value t2) (value (pinc t2).word) (pinc_value t2 lt ne) ∙ ap (λ v. double v (pos 16383) +ℤ pos 1) (sym was) ∙ ap (λ v. double (value_wide (get c 0o24)) v +ℤ pos 1) (sym full)
+    ap (λ v. double v (value_wide (get (put (put c 0o25 0) 0o24 (extend (pinc t2).word)) 0o25))) two
+    ∙ ap (double (value (pinc t2).word)) one
+    ∙ tick_sum (value t2) (value (pinc t2).word) (pinc_value t2 lt ne) ∙ ap (λ v. double v (pos 16383) +ℤ pos 1) (sym was)
+    ∙ ap (λ v. double (value_wide (get c 0o24)) v +ℤ pos 1) (sym full)
 
 is_full : (t : ℕ) → t < 32768 → extend t ≡ 16383 → t ≡ 16383
 is_full t lt e = grind (arith, nat_tests)
 
-pub ticks_as_one : (scenario : Scenario) (s : State) (t1 t2 : ℕ) (series : Option ℕ) → t1 < 32768 → t2 < 32768 → TicksAsOne scenario s t1 t2 series
+pub ticks_as_one : (scenario : Scenario) (s : State) (t1 t2 : ℕ) (series : Option ℕ) → t1 < 32768 → t2 < 32768
+    → TicksAsOne scenario s t1 t2 series
 ticks_as_one scenario s t1 t2 series l1 l2 e e1 e2 =
     let given : Input × Option ℕ = (Count Time1 Pinc, series) in
     let t = (next scenario s).0 in
@@ -679,14 +759,18 @@ ticks_as_one scenario s t1 t2 series l1 l2 e e1 e2 =
     record {
       on = λ not_full. elim (cases_eq t1 16383) [
         | inl full ↦ (let at' : get s.cells 0o25 ≡ 16383 = e1 ∙ ap extend full in
-            let ne : t2 ≢ 16383 = λ both. absurd (let a : (get s.cells 0o25 == 16383 && get s.cells 0o24 == 16383) ≡ true = rw (at', e2, both) refl in cc) in
-            ap (λ c. double (value_wide (get c 0o24)) (value_wide (get c 0o25))) (is ∙ carrying_tick s t2 series l2 at' e2) ∙ carrying_clock s.cells t2 l2 ne at' e2)
-        | inr ne ↦ ap (λ c. double (value_wide (get c 0o24)) (value_wide (get c 0o25))) (is ∙ plain_tick s t1 series l1 ne e1) ∙ plain_clock s.cells t1 t2 l1 ne e1 e2
+            let ne : t2 ≢ 16383 = λ both. absurd (let a : (get s.cells 0o25 == 16383 && get s.cells 0o24 == 16383)
+            ≡ true = rw (at', e2, both) refl in cc) in
+            ap (λ c. double (value_wide (get c 0o24)) (value_wide (get c 0o25))) (is ∙ carrying_tick s t2 series l2 at' e2)
+            ∙ carrying_clock s.cells t2 l2 ne at' e2)
+        | inr ne ↦ ap (λ c. double (value_wide (get c 0o24)) (value_wide (get c 0o25))) (is ∙ plain_tick s t1 series l1 ne e1)
+            ∙ plain_clock s.cells t1 t2 l1 ne e1 e2
       ];
       again = λ full full'.
           let two : t2 ≡ 16383 = is_full t2 l2 (sym e2 ∙ full') in
           let word : (pinc t2).word ≡ 0 = rw two refl in
           ap (λ c. double (value_wide (get c 0o24)) (value_wide (get c 0o25))) (is ∙ carrying_tick s t2 series l2 full e2)
-          ∙ ap (λ v. double v (value_wide (get (put (put s.cells 0o25 0) 0o24 (extend (pinc t2).word)) 0o25))) (carrying_two s.cells t2 ∙ ap value word)
+          ∙ ap (λ v. double v (value_wide (get (put (put s.cells 0o25 0) 0o24 (extend (pinc t2).word)) 0o25)))
+          (carrying_two s.cells t2 ∙ ap value word)
           ∙ ap (λ v. double (pos 0) v) (carrying_one s.cells (extend (pinc t2).word));
     }

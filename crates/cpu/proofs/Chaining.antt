@@ -1,5 +1,6 @@
 -- Chains.
-use Rattle.std.proofs.Common.{◌≡◌, ◌≤◌, ◌<◌, ℕ, zero, suc, ◌+◌, ◌-◌, false, cond, List, [], ◌∷◌, ◌++◌, map, refl, ap, ◌∙◌, sym, subst, arith}
+use Rattle.std.proofs.Common.{◌≡◌, ◌≤◌, ◌<◌, ℕ, zero, suc, ◌+◌, ◌-◌, false, cond, List, [], ◌∷◌, ◌++◌, map, refl, ap, ◌∙◌, sym, subst}
+use Rattle.std.proofs.Common.{arith}
 use Rattle.std.specs.List.{flat_map}
 use Rattle.cpu.specs.declared.spot.Spot.{Spot}
 use Rattle.cpu.specs.declared.spot.Spot.TheVariants.{Cell, InRope}
@@ -8,7 +9,8 @@ use Rattle.cpu.specs.Next.{next}
 use Rattle.cpu.specs.Run.{run}
 use Rattle.cpu.specs.Links.{Flow, Link, link, flows, targets, sources, sources_by, is_in, targets_by, spot_word}
 use Rattle.cpu.specs.Dependence.{origins, StandAlike}
-use Rattle.cpu.specs.Chains.{writes_at, writes_any, link_at, before_step, IsLastWriter, IsChain, chain_end, chain_origins, ChainExplains, ChainFixes}
+use Rattle.cpu.specs.Chains.{writes_at, writes_any, link_at, before_step, IsLastWriter, IsChain, chain_end, chain_origins, ChainExplains}
+use Rattle.cpu.specs.Chains.{ChainFixes}
 use Rattle.cpu.proofs.Trails.{first_false, second_false, not_first, not_second}
 use Rattle.cpu.proofs.RunLaws.{run-add-one}
 use Rattle.cpu.proofs.Linking.{depends_on_origins, agree_all, agree_alike, alike_agree, run_later}
@@ -29,7 +31,8 @@ own_source k (InRope bank offset) h = refl
 own_sources : (k : Link) (xs : List Spot) → writes_any k xs ≡ false → flat_map (sources k) xs ≡ xs
 own_sources k [] h = refl
 own_sources k (x ∷ xs) h =
-    (λ i. own_source k x (first_false (writes_at k x) (writes_any k xs) h) i ++ own_sources k xs (second_false (writes_at k x) (writes_any k xs) h) i)
+    (λ i. own_source k x (first_false (writes_at k x) (writes_any k xs) h) i
+    ++ own_sources k xs (second_false (writes_at k x) (writes_any k xs) h) i)
 
 -- steps that write at none
 still : (scenario : Scenario) (m k : ℕ) (xs : List Spot) → ((u : ℕ) → m < u → u < m + suc k → writes_any (link_at scenario u) xs ≡ false)
@@ -41,7 +44,8 @@ still scenario m (suc k) xs none =
     ∙ still scenario m k xs (λ u lt below. none u lt (omega arith))
 
 -- steps after steps
-origins_add : (scenario : Scenario) (m k j : ℕ) (xs : List Spot) → origins scenario m (k + j) xs ≡ origins scenario m k (origins scenario (m + k) j xs)
+origins_add : (scenario : Scenario) (m k j : ℕ) (xs : List Spot)
+    → origins scenario m (k + j) xs ≡ origins scenario m k (origins scenario (m + k) j xs)
 unfolding origins
 origins_add scenario m k zero xs = let e : k + 0 ≡ k = omega arith in ap (λ k. origins scenario m k xs) e
 origins_add scenario m k (suc j) xs =
@@ -51,7 +55,8 @@ origins_add scenario m k (suc j) xs =
     ∙ ap (λ u. origins scenario m (k + j) (before_step scenario u xs)) d
     ∙ origins_add scenario m k j (before_step scenario (m + k + j) xs)
 
-last_writer : (scenario : Scenario) (p : ℕ) (xs : List Spot) (t : ℕ) → IsLastWriter scenario p xs t → origins scenario t (p - t) xs ≡ before_step scenario t xs
+last_writer : (scenario : Scenario) (p : ℕ) (xs : List Spot) (t : ℕ) → IsLastWriter scenario p xs t
+    → origins scenario t (p - t) xs ≡ before_step scenario t xs
 last_writer scenario p xs t w =
     let e : p - t ≡ suc (p - t - 1) = omega (arith, w.earlier) in
     ap (λ k. origins scenario t k xs) e ∙ still scenario t (p - t - 1) xs (λ u lt below. w.none_since u lt (omega (arith, w.earlier)))
@@ -86,14 +91,17 @@ chain_explains scenario p xs ts = λ c other n links alike.
     let e : chain_end p ts + (p - chain_end p ts) ≡ p = omega (arith, below) in
     subst (λ u. StandAlike scenario.rope (run scenario u) other.rope (run other (n + (p - chain_end p ts))) xs) e
     (depends_on_origins scenario (chain_end p ts) other n (p - chain_end p ts) xs links
-    (subst (λ ys. StandAlike scenario.rope (run scenario (chain_end p ts)) other.rope (run other n) ys) (sym (chain_of_run scenario p xs ts c)) alike))
+    (subst (λ ys. StandAlike scenario.rope (run scenario (chain_end p ts)) other.rope (run other n) ys)
+    (sym (chain_of_run scenario p xs ts c)) alike))
 
 -- a step that writes at none of some spots leaves what stands there
-left_one : (scenario : Scenario) (s : State) (x : Spot) → writes_at (link scenario s) x ≡ false → spot_word scenario.rope (next scenario s).0 x ≡ spot_word scenario.rope s x
+left_one : (scenario : Scenario) (s : State) (x : Spot) → writes_at (link scenario s) x ≡ false
+    → spot_word scenario.rope (next scenario s).0 x ≡ spot_word scenario.rope s x
 left_one scenario s (Cell c) h = leaves_rest scenario s c h
 left_one scenario s (InRope bank offset) h = refl
 
-left_all : (scenario : Scenario) (s : State) (xs : List Spot) → writes_any (link scenario s) xs ≡ false → StandAlike scenario.rope (next scenario s).0 scenario.rope s xs
+left_all : (scenario : Scenario) (s : State) (xs : List Spot) → writes_any (link scenario s) xs ≡ false
+    → StandAlike scenario.rope (next scenario s).0 scenario.rope s xs
 left_all scenario s [] h = refl
 left_all scenario s (x ∷ xs) h =
     λ i. left_one scenario s x (first_false (writes_at (link scenario s) x) (writes_any (link scenario s) xs) h) i
@@ -116,7 +124,8 @@ since_writer scenario p xs t w =
     ∙ left_since scenario (t + 1) (p - t - 1) xs (λ u low high. w.none_since u (omega arith) (omega (arith, w.earlier)))
     ∙ ap (λ (s : State). map (spot_word scenario.rope s) xs) (run-add-one scenario t)
 
-pub chain_fixes : (one : Scenario) (p : ℕ) (ts : List ℕ) (other : Scenario) (n : ℕ) (us : List ℕ) (xs : List Spot) → ChainFixes one p ts other n us xs
+pub chain_fixes : (one : Scenario) (p : ℕ) (ts : List ℕ) (other : Scenario) (n : ℕ) (us : List ℕ) (xs : List Spot)
+    → ChainFixes one p ts other n us xs
 chain_fixes one p [] other n [] xs = λ c d same alike. alike
 chain_fixes one p [] other n (u ∷ us) xs = λ c d same alike. absurd same
 chain_fixes one p (t ∷ ts) other n [] xs = λ c d same alike. absurd same

@@ -156,7 +156,8 @@ step_3 more = executes-word loop_words (clock more) after_2 refl ∙ jumps_to lo
 
 step_4 : (more : List Entry) → next (loop more) (state after_3) ≡ (state after_4, None)
 unfolding due code_of basic_rows place kept
-step_4 more = takes-input loop_words (clock more) after_3 (Count Time1 Pinc, Some 0) refl ∙ ap (λ s. (s, None)) (counts after_3 (Some 0) 1 refl)
+step_4 more = takes-input loop_words (clock more) after_3 (Count Time1 Pinc, Some 0) refl
+    ∙ ap (λ s. (s, None)) (counts after_3 (Some 0) 1 refl)
 
 step_5 : (more : List Entry) → next (loop more) (state after_4) ≡ (state after_5, None)
 unfolding due code_of basic_rows place kept
@@ -164,7 +165,8 @@ step_5 more = executes-word loop_words (clock more) after_4 refl ∙ jumps_to lo
 
 step_6 : (more : List Entry) → next (loop more) (state after_5) ≡ (state after_6, None)
 unfolding due code_of basic_rows place kept
-step_6 more = takes-input loop_words (clock more) after_5 (Count Time1 Pinc, Some 0) refl ∙ ap (λ s. (s, None)) (counts after_5 (Some 0) 2 refl)
+step_6 more = takes-input loop_words (clock more) after_5 (Count Time1 Pinc, Some 0) refl
+    ∙ ap (λ s. (s, None)) (counts after_5 (Some 0) 2 refl)
 
 step_7 : (more : List Entry) → next (loop more) (state after_6) ≡ (state after_7, None)
 unfolding due code_of basic_rows place kept
@@ -180,7 +182,8 @@ step_9 more = executes-word loop_words (clock more) after_8 refl ∙ jumps_to lo
 
 step_10 : (more : List Entry) → next (loop more) (state after_9) ≡ (state after_10, None)
 unfolding due code_of basic_rows place kept
-step_10 more = takes-input loop_words (clock more) after_9 (Count Time1 Pinc, Some 0) refl ∙ ap (λ s. (s, None)) (counts after_9 (Some 0) 3 refl)
+step_10 more = takes-input loop_words (clock more) after_9 (Count Time1 Pinc, Some 0) refl
+    ∙ ap (λ s. (s, None)) (counts after_9 (Some 0) 3 refl)
 
 step_11 : (more : List Entry) → next (loop more) (state after_10) ≡ (state after_11, None)
 unfolding due code_of basic_rows place kept
@@ -188,7 +191,8 @@ step_11 more = executes-word loop_words (clock more) after_10 refl ∙ jumps_to 
 
 step_12 : (more : List Entry) → next (loop more) (state after_11) ≡ (state after_12, None)
 unfolding due code_of basic_rows place kept
-step_12 more = takes-input loop_words (clock more) after_11 (Count Time1 Pinc, Some 0) refl ∙ ap (λ s. (s, None)) (counts after_11 (Some 0) 4 refl)
+step_12 more = takes-input loop_words (clock more) after_11 (Count Time1 Pinc, Some 0) refl
+    ∙ ap (λ s. (s, None)) (counts after_11 (Some 0) 4 refl)
 
 step_13 : next (loop (added ∷ [])) (state after_12) ≡ (state after_13, None)
 unfolding due code_of basic_rows place kept
@@ -196,15 +200,32 @@ step_13 = executes-word loop_words (clock (added ∷ [])) after_12 refl ∙ jump
 
 step_14 : next (loop (added ∷ [])) (state after_13) ≡ (state after_14, None)
 unfolding due code_of basic_rows place kept
-step_14 = takes-input loop_words (clock (added ∷ [])) after_13 (Count Time1 Pinc, None) refl ∙ ap (λ s. (s, None)) (counts after_13 None 5 refl)
+step_14 = takes-input loop_words (clock (added ∷ [])) after_13 (Count Time1 Pinc, None) refl
+    ∙ ap (λ s. (s, None)) (counts after_13 None 5 refl)
 
 -- the first twelve steps, and two more over the pulse that was added
 abbrev pub twelve_and : List Move → List Move
 twelve_and more =
-    (after_1, None) ∷ (after_2, None) ∷ (after_3, None) ∷ (after_4, None) ∷ (after_5, None) ∷ (after_6, None) ∷ (after_7, None) ∷ (after_8, None) ∷ (after_9, None) ∷ (after_10, None) ∷ (after_11, None) ∷ (after_12, None) ∷ more
+    (after_1, None) ∷ (after_2, None) ∷ (after_3, None) ∷ (after_4, None) ∷ (after_5, None) ∷ (after_6, None) ∷ (after_7, None)
+    ∷ (after_8, None) ∷ (after_9, None) ∷ (after_10, None) ∷ (after_11, None) ∷ (after_12, None) ∷ more
 
 pub goes_on : (inputs : List Entry) (more : List Move) → Goes (loop inputs) after_12 more → Goes (loop inputs) after_0 (twelve_and more)
-goes_on inputs more g = (step_1 inputs, (step_2 inputs, (step_3 inputs, (step_4 inputs, (step_5 inputs, (step_6 inputs, (step_7 inputs, (step_8 inputs, (step_9 inputs, (step_10 inputs, (step_11 inputs, (step_12 inputs, g))))))))))))
+goes_on inputs more g = (
+  step_1 inputs,
+  (
+    step_2 inputs,
+    (
+      step_3 inputs,
+      (
+        step_4 inputs,
+        (
+          step_5 inputs,
+          (step_6 inputs, (step_7 inputs, (step_8 inputs, (step_9 inputs, (step_10 inputs, (step_11 inputs, (step_12 inputs, g))))))),
+        ),
+      ),
+    ),
+  ),
+)
 
 abbrev pub two : List Move
 two = (after_13, None) ∷ (after_14, None) ∷ []

@@ -1,5 +1,6 @@
 -- What an entry of a table says of the words that it serves.
-use Rattle.std.proofs.Common.{◌≡◌, ◌≢◌, ◌≤◌, ◌<◌, ◌+◌, ◌-◌, ◌/◌, ℕ, zero, suc, List, [], ◌∷◌, Bool, true, false, cond, Some, find, refl, ap, ◌∙◌, arith, ◌&&◌, eqb, leb, filter, length, get_or, ⊎_elim}
+use Rattle.std.proofs.Common.{◌≡◌, ◌≢◌, ◌≤◌, ◌<◌, ◌+◌, ◌-◌, ◌/◌, ℕ, zero, suc, List, [], ◌∷◌, Bool, true, false, cond, Some, find, refl, ap}
+use Rattle.std.proofs.Common.{◌∙◌, arith, ◌&&◌, eqb, leb, filter, length, get_or, ⊎_elim}
 use Rattle.std.specs.Prelude.{unwrap_or}
 use Rattle.std.specs.List.{range_with_len}
 use Rattle.std.proofs.lemmas.Bool.Decides.{nat_tests}
@@ -30,7 +31,8 @@ abbrev pub Enters : (ℕ → Bool) → List Instruction → List Range → Type 
 Enters apart table [] = Unit {0}
 Enters apart table (r ∷ rs) = Unless (is_one apart r) (AreAll table r.instruction (served r)) × Enters apart table rs
 
-all-at : (table : List Instruction) (i : Instruction) (a n h : ℕ) → AreAll table i (range_with_len a n) → a ≤ h → h < a + n → (d : Instruction)
+all-at : (table : List Instruction) (i : Instruction) (a n h : ℕ) → AreAll table i (range_with_len a n) → a ≤ h → h < a + n
+    → (d : Instruction)
     → get_or table h d ≡ i
 all-at table i a zero h all low high d = absurd (omega arith)
 all-at table i a (suc n) h all low high d =

@@ -108,7 +108,8 @@ step_3 = executes-word five_words [] after_2 refl ∙ extends five_words after_2
 
 step_4 : next five (state after_3) ≡ (state after_4, Some ten)
 unfolding due code_of basic_rows extracode_rows place kept
-step_4 = executes-word five_words [] after_3 refl ∙ writes five_words after_3 8 ∙ ap (λ w. (state after_4, Some (output w))) (get_channel-holding cells_4 8)
+step_4 = executes-word five_words [] after_3 refl ∙ writes five_words after_3 8
+    ∙ ap (λ w. (state after_4, Some (output w))) (get_channel-holding cells_4 8)
 
 step_5 : next five (state after_4) ≡ (state after_5, None)
 unfolding due code_of basic_rows extracode_rows place kept
@@ -129,7 +130,8 @@ step_8 = executes-word five_words [] after_7 refl ∙ extends five_words after_7
 -- the first steps
 abbrev pub moves : List Move
 moves =
-    (after_1, None) ∷ (after_2, None) ∷ (after_3, None) ∷ (after_4, Some ten) ∷ (after_5, None) ∷ (after_6, None) ∷ (after_7, None) ∷ (after_8, None) ∷ []
+    (after_1, None) ∷ (after_2, None) ∷ (after_3, None) ∷ (after_4, Some ten) ∷ (after_5, None) ∷ (after_6, None) ∷ (after_7, None)
+    ∷ (after_8, None) ∷ []
 
 pub goes : Goes five after_0 moves
 goes = (step_1, (step_2, (step_3, (step_4, (step_5, (step_6, (step_7, (step_8, tt))))))))

@@ -1,5 +1,6 @@
 -- What cells hold after changes, where they come from flows.
-use Rattle.std.proofs.Common.{◌≡◌, ◌≢◌, ℕ, ◌+◌, ◌*◌, ◌/◌, ◌%◌, Bool, true, false, cond, ◌||◌, ◌&&◌, ◌==◌, List, [], ◌∷◌, ◌++◌, map, refl, ap, ◌∙◌, sym, subst, arith, ⊎_elim}
+use Rattle.std.proofs.Common.{◌≡◌, ◌≢◌, ℕ, ◌+◌, ◌*◌, ◌/◌, ◌%◌, Bool, true, false, cond, ◌||◌, ◌&&◌, ◌==◌, List, [], ◌∷◌, ◌++◌, map, refl}
+use Rattle.std.proofs.Common.{ap, ◌∙◌, sym, subst, arith, ⊎_elim}
 use Rattle.std.specs.Prelude.{nat_le}
 use Rattle.std.proofs.lemmas.Bool.Decides.{nat_tests}
 use Rattle.std.proofs.lemmas.Bool.{cases_eq}
@@ -7,14 +8,17 @@ use Rattle.std.specs.FinMap as map'
 use Rattle.words.specs.Numbers.{extend, correct}
 use Rattle.words.specs.BitSums.{and_sum}
 use Rattle.rope.specs.Places.{Words}
-use Rattle.space.specs.Cells.{Cells, at, word_at as word_in, cycle_right, edit_opcode, get, put, kept, get_channel, put_channel, channel_cell, superbank_channel, superbank_mask, both_banks, always_zero, accumulator, return_address, erasable_bank, fixed_bank, lower_accumulator, lower_accumulator_channel, return_address_channel}
+use Rattle.space.specs.Cells.{Cells, at, word_at as word_in, cycle_right, edit_opcode, get, put, kept, get_channel, put_channel}
+use Rattle.space.specs.Cells.{channel_cell, superbank_channel, superbank_mask, both_banks, always_zero, accumulator, return_address}
+use Rattle.space.specs.Cells.{erasable_bank, fixed_bank, lower_accumulator, lower_accumulator_channel, return_address_channel}
 use Rattle.space.specs.declared.place.Linear.{Linear}
 use Rattle.space.specs.declared.place.Linear.TheVariants.{Erasable, Fixed}
 use Rattle.cpu.specs.State.{State}
 use Rattle.cpu.specs.Effects.{Change, change, changes, value_at, edits}
 use Rattle.cpu.specs.Effects.Change.{AtPlace, OnChannel}
 use Rattle.cpu.specs.declared.spot.Spot.{Spot}
-use Rattle.cpu.specs.Links.{spot_word, Flow, to_place, place_cells, cell_of_channel, place_spots, channel_spots, spots, is_in, sources_by, edit_flows}
+use Rattle.cpu.specs.Links.{spot_word, Flow, to_place, place_cells, cell_of_channel, place_spots, channel_spots, spots, is_in, sources_by}
+use Rattle.cpu.specs.Links.{edit_flows}
 use Rattle.cpu.specs.declared.spot.Spot.TheVariants.{Cell}
 use Rattle.cpu.proofs.Holding.{at-insert}
 use Rattle.cpu.proofs.ChangeLaws.{changes_append}
@@ -82,14 +86,16 @@ in_cells c p false false = refl
 pub put_hit : (s t : Cells) (p x c : ℕ) → is_in c (place_cells p) ≡ true → at (put s p x) c ≡ at (put t p x) c
 put_hit s t p x c h =
     put_cell s p x c
-    ∙ hit_by (p == both_banks) (p == always_zero) (c == erasable_bank) (c == fixed_bank) (c == p) (correct x / 0o2000) (correct x % 0o10) (kept p x) (at s c) (at t c) p
+    ∙ hit_by (p == both_banks) (p == always_zero) (c == erasable_bank) (c == fixed_bank) (c == p) (correct x / 0o2000) (correct x % 0o10)
+    (kept p x) (at s c) (at t c) p
     (is_in c (place_cells p)) h (sym (in_cells c p (p == both_banks) (p == always_zero)))
     ∙ sym (put_cell t p x c)
 
 pub put_miss : (s : Cells) (p x c : ℕ) → is_in c (place_cells p) ≡ false → at (put s p x) c ≡ at s c
 put_miss s p x c h =
     put_cell s p x c
-    ∙ miss_by (p == both_banks) (p == always_zero) (c == erasable_bank) (c == fixed_bank) (c == p) (correct x / 0o2000) (correct x % 0o10) (kept p x) (at s c)
+    ∙ miss_by (p == both_banks) (p == always_zero) (c == erasable_bank) (c == fixed_bank) (c == p) (correct x / 0o2000) (correct x % 0o10)
+    (kept p x) (at s c)
     (is_in c (place_cells p)) h (sym (in_cells c p (p == both_banks) (p == always_zero)))
 
 -- the same of a channel
@@ -153,7 +159,8 @@ same_get s t p m6 h =
     let wide = p == accumulator || p == return_address in
     ap (λ w. cond wide w (extend (word_in s p))) h ∙ ap (λ w. cond wide (at t p) (extend w)) (same_word s t p m6 h)
 
-same_banks : (r : Words) (s : State) (o : Words) (t : State) → Agree r s o t (place_spots both_banks) → get s.cells both_banks ≡ get t.cells both_banks
+same_banks : (r : Words) (s : State) (o : Words) (t : State) → Agree r s o t (place_spots both_banks)
+    → get s.cells both_banks ≡ get t.cells both_banks
 unfolding get
 same_banks r s o t e = λ i. extend (e.0 i * 0o2000 + e.1.0 i)
 
@@ -188,7 +195,8 @@ channel_by r s o t n true d e = get_same r s o t lower_accumulator (e, tt)
 channel_by r s o t n false true e = get_same r s o t return_address (e, tt)
 channel_by r s o t n false false e = ap (λ w. extend w) e
 
-pub channel_same : (r : Words) (s : State) (o : Words) (t : State) (n : ℕ) → Agree r s o t (channel_spots n) → get_channel s.cells n ≡ get_channel t.cells n
+pub channel_same : (r : Words) (s : State) (o : Words) (t : State) (n : ℕ) → Agree r s o t (channel_spots n)
+    → get_channel s.cells n ≡ get_channel t.cells n
 unfolding get_channel
 channel_same r s o t n e = channel_by r s o t n (n == lower_accumulator_channel) (n == return_address_channel) e.0
 
@@ -203,7 +211,8 @@ here c = Cell c ∷ []
 pub tracks_start : (r : Words) (s : State) (o : Words) (t : State) → Tracks r s o t here s t
 tracks_start r s o t = λ c e. e.0
 
-place_step : (r : Words) (s : State) (o : Words) (t : State) (from before : List Spot) (u v : State) (p x y c : ℕ) (b : Bool) → is_in c (place_cells p) ≡ b
+place_step : (r : Words) (s : State) (o : Words) (t : State) (from before : List Spot) (u v : State) (p x y c : ℕ) (b : Bool)
+    → is_in c (place_cells p) ≡ b
     → (Agree r s o t before → at u.cells c ≡ at v.cells c) → (Agree r s o t from → x ≡ y) → Agree r s o t (cond b from before)
     → at (put u.cells p x) c ≡ at (put v.cells p y) c
 place_step r s o t from before u v p x y c true h old new e = put_hit u.cells v.cells p x c h ∙ ap (λ w. at (put v.cells p w) c) (new e)
@@ -212,22 +221,27 @@ place_step r s o t from before u v p x y c false h old new e = put_miss u.cells 
 pub tracks_place : (r : Words) (s : State) (o : Words) (t : State) (before : ℕ → List Spot) (from : List Spot) (u v : State) (p x y : ℕ)
     → Tracks r s o t before u v → (Agree r s o t from → x ≡ y)
     → Tracks r s o t (λ c. cond (is_in c (place_cells p)) from (before c)) (change u (AtPlace p x)) (change v (AtPlace p y))
-tracks_place r s o t before from u v p x y old new = λ c e. place_step r s o t from (before c) u v p x y c (is_in c (place_cells p)) refl (old c) new e
+tracks_place r s o t before from u v p x y old new = λ c e. place_step r s o t from (before c) u v p x y c (is_in c (place_cells p)) refl
+    (old c) new e
 
-channel_step : (r : Words) (s : State) (o : Words) (t : State) (from before : List Spot) (u v : State) (n x y c : ℕ) (b : Bool) → is_in c (cell_of_channel n ∷ []) ≡ b
+channel_step : (r : Words) (s : State) (o : Words) (t : State) (from before : List Spot) (u v : State) (n x y c : ℕ) (b : Bool)
+    → is_in c (cell_of_channel n ∷ []) ≡ b
     → (Agree r s o t before → at u.cells c ≡ at v.cells c) → (Agree r s o t from → x ≡ y) → Agree r s o t (cond b from before)
     → at (put_channel u.cells n x) c ≡ at (put_channel v.cells n y) c
-channel_step r s o t from before u v n x y c true h old new e = channel_hit u.cells v.cells n x c h ∙ ap (λ w. at (put_channel v.cells n w) c) (new e)
+channel_step r s o t from before u v n x y c true h old new e = channel_hit u.cells v.cells n x c h
+    ∙ ap (λ w. at (put_channel v.cells n w) c) (new e)
 channel_step r s o t from before u v n x y c false h old new e = channel_miss u.cells n x c h ∙ old e ∙ sym (channel_miss v.cells n y c h)
 
 pub tracks_channel : (r : Words) (s : State) (o : Words) (t : State) (before : ℕ → List Spot) (from : List Spot) (u v : State) (n x y : ℕ)
     → Tracks r s o t before u v → (Agree r s o t from → x ≡ y)
     → Tracks r s o t (λ c. cond (is_in c (cell_of_channel n ∷ [])) from (before c)) (change u (OnChannel n x)) (change v (OnChannel n y))
-tracks_channel r s o t before from u v n x y old new = λ c e. channel_step r s o t from (before c) u v n x y c (is_in c (cell_of_channel n ∷ [])) refl (old c) new e
+tracks_channel r s o t before from u v n x y old new = λ c e. channel_step r s o t from (before c) u v n x y c
+    (is_in c (cell_of_channel n ∷ [])) refl (old c) new e
 
 edits_by : (r : Words) (s : State) (o : Words) (t : State) (before : ℕ → List Spot) (u v : State) (p x y : ℕ) (b : Bool)
     → Tracks r s o t before u v → (Agree r s o t (place_spots p) → x ≡ y)
-    → Tracks r s o t (λ c. sources_by (cond b (to_place p (place_spots p) ∷ []) []) c (before c)) (changes u (cond b (AtPlace p x ∷ []) [])) (changes v (cond b (AtPlace p y ∷ []) []))
+    → Tracks r s o t (λ c. sources_by (cond b (to_place p (place_spots p) ∷ []) []) c (before c)) (changes u (cond b (AtPlace p x ∷ []) []))
+    (changes v (cond b (AtPlace p y ∷ []) []))
 edits_by r s o t before u v p x y true old new = tracks_place r s o t before (place_spots p) u v p x y old new
 edits_by r s o t before u v p x y false old new = old
 
@@ -235,7 +249,8 @@ pub tracks_edits : (r : Words) (s : State) (o : Words) (t : State) (before : ℕ
     → Tracks r s o t before u v → (Agree r s o t (spots l) → x ≡ y)
     → Tracks r s o t (λ c. sources_by (edit_flows l) c (before c)) (changes u (edits l x)) (changes v (edits l y))
 unfolding edits
-tracks_edits r s o t before u v (Erasable p) x y old new = edits_by r s o t before u v p x y (nat_le cycle_right p && nat_le p edit_opcode) old new
+tracks_edits r s o t before u v (Erasable p) x y old new = edits_by r s o t before u v p x y (nat_le cycle_right p && nat_le p edit_opcode)
+    old new
 tracks_edits r s o t before u v (Fixed bank offset) x y old new = old
 
 -- flows after flows

@@ -1,5 +1,6 @@
 -- An instruction leaves what is not of its row, and inputs and entries what is not theirs.
-use Rattle.std.proofs.Common.{◌≡◌, ◌≢◌, ℕ, ◌+◌, ◌*◌, Bool, true, false, cond, not, ◌==◌, ◌&&◌, List, [], ◌∷◌, ◌++◌, Option, None, refl, ap, ◌∙◌, sym, subst}
+use Rattle.std.proofs.Common.{◌≡◌, ◌≢◌, ℕ, ◌+◌, ◌*◌, Bool, true, false, cond, not, ◌==◌, ◌&&◌, List, [], ◌∷◌, ◌++◌, Option, None, refl, ap}
+use Rattle.std.proofs.Common.{◌∙◌, sym, subst}
 use Rattle.std.specs.Prelude.{nat_le, is_some}
 use Rattle.std.specs.List.{flat_map}
 use Rattle.words.specs.declared.wide.Overflow.{Overflow}
@@ -9,7 +10,9 @@ use Rattle.space.specs.Cells.{at, put, accumulator, lower_accumulator, return_ad
 use Rattle.space.specs.declared.place.Linear.{Linear}
 use Rattle.space.specs.declared.place.Linear.TheVariants.{Erasable, Fixed}
 use Rattle.cpu.specs.declared.instruction.Instruction.{Instruction}
-use Rattle.cpu.specs.declared.instruction.Instruction.TheVariants.{Relint, Inhint, Extend, Resume, Tc, Ccs, Tcf, Das, Lxch, Incr, Ads, Ca, Cs, Index, Dxch, Ts, Xch, Ad, Mask, Read, Write, Rand, Wand, Ror, Wor, Rxor, Edrupt, Dv, Bzf, Msu, Qxch, Aug, Dim, Dca, Dcs, Su, Bzmf, Mp}
+use Rattle.cpu.specs.declared.instruction.Instruction.TheVariants.{Relint, Inhint, Extend, Resume, Tc, Ccs, Tcf, Das, Lxch, Incr, Ads, Ca}
+use Rattle.cpu.specs.declared.instruction.Instruction.TheVariants.{Cs, Index, Dxch, Ts, Xch, Ad, Mask, Read, Write, Rand, Wand, Ror, Wor}
+use Rattle.cpu.specs.declared.instruction.Instruction.TheVariants.{Rxor, Edrupt, Dv, Bzf, Msu, Qxch, Aug, Dim, Dca, Dcs, Su, Bzmf, Mp}
 use Rattle.cpu.specs.declared.spot.Spot.{Spot}
 use Rattle.cpu.specs.declared.spot.Spot.TheVariants.{Cell}
 use Rattle.cpu.specs.declared.output.Output.{Output}
@@ -20,7 +23,8 @@ use Rattle.cpu.specs.Effects.{place_in, erasable_number, has_overflow, first_of,
 use Rattle.cpu.specs.Inputs.{take}
 use Rattle.cpu.specs.Next.{extra_after, fetched, executed, entered, following_address, word_at_z}
 use Rattle.cpu.specs.Links.{Flow, to_place, place_cells, place_spots, is_in, edit_flows, fetch_flows, flows_of, overflow_in}
-use Rattle.cpu.specs.Frames.{Part, changed_by, edited_cells, part_cells, row_cells, KeepsRest, ChangesItsRow, InputKeepsRest, EntryKeepsRest, InputsKeepRest, EntriesKeepRest}
+use Rattle.cpu.specs.Frames.{Part, changed_by, edited_cells, part_cells, row_cells, KeepsRest, ChangesItsRow, InputKeepsRest}
+use Rattle.cpu.specs.Frames.{EntryKeepsRest, InputsKeepRest, EntriesKeepRest}
 use Rattle.cpu.proofs.Trails.{not_first, not_second}
 use Rattle.cpu.proofs.Linking.{fetched_by, fetched_place}
 use Rattle.cpu.proofs.Leaving.{Spared, leaves, fetch_leaves}
@@ -51,14 +55,18 @@ tc_spared c true z q = (z, tt)
 tc_spared c false z q = (q, (z, tt))
 
 das_spared : (c p p' : ℕ) (b : Bool) (f f' g g' : List Spot)
-    → is_in c (place_cells p) ≡ false → is_in c (place_cells p') ≡ false → is_in c (place_cells accumulator) ≡ false → is_in c (place_cells lower_accumulator) ≡ false
-    → Spared c (cond b (to_place lower_accumulator f ∷ to_place accumulator g ∷ []) (to_place p' f ∷ to_place p g ∷ to_place lower_accumulator f' ∷ to_place accumulator g' ∷ []))
+    → is_in c (place_cells p) ≡ false → is_in c (place_cells p') ≡ false → is_in c (place_cells accumulator) ≡ false
+    → is_in c (place_cells lower_accumulator) ≡ false
+    → Spared c (cond b (to_place lower_accumulator f ∷ to_place accumulator g ∷ [])
+    (to_place p' f ∷ to_place p g ∷ to_place lower_accumulator f' ∷ to_place accumulator g' ∷ []))
 das_spared c p p' true f f' g g' first second a l = (l, (a, tt))
 das_spared c p p' false f f' g g' first second a l = (second, (first, (l, (a, tt))))
 
-ts_spared : (c p : ℕ) (b d e : Bool) → is_in c (place_cells program_counter) ≡ false → is_in c (place_cells accumulator) ≡ false → is_in c (place_cells p) ≡ false
+ts_spared : (c p : ℕ) (b d e : Bool) → is_in c (place_cells program_counter) ≡ false → is_in c (place_cells accumulator) ≡ false
+    → is_in c (place_cells p) ≡ false
     → Spared c (cond b (to_place p (Cell accumulator ∷ []) ∷ []) (cond d (to_place program_counter [] ∷ [])
-    (cond e (to_place p (Cell accumulator ∷ []) ∷ to_place accumulator [] ∷ []) (to_place p (Cell accumulator ∷ []) ∷ to_place accumulator [] ∷ to_place program_counter [] ∷ []))))
+    (cond e (to_place p (Cell accumulator ∷ []) ∷ to_place accumulator [] ∷ [])
+    (to_place p (Cell accumulator ∷ []) ∷ to_place accumulator [] ∷ to_place program_counter [] ∷ []))))
 ts_spared c p true d e z a k = (k, tt)
 ts_spared c p false true e z a k = (z, tt)
 ts_spared c p false false true z a k = (k, (a, tt))
@@ -68,7 +76,8 @@ append_spared : (c : ℕ) (fs gs : List Flow) → Spared c fs → Spared c gs �
 append_spared c [] gs first second = second
 append_spared c (f ∷ fs) gs first second = (first.0, append_spared c fs gs first.1 second)
 
-edit_spared_by : (c p : ℕ) (from : List Spot) (b : Bool) → is_in c (cond b (place_cells p) []) ≡ false → Spared c (cond b (to_place p from ∷ []) [])
+edit_spared_by : (c p : ℕ) (from : List Spot) (b : Bool) → is_in c (cond b (place_cells p) []) ≡ false
+    → Spared c (cond b (to_place p from ∷ []) [])
 edit_spared_by c p from true h = (h, tt)
 edit_spared_by c p from false h = tt
 
@@ -76,7 +85,8 @@ edit_spared : (c : ℕ) (l : Linear) → is_in c (edited_cells l) ≡ false → 
 edit_spared c (Erasable p) h = edit_spared_by c p (place_spots p) (nat_le cycle_right p && nat_le p edit_opcode) h
 edit_spared c (Fixed bank offset) h = tt
 
-edits_spared : (c : ℕ) (l m : Linear) → is_in c (edited_cells l) ≡ false → is_in c (edited_cells m) ≡ false → Spared c (edit_flows l ++ edit_flows m)
+edits_spared : (c : ℕ) (l m : Linear) → is_in c (edited_cells l) ≡ false → is_in c (edited_cells m) ≡ false
+    → Spared c (edit_flows l ++ edit_flows m)
 edits_spared c l m first second = append_spared c (edit_flows l) (edit_flows m) (edit_spared c l first) (edit_spared c m second)
 
 fetch_spared : (c : ℕ) (b : Bool) → is_in c (program_counter ∷ []) ≡ false → Spared c (fetch_flows b)
@@ -84,7 +94,8 @@ fetch_spared c true z = tt
 fetch_spared c false z = (z, tt)
 
 -- no flow of an instruction is into a cell that is neither Z nor of its row
-spares : (lead : ℕ → Linear) (o : Overflow) (i : Instruction) (k c : ℕ) → is_in c (program_counter ∷ []) ≡ false → Kept c lead k (changed_by i) → Spared c (flows_of lead o i k)
+spares : (lead : ℕ → Linear) (o : Overflow) (i : Instruction) (k c : ℕ) → is_in c (program_counter ∷ []) ≡ false
+    → Kept c lead k (changed_by i) → Spared c (flows_of lead o i k)
 spares lead o Relint k c z h = tt
 spares lead o Inhint k c z h = tt
 spares lead o Extend k c z h = tt
@@ -131,7 +142,8 @@ spares lead o Su k c z h = (h.0, edit_spared c (lead k) h.1.0)
 spares lead o Bzmf k c z h = (z, tt)
 spares lead o Mp k c z h = (h.0, (h.1.0, edit_spared c (lead k) h.1.1.0))
 
-cells_kept : (r : Words) (s : State) (code : Code) (c : ℕ) → is_in c (row_cells s code) ≡ false → at (executed r (fetched s) code).cells c ≡ at s.cells c
+cells_kept : (r : Words) (s : State) (code : Code) (c : ℕ) → is_in c (row_cells s code) ≡ false
+    → at (executed r (fetched s) code).cells c ≡ at s.cells c
 unfolding executed fetched place_in
 cells_kept r s code c h =
     let lead = place_in s in
@@ -194,10 +206,19 @@ unfolding take
 taken_keeps s given =
     let flag = flags.input_keeps (counted_in s given) given.0 in
     let waiting = beside.input_keeps (counted_in s given) given.0 in
-    record { extra = flag.0; inhibit = flag.1.0; inside = flag.1.1; sum = waiting.0; word = waiting.1; requests = λ k there. flags.input_withdraws_none (counted_in s given) given.0 k there }
+    record {
+      extra = flag.0;
+      inhibit = flag.1.0;
+      inside = flag.1.1;
+      sum = waiting.0;
+      word = waiting.1;
+      requests = λ k there.
+          flags.input_withdraws_none (counted_in s given) given.0 k there;
+    }
 
 pub inputs_keep_rest : (scenario : Scenario) (s : State) → InputsKeepRest scenario s
-inputs_keep_rest scenario s = λ given e. subst (λ (t : State × Option Output). InputKeepsRest s t.0) (sym (by_input scenario s given e)) (taken_keeps s given)
+inputs_keep_rest scenario s = λ given e. subst (λ (t : State × Option Output). InputKeepsRest s t.0) (sym (by_input scenario s given e))
+    (taken_keeps s given)
 
 entered_keeps : (r : Words) (s : State) (k : ℕ) → EntryKeepsRest s (entered r s k) k
 unfolding entered
@@ -207,7 +228,8 @@ entered_keeps r s k = record {
       let rest = not_second c (program_counter ∷ []) (interrupted_address ∷ interrupted_word ∷ []) h in
       let address = not_first c (interrupted_address ∷ []) (interrupted_word ∷ []) rest in
       let word = not_second c (interrupted_address ∷ []) (interrupted_word ∷ []) rest in
-      put_miss (put (put s.cells interrupted_word (extend (word_at_z r s))) interrupted_address (following_address s)) program_counter (first_address + 4 * k) c z
+      put_miss (put (put s.cells interrupted_word (extend (word_at_z r s))) interrupted_address (following_address s)) program_counter
+      (first_address + 4 * k) c z
       ∙ put_miss (put s.cells interrupted_word (extend (word_at_z r s))) interrupted_address (following_address s) c address
       ∙ put_miss s.cells interrupted_word (extend (word_at_z r s)) c word;
   extra = refl;
@@ -221,4 +243,5 @@ entered_keeps r s k = record {
 }
 
 pub entries_keep_rest : (scenario : Scenario) (s : State) → EntriesKeepRest scenario s
-entries_keep_rest scenario s = λ k e. subst (λ (t : State × Option Output). EntryKeepsRest s t.0 k) (sym (by_entry scenario s k e)) (entered_keeps scenario.rope s k)
+entries_keep_rest scenario s = λ k e. subst (λ (t : State × Option Output). EntryKeepsRest s t.0 k) (sym (by_entry scenario s k e))
+    (entered_keeps scenario.rope s k)

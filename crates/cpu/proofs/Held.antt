@@ -16,7 +16,8 @@ use Rattle.cpu.specs.Codes.{code_of}
 use Rattle.cpu.specs.Effects.{place_in, value_at, operand}
 use Rattle.cpu.specs.Inputs.{take}
 use Rattle.cpu.specs.Next.{next, next_by, entry, execute, execute_code, instruction_word}
-use Rattle.cpu.proofs.Holding.{holding, held, get_held, superbank_held, at-holding, get-holding, superbank-holding, word_placed, word_at-placed}
+use Rattle.cpu.proofs.Holding.{holding, held, get_held, superbank_held, at-holding, get-holding, superbank-holding, word_placed}
+use Rattle.cpu.proofs.Holding.{word_at-placed}
 
 -- a rope of some words
 unfoldable pub rope : List Placed → Words

@@ -43,22 +43,30 @@ Tells sc f g = (k : ℕ) → g k ≡ (next sc (f k)).1
 abbrev Gathers : (ℕ → Option Output) → (ℕ → List Output) → Type 0
 Gathers g o = (k : ℕ) → o (suc k) ≡ o k ++ option_to_list (g k)
 
-first : (sc : Scenario) (h : Held) (m : Move) (f : ℕ → State) → f 0 ≡ state h → Steps sc f → next sc (state h) ≡ (state m.0, m.1) → f 1 ≡ state m.0
+first : (sc : Scenario) (h : Held) (m : Move) (f : ℕ → State) → f 0 ≡ state h → Steps sc f → next sc (state h) ≡ (state m.0, m.1)
+    → f 1 ≡ state m.0
 first sc h m f e s n = s 0 ∙ ap (λ t. (next sc t).0) e ∙ ap (λ (t : State × Option Output). t.0) n
 
-tells : (sc : Scenario) (h : Held) (m : Move) (f : ℕ → State) (g : ℕ → Option Output) → f 0 ≡ state h → Tells sc f g → next sc (state h) ≡ (state m.0, m.1) → g 0 ≡ m.1
+tells : (sc : Scenario) (h : Held) (m : Move) (f : ℕ → State) (g : ℕ → Option Output) → f 0 ≡ state h → Tells sc f g
+    → next sc (state h) ≡ (state m.0, m.1) → g 0 ≡ m.1
 tells sc h m f g e t n = t 0 ∙ ap (λ s. (next sc s).1) e ∙ ap (λ (s : State × Option Output). s.1) n
 
-agree-states : (sc : Scenario) (h : Held) (moves : List Move) (f : ℕ → State) → f 0 ≡ state h → Steps sc f → Goes sc h moves → Agrees (states h moves) f
+agree-states : (sc : Scenario) (h : Held) (moves : List Move) (f : ℕ → State) → f 0 ≡ state h → Steps sc f → Goes sc h moves
+    → Agrees (states h moves) f
 agree-states sc h [] f e s g = (e, tt)
 agree-states sc h (m ∷ more) f e s g = (e, agree-states sc m.0 more (λ k. f (suc k)) (first sc h m f e s g.0) (λ k. s (suc k)) g.1)
 
-agree-told : (sc : Scenario) (h : Held) (moves : List Move) (f : ℕ → State) (o : ℕ → Option Output) → f 0 ≡ state h → Steps sc f → Tells sc f o → Goes sc h moves → Agrees (told moves) o
+agree-told : (sc : Scenario) (h : Held) (moves : List Move) (f : ℕ → State) (o : ℕ → Option Output) → f 0 ≡ state h → Steps sc f
+    → Tells sc f o → Goes sc h moves → Agrees (told moves) o
 agree-told sc h [] f o e s t g = tt
-agree-told sc h (m ∷ more) f o e s t g =
-    (tells sc h m f o e t g.0, agree-told sc m.0 more (λ k. f (suc k)) (λ k. o (suc k)) (first sc h m f e s g.0) (λ k. s (suc k)) (λ k. t (suc k)) g.1)
+agree-told sc h (m ∷ more) f o e s t g = (
+  tells sc h m f o e t g.0,
+  agree-told sc m.0 more (λ k. f (suc k)) (λ k. o (suc k)) (first sc h m f e s g.0) (λ k. s (suc k))
+      (λ k. t (suc k)) g.1,
+)
 
-agree-sent : (sc : Scenario) (h : Held) (moves : List Move) (f : ℕ → State) (o : ℕ → Option Output) (before : List Output) (all : ℕ → List Output)
+agree-sent : (sc : Scenario) (h : Held) (moves : List Move) (f : ℕ → State) (o : ℕ → Option Output) (before : List Output)
+    (all : ℕ → List Output)
     → f 0 ≡ state h → Steps sc f → Tells sc f o → all 0 ≡ before → Gathers o all → Goes sc h moves → Agrees (sent before moves) all
 agree-sent sc h [] f o before all e s t b a g = (b, tt)
 agree-sent sc h (m ∷ more) f o before all e s t b a g = (
@@ -102,4 +110,5 @@ out-agrees sc h moves e g =
 
 pub outs-agree : (sc : Scenario) (h : Held) (moves : List Move) → start ≡ state h → Goes sc h moves → Agrees (sent [] moves) (outs sc)
 outs-agree sc h moves e g =
-    agree-sent sc h moves (run sc) (λ k. out sc (suc k)) [] (outs sc) (run-none sc ∙ e) (run-steps sc) (out-tells sc) (outs-none sc) (outs-gather sc) g
+    agree-sent sc h moves (run sc) (λ k. out sc (suc k)) [] (outs sc) (run-none sc ∙ e) (run-steps sc) (out-tells sc) (outs-none sc)
+    (outs-gather sc) g

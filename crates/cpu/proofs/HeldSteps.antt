@@ -67,7 +67,8 @@ unfolding executed after
 extends ps h = ap (execute_fetched ps (code Extend 0)) (fetched-state h)
 
 -- TCF
-pub jumps_to : (ps : List Placed) (h : Held) (k : ℕ) → execute_code (rope ps) (state h) (code Tcf k) ≡ (state (ended (stored (fetch h) 5 k) false 1), None)
+pub jumps_to : (ps : List Placed) (h : Held) (k : ℕ)
+    → execute_code (rope ps) (state h) (code Tcf k) ≡ (state (ended (stored (fetch h) 5 k) false 1), None)
 unfolding executed after tcf
 jumps_to ps h k =
     ap (execute_fetched ps (code Tcf k)) (fetched-state h)
@@ -80,7 +81,8 @@ loaded ps h bank offset = stored (fetch h) 0 (extend (word_placed ps bank offset
 load : List Placed → Linear → State → State
 load ps l s = changes s (AtPlace 0 (value_at (rope ps) s l) ∷ edits l (value_at (rope ps) s l))
 
-load-fixed : (ps : List Placed) (h : Held) (bank offset : ℕ) → load ps (Fixed bank offset) (state (fetch h)) ≡ state (loaded ps h bank offset)
+load-fixed : (ps : List Placed) (h : Held) (bank offset : ℕ)
+    → load ps (Fixed bank offset) (state (fetch h)) ≡ state (loaded ps h bank offset)
 unfolding load edits
 load-fixed ps h bank offset =
     ap (λ x. change (state (fetch h)) (AtPlace 0 x)) (value_at-held ps (fetch h) (Fixed bank offset))
@@ -126,7 +128,8 @@ unfolding executed after write
 writes ps h n =
     ap (execute_fetched ps (code Write n)) (fetched-state h)
     ∙ ap (λ (s : State). let t : State = record s { extra = false; cycles = h.cycles + 2 } in (t, output_on t (Some n)))
-    (ap (λ x. change (state (fetch h)) (OnChannel n x)) (get-holding (fetch h).cells 0) ∙ put_channel-state (fetch h) n (get_held (fetch h).cells 0))
+    (ap (λ x. change (state (fetch h)) (OnChannel n x)) (get-holding (fetch h).cells 0)
+    ∙ put_channel-state (fetch h) n (get_held (fetch h).cells 0))
 
 -- an input is taken, from a series or from none
 abbrev taken : Held → Option ℕ → ℕ → Held

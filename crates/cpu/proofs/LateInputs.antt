@@ -14,11 +14,13 @@ use Rattle.cpu.proofs.RunLaws.{rise-run}
 abbrev pub SameBelow : ℕ → List Entry → List Entry → Type 0
 SameBelow cycle list other = (k cycles : ℕ) → cycles < cycle → due other k cycles ≡ due list k cycles
 
-next-same : (scenario : Scenario) (other : List Entry) (cycle : ℕ) (s : State) → SameBelow cycle scenario.inputs other → s.cycles < cycle → next (record scenario { inputs = other }) s ≡ next scenario s
+next-same : (scenario : Scenario) (other : List Entry) (cycle : ℕ) (s : State) → SameBelow cycle scenario.inputs other → s.cycles < cycle
+    → next (record scenario { inputs = other }) s ≡ next scenario s
 unfolding next
 next-same scenario other cycle s same below = ap (λ o. next_by scenario.rope s o (entry s)) (same s.taken s.cycles below)
 
-run-same : (scenario : Scenario) (other : List Entry) (cycle n t : ℕ) → SameBelow cycle scenario.inputs other → (run scenario n).cycles < cycle → t ≤ n
+run-same : (scenario : Scenario) (other : List Entry) (cycle n t : ℕ) → SameBelow cycle scenario.inputs other
+    → (run scenario n).cycles < cycle → t ≤ n
     → run (record scenario { inputs = other }) t ≡ run scenario t
 unfolding run
 run-same scenario other cycle n zero same below few = refl
@@ -26,7 +28,8 @@ run-same scenario other cycle n (suc t) same below few =
     ap (λ s. (next (record scenario { inputs = other }) s).0) (run-same scenario other cycle n t same below (omega arith))
     ∙ ap (λ p. p.0) (next-same scenario other cycle (run scenario t) same (let e = rise-run scenario t n (omega arith) in omega arith))
 
-out-same : (scenario : Scenario) (other : List Entry) (cycle n t : ℕ) → SameBelow cycle scenario.inputs other → (run scenario n).cycles < cycle → t ≤ n
+out-same : (scenario : Scenario) (other : List Entry) (cycle n t : ℕ) → SameBelow cycle scenario.inputs other
+    → (run scenario n).cycles < cycle → t ≤ n
     → out (record scenario { inputs = other }) t ≡ out scenario t
 unfolding out
 out-same scenario other cycle n zero same below few = refl
@@ -34,16 +37,19 @@ out-same scenario other cycle n (suc t) same below few =
     ap (λ s. (next (record scenario { inputs = other }) s).1) (run-same scenario other cycle n t same below (omega arith))
     ∙ ap (λ p. p.1) (next-same scenario other cycle (run scenario t) same (let e = rise-run scenario t n (omega arith) in omega arith))
 
-outs-same : (scenario : Scenario) (other : List Entry) (cycle n t : ℕ) → SameBelow cycle scenario.inputs other → (run scenario n).cycles < cycle → t ≤ n
+outs-same : (scenario : Scenario) (other : List Entry) (cycle n t : ℕ) → SameBelow cycle scenario.inputs other
+    → (run scenario n).cycles < cycle → t ≤ n
     → outs (record scenario { inputs = other }) t ≡ outs scenario t
 unfolding outs
 outs-same scenario other cycle n zero same below few = refl
 outs-same scenario other cycle n (suc t) same below few =
-    ap (λ (o : List Output). o ++ option_to_list (out (record scenario { inputs = other }) (suc t))) (outs-same scenario other cycle n t same below (omega arith))
+    ap (λ (o : List Output). o ++ option_to_list (out (record scenario { inputs = other }) (suc t)))
+    (outs-same scenario other cycle n t same below (omega arith))
     ∙ ap (λ (o : Option Output). outs scenario t ++ option_to_list o) (out-same scenario other cycle n (suc t) same below few)
 
 -- Where two lists give the same below a cycle, the runs are alike up to each step whose cycles are below it.
-pub runs-alike : (scenario : Scenario) (other : List Entry) (cycle n : ℕ) → SameBelow cycle scenario.inputs other → (run scenario n).cycles < cycle → AreAlikeUpTo scenario (record scenario { inputs = other }) n
+pub runs-alike : (scenario : Scenario) (other : List Entry) (cycle n : ℕ) → SameBelow cycle scenario.inputs other
+    → (run scenario n).cycles < cycle → AreAlikeUpTo scenario (record scenario { inputs = other }) n
 runs-alike scenario other cycle n same below = λ t few. record {
   state = run-same scenario other cycle n t same below few;
   output = out-same scenario other cycle n t same below few;

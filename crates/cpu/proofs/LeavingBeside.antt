@@ -1,5 +1,6 @@
 -- From what comes what a step leaves beside the cells.
-use Rattle.std.proofs.Common.{◌≡◌, ℕ, ◌+◌, Bool, true, false, cond, not, ◌==◌, ◌||◌, ◌&&◌, List, [], ◌∷◌, ◌++◌, Option, Some, None, refl, ap, ◌∙◌, sym, subst}
+use Rattle.std.proofs.Common.{◌≡◌, ℕ, ◌+◌, Bool, true, false, cond, not, ◌==◌, ◌||◌, ◌&&◌, List, [], ◌∷◌, ◌++◌, Option, Some, None, refl}
+use Rattle.std.proofs.Common.{ap, ◌∙◌, sym, subst}
 use Rattle.std.specs.Prelude.{nat_le, is_some}
 use Rattle.std.specs.List.{flat_map}
 use Rattle.words.specs.declared.counters.Carry.{Carry}
@@ -7,7 +8,8 @@ use Rattle.words.specs.Numbers.{extend, correct}
 use Rattle.words.specs.Signs.{over, is_zero}
 use Rattle.words.specs.Counters.{pinc}
 use Rattle.rope.specs.Places.{Words}
-use Rattle.space.specs.Cells.{at, get, get_channel, superbank, accumulator, return_address, program_counter, lower_accumulator_channel, return_address_channel, superbank_channel, erasable_bank, fixed_bank, cycle_right, edit_opcode}
+use Rattle.space.specs.Cells.{at, get, get_channel, superbank, accumulator, return_address, program_counter, lower_accumulator_channel}
+use Rattle.space.specs.Cells.{return_address_channel, superbank_channel, erasable_bank, fixed_bank, cycle_right, edit_opcode}
 use Rattle.space.specs.Places.{place}
 use Rattle.space.specs.declared.place.Linear.{Linear}
 use Rattle.space.specs.declared.place.Linear.TheVariants.{Erasable, Fixed}
@@ -16,18 +18,25 @@ use Rattle.feed.specs.declared.input.Input.{Input}
 use Rattle.feed.specs.declared.input.Input.TheVariants.{Count, Word, Interrupt}
 use Rattle.feed.specs.Merged.{due}
 use Rattle.cpu.specs.declared.instruction.Instruction.{Instruction}
-use Rattle.cpu.specs.declared.instruction.Instruction.TheVariants.{Resume, Tc, Ccs, Das, Ca, Cs, Index, Ts, Ad, Mask, Dv, Bzf, Msu, Dim, Dca, Dcs, Su, Bzmf, Mp}
+use Rattle.cpu.specs.declared.instruction.Instruction.TheVariants.{Resume, Tc, Ccs, Das, Ca, Cs, Index, Ts, Ad, Mask, Dv, Bzf, Msu, Dim}
+use Rattle.cpu.specs.declared.instruction.Instruction.TheVariants.{Dca, Dcs, Su, Bzmf, Mp}
 use Rattle.cpu.specs.declared.instruction.Role.{Role}
 use Rattle.cpu.specs.declared.instruction.Role.TheVariants.{PutsOut}
 use Rattle.cpu.specs.declared.output.Output.{Output}
 use Rattle.cpu.specs.State.{State, Scenario, interrupted_word}
 use Rattle.cpu.specs.Codes.{Code, code_of, row_of}
-use Rattle.cpu.specs.Effects.{Change, change, changes, value_at, edits, place_in, erasable_in, accumulator_of, first_of, greatest_short, has_overflow, is_at_zero, is_at_zero_or_minus, after, tc, ccs, tcf, ca, cs, ad, su, mask, ts, xch, lxch, qxch, dxch, ads, incr, aug, dim, das, dca, dcs, index, mp, dv, msu, bzf, bzmf, read, write, rand, ror, rxor, wand, wor, relint, inhint, resume}
+use Rattle.cpu.specs.Effects.{Change, change, changes, value_at, edits, place_in, erasable_in, accumulator_of, first_of, greatest_short}
+use Rattle.cpu.specs.Effects.{has_overflow, is_at_zero, is_at_zero_or_minus, after, tc, ccs, tcf, ca, cs, ad, su, mask, ts, xch, lxch, qxch}
+use Rattle.cpu.specs.Effects.{dxch, ads, incr, aug, dim, das, dca, dcs, index, mp, dv, msu, bzf, bzmf, read, write, rand, ror, rxor, wand}
+use Rattle.cpu.specs.Effects.{wor, relint, inhint, resume}
 use Rattle.cpu.specs.Effects.Change.{AtPlace, OnChannel, WaitsWithSum}
-use Rattle.cpu.specs.Inputs.{take, input_effect, counted, received, asked, asked_after, asked_on, carried, carries_into, stepped, step_of, count_of, is_overflow}
-use Rattle.cpu.specs.Next.{fetched, executed, execute, instruction_word, entry, entered, next_by, next, written_by, jumps_by, jump_cycles, cycles_of, written_channel, output_on}
+use Rattle.cpu.specs.Inputs.{take, input_effect, counted, received, asked, asked_after, asked_on, carried, carries_into, stepped, step_of}
+use Rattle.cpu.specs.Inputs.{count_of, is_overflow}
+use Rattle.cpu.specs.Next.{fetched, executed, execute, instruction_word, entry, entered, next_by, next, written_by, jumps_by, jump_cycles}
+use Rattle.cpu.specs.Next.{cycles_of, written_channel, output_on}
 use Rattle.cpu.specs.Links.{cell_of_channel, sources_by, flows, link_by, link, sources}
-use Rattle.cpu.specs.Beside.{is_instruction, index_spots, resume_spots, sum_sources, word_sources, SumDependsOnSources, WordDependsOnSources, output_channel, channel_spots_of, OutputDependsOnSources}
+use Rattle.cpu.specs.Beside.{is_instruction, index_spots, resume_spots, sum_sources, word_sources, SumDependsOnSources}
+use Rattle.cpu.specs.Beside.{WordDependsOnSources, output_channel, channel_spots_of, OutputDependsOnSources}
 use Rattle.cpu.proofs.RunLaws.{counted_in}
 use Rattle.cpu.proofs.ChangeLaws.{changes_append}
 use Rattle.cpu.proofs.Flowing.{Agree, agree_left, here, get_same, value_same, channel_same}
@@ -38,7 +47,8 @@ use Rattle.cpu.proofs.Linking.{fetched_by, fetched_place, fetched_agree, next_tr
 abbrev pub Keeps : State → State → Type 0
 Keeps s u = (u.waiting_sum ≡ s.waiting_sum) × (u.waiting_word ≡ s.waiting_word)
 
-cond_keeps : (s : State) (b : Bool) (cs ds : List Change) → Keeps s (changes s cs) → Keeps s (changes s ds) → Keeps s (changes s (cond b cs ds))
+cond_keeps : (s : State) (b : Bool) (cs ds : List Change) → Keeps s (changes s cs) → Keeps s (changes s ds)
+    → Keeps s (changes s (cond b cs ds))
 cond_keeps s true cs ds first second = first
 cond_keeps s false cs ds first second = second
 
@@ -68,7 +78,8 @@ abbrev pub LeavesWaiting : Words → State → Instruction → ℕ → Type 0
 LeavesWaiting r s i k = ((after r s i k).waiting_sum ≡ left_sum r s i k) × ((after r s i k).waiting_word ≡ left_word s i)
 
 pub leaves_waiting : (r : Words) (s : State) (i : Instruction) (k : ℕ) → LeavesWaiting r s i k
-unfolding after resume tc ccs tcf das lxch incr ads ca cs index dxch ts xch ad mask read write rand wand ror wor rxor dv bzf msu qxch aug dim dca dcs su bzmf mp relint inhint
+unfolding after resume tc ccs tcf das lxch incr ads ca cs index dxch ts xch ad mask read write rand wand ror wor rxor dv bzf msu qxch aug
+    dim dca dcs su bzmf mp relint inhint
 leaves_waiting r s Tc k = cond_keeps s (k == return_address) _ _ (refl, refl) (refl, refl)
 leaves_waiting r s Ccs k = edits_keep _ (place_in s k) _
 leaves_waiting r s Das k = cond_keeps s (erasable_in s (first_of greatest_short k) == accumulator) _ _ (refl, refl) (refl, refl)
@@ -77,7 +88,8 @@ leaves_waiting r s Cs k = edits_keep _ (place_in s k) _
 leaves_waiting r s Index k = edits_keep (change s (WaitsWithSum (value_at r s (place_in s k)))) (place_in s k) (value_at r s (place_in s k))
 leaves_waiting r s Ts k =
     cond_keeps s (not (has_overflow (over (accumulator_of s)))) _ _ (refl, refl)
-    (cond_keeps s (erasable_in s k == accumulator) _ _ (refl, refl) (cond_keeps s (erasable_in s k == program_counter) _ _ (refl, refl) (refl, refl)))
+    (cond_keeps s (erasable_in s k == accumulator) _ _ (refl, refl)
+    (cond_keeps s (erasable_in s k == program_counter) _ _ (refl, refl) (refl, refl)))
 leaves_waiting r s Ad k = edits_keep _ (place_in s k) _
 leaves_waiting r s Mask k = edits_keep _ (place_in s k) _
 leaves_waiting r s Dv k = edits_keep _ (place_in s k) _
@@ -120,7 +132,8 @@ input_keeps s (Word n w) = asked_keeps (change s (OnChannel n (extend w))) (aske
 input_keeps s (Interrupt k) = (refl, refl)
 
 -- the same is left waiting
-same_sum : (r : Words) (u : State) (o : Words) (v : State) (lead : ℕ → Linear) (i : Instruction) (k : ℕ) → Leads u lead → Leads v lead → u.waiting_sum ≡ v.waiting_sum
+same_sum : (r : Words) (u : State) (o : Words) (v : State) (lead : ℕ → Linear) (i : Instruction) (k : ℕ) → Leads u lead → Leads v lead
+    → u.waiting_sum ≡ v.waiting_sum
     → Agree r u o v (index_spots lead i k) → left_sum r u i k ≡ left_sum o v i k
 same_sum r u o v lead Index k us vs e h =
     ap Some (ap (λ l. value_at r u l) (us k) ∙ value_same r u o v (lead k) h ∙ ap (λ l. value_at o v l) (sym (vs k)))
@@ -134,11 +147,13 @@ same_word r u o v instruction e h = e
 abbrev lead_of : State → ℕ → Linear
 lead_of s k = place k (at s.cells erasable_bank) (at s.cells fixed_bank) (superbank s.cells)
 
-next_sum : (r : Words) (s : State) (o : Words) (t : State) (d d' : Option (Input × Option ℕ)) (k k' : Option ℕ) → link_by r s d k ≡ link_by o t d' k'
+next_sum : (r : Words) (s : State) (o : Words) (t : State) (d d' : Option (Input × Option ℕ)) (k k' : Option ℕ)
+    → link_by r s d k ≡ link_by o t d' k'
     → Agree r s o t (sum_sources (link_by r s d k)) → (is_instruction (link_by r s d k) ≡ false → s.waiting_sum ≡ t.waiting_sum)
     → (next_by r s d k).0.waiting_sum ≡ (next_by o t d' k').0.waiting_sum
 unfolding take execute executed fetched entered
-next_sum r s o t (Some given) (Some given') k k' e h w = (input_keeps (counted_in s given) given.0).0 ∙ w refl ∙ sym (input_keeps (counted_in t given') given'.0).0
+next_sum r s o t (Some given) (Some given') k k' e h w = (input_keeps (counted_in s given) given.0).0 ∙ w refl
+    ∙ sym (input_keeps (counted_in t given') given'.0).0
 next_sum r s o t (Some given) None k (Some k') e h w = absurd (cc)
 next_sum r s o t (Some given) None k None e h w = absurd (cc)
 next_sum r s o t None (Some given') (Some k) k' e h w = absurd (cc)
@@ -156,18 +171,21 @@ next_sum r s o t None None None None e h w =
     let sup : superbank s.cells ≡ superbank t.cells = cc in
     let u = fetched_by s s.waiting_word in
     let v = fetched_by t t.waiting_word in
-    let after_fetch = fetched_agree r s o t s.waiting_word t.waiting_word zs waited (index_spots (lead_of s) code.instruction code.operand) h in
+    let after_fetch = fetched_agree r s o t s.waiting_word t.waiting_word zs waited (index_spots (lead_of s) code.instruction code.operand)
+    h in
     (leaves_waiting r u code.instruction code.operand).0
     ∙ same_sum r u o v (lead_of s) code.instruction code.operand (λ k. fetched_place s s.waiting_word k)
     (λ k. fetched_place t t.waiting_word k ∙ (λ i. place k (sym eb i) (sym fb i) (sym sup i))) refl after_fetch
     ∙ sym (leaves_waiting o v code.instruction code.operand).0
     ∙ ap (λ (code : Code). (after o v code.instruction code.operand).waiting_sum) same
 
-next_word : (r : Words) (s : State) (o : Words) (t : State) (d d' : Option (Input × Option ℕ)) (k k' : Option ℕ) → link_by r s d k ≡ link_by o t d' k'
+next_word : (r : Words) (s : State) (o : Words) (t : State) (d d' : Option (Input × Option ℕ)) (k k' : Option ℕ)
+    → link_by r s d k ≡ link_by o t d' k'
     → Agree r s o t (word_sources (link_by r s d k)) → (is_instruction (link_by r s d k) ≡ false → s.waiting_word ≡ t.waiting_word)
     → (next_by r s d k).0.waiting_word ≡ (next_by o t d' k').0.waiting_word
 unfolding take execute executed fetched entered
-next_word r s o t (Some given) (Some given') k k' e h w = (input_keeps (counted_in s given) given.0).1 ∙ w refl ∙ sym (input_keeps (counted_in t given') given'.0).1
+next_word r s o t (Some given) (Some given') k k' e h w = (input_keeps (counted_in s given) given.0).1 ∙ w refl
+    ∙ sym (input_keeps (counted_in t given') given'.0).1
 next_word r s o t (Some given) None k (Some k') e h w = absurd (cc)
 next_word r s o t (Some given) None k None e h w = absurd (cc)
 next_word r s o t None (Some given') (Some k) k' e h w = absurd (cc)
@@ -183,7 +201,8 @@ next_word r s o t None None None None e h w =
     let u = fetched_by s s.waiting_word in
     let v = fetched_by t t.waiting_word in
     (leaves_waiting r u code.instruction code.operand).1
-    ∙ same_word r u o v code.instruction refl (fetched_agree r s o t s.waiting_word t.waiting_word zs waited (resume_spots code.instruction) h)
+    ∙ same_word r u o v code.instruction refl (fetched_agree r s o t s.waiting_word t.waiting_word zs waited (resume_spots code.instruction)
+    h)
     ∙ sym (leaves_waiting o v code.instruction code.operand).1
     ∙ ap (λ (code : Code). (after o v code.instruction code.operand).waiting_word) same
 
@@ -204,18 +223,23 @@ word_depends_on_sources one s other t = λ e h w.
 -- what goes out
 abbrev gone_out : ℕ → ℕ → ℕ → Option Output
 gone_out n cycles x =
-    cond (n == lower_accumulator_channel || n == return_address_channel || n == superbank_channel) None (Some (record { cycles = cycles; channel = n; word = correct x }))
+    cond (n == lower_accumulator_channel || n == return_address_channel || n == superbank_channel) None
+    (Some (record { cycles = cycles; channel = n; word = correct x }))
 
-out_by : (role : Role) (n : ℕ) (x y : State) → (role ≡ PutsOut → get_channel x.cells n ≡ get_channel y.cells n) → (role ≡ PutsOut → x.cycles ≡ y.cycles)
+out_by : (role : Role) (n : ℕ) (x y : State) → (role ≡ PutsOut → get_channel x.cells n ≡ get_channel y.cells n)
+    → (role ≡ PutsOut → x.cycles ≡ y.cycles)
     → output_on x (written_by role n) ≡ output_on y (written_by role n)
 out_by PutsOut n x y channel cycles = λ i. gone_out n (cycles refl i) (channel refl i)
 out_by role n x y channel cycles = refl
 
 -- the cycles of what puts out do not hang on the state
-plain_cycles : (role : Role) (u v : State) (c n : ℕ) → role ≡ PutsOut → c + cond (jumps_by u role) jump_cycles n ≡ c + cond (jumps_by v role) jump_cycles n
-plain_cycles role u v c n is = ap (λ role. c + cond (jumps_by u role) jump_cycles n) is ∙ ap (λ role. c + cond (jumps_by v role) jump_cycles n) (sym is)
+plain_cycles : (role : Role) (u v : State) (c n : ℕ) → role ≡ PutsOut
+    → c + cond (jumps_by u role) jump_cycles n ≡ c + cond (jumps_by v role) jump_cycles n
+plain_cycles role u v c n is = ap (λ role. c + cond (jumps_by u role) jump_cycles n) is
+    ∙ ap (λ role. c + cond (jumps_by v role) jump_cycles n) (sym is)
 
-next_out : (r : Words) (s : State) (o : Words) (t : State) (d d' : Option (Input × Option ℕ)) (k k' : Option ℕ) → link_by r s d k ≡ link_by o t d' k'
+next_out : (r : Words) (s : State) (o : Words) (t : State) (d d' : Option (Input × Option ℕ)) (k k' : Option ℕ)
+    → link_by r s d k ≡ link_by o t d' k'
     → Agree r s o t (flat_map (sources (link_by r s d k)) (channel_spots_of (output_channel (link_by r s d k)))) → s.cycles ≡ t.cycles
     → (next_by r s d k).1 ≡ (next_by o t d' k').1
 unfolding sources execute executed fetched
@@ -237,7 +261,8 @@ next_out r s o t None None None None e h w =
     let n = code.operand in
     let from = sources_by (flows (link_by r s None None)) (cell_of_channel n) (here (cell_of_channel n)) in
     let channel : role ≡ PutsOut → get_channel x.cells n ≡ get_channel y.cells n = λ is.
-    let agree : Agree r s o t (from ++ []) = subst (λ role. Agree r s o t (flat_map (sources (link_by r s None None)) (channel_spots_of (written_by role n)))) is h in
+    let agree : Agree r s o t (from ++ []) = subst
+    (λ role. Agree r s o t (flat_map (sources (link_by r s None None)) (channel_spots_of (written_by role n)))) is h in
     channel_same r x o y n (next_tracks r s o t None None None None e (cell_of_channel n) (agree_left r s o t from [] agree), tt) in
     let cycles : role ≡ PutsOut → x.cycles ≡ y.cycles = λ is.
     plain_cycles role (fetched s) (fetched t) s.cycles (row_of code.instruction).cycles is
@@ -250,4 +275,5 @@ unfolding link next
 output_depends_on_sources one s other t = λ e h w.
     let d = due one.inputs s.taken s.cycles in
     next_out one.rope s other.rope t d (due other.inputs t.taken t.cycles) (entry s) (entry t) e
-    (alike_agree one.rope s other.rope t (flat_map (sources (link_by one.rope s d (entry s))) (channel_spots_of (output_channel (link_by one.rope s d (entry s))))) h) w
+    (alike_agree one.rope s other.rope t (flat_map (sources (link_by one.rope s d (entry s)))
+    (channel_spots_of (output_channel (link_by one.rope s d (entry s))))) h) w

@@ -1,5 +1,6 @@
 -- From what come the flags after a step, and the interrupts then asked for.
-use Rattle.std.proofs.Common.{◌≡◌, ℕ, Bool, true, false, cond, not, ◌==◌, ◌&&◌, ◌||◌, List, [], ◌∷◌, ◌++◌, Option, Some, None, refl, ap, ◌∙◌, sym}
+use Rattle.std.proofs.Common.{◌≡◌, ℕ, Bool, true, false, cond, not, ◌==◌, ◌&&◌, ◌||◌, List, [], ◌∷◌, ◌++◌, Option, Some, None, refl, ap}
+use Rattle.std.proofs.Common.{◌∙◌, sym}
 use Rattle.std.specs.Prelude.{nat_le}
 use Rattle.std.specs.Ordering.{nat_cmp, eq_by_cmp}
 use Rattle.std.specs.Cmp.{nat_cmp_total}
@@ -21,15 +22,21 @@ use Rattle.feed.specs.declared.input.Input.{Input}
 use Rattle.feed.specs.declared.input.Input.TheVariants.{Count, Word, Interrupt}
 use Rattle.feed.specs.Merged.{due}
 use Rattle.cpu.specs.declared.instruction.Instruction.{Instruction}
-use Rattle.cpu.specs.declared.instruction.Instruction.TheVariants.{Relint, Inhint, Resume, Tc, Ccs, Das, Ca, Cs, Index, Ts, Ad, Mask, Dv, Bzf, Msu, Dim, Dca, Dcs, Su, Bzmf, Mp}
+use Rattle.cpu.specs.declared.instruction.Instruction.TheVariants.{Relint, Inhint, Resume, Tc, Ccs, Das, Ca, Cs, Index, Ts, Ad, Mask, Dv}
+use Rattle.cpu.specs.declared.instruction.Instruction.TheVariants.{Bzf, Msu, Dim, Dca, Dcs, Su, Bzmf, Mp}
 use Rattle.cpu.specs.State.{State, Scenario}
 use Rattle.cpu.specs.Codes.{Code, code_of}
-use Rattle.cpu.specs.Effects.{Change, change, changes, value_at, edits, place_in, erasable_in, accumulator_of, first_of, greatest_short, has_overflow, is_at_zero, is_at_zero_or_minus, after, tc, ccs, tcf, ca, cs, ad, su, mask, ts, xch, lxch, qxch, dxch, ads, incr, aug, dim, das, dca, dcs, index, mp, dv, msu, bzf, bzmf, read, write, rand, ror, rxor, wand, wor, relint, inhint, resume}
+use Rattle.cpu.specs.Effects.{Change, change, changes, value_at, edits, place_in, erasable_in, accumulator_of, first_of, greatest_short}
+use Rattle.cpu.specs.Effects.{has_overflow, is_at_zero, is_at_zero_or_minus, after, tc, ccs, tcf, ca, cs, ad, su, mask, ts, xch, lxch, qxch}
+use Rattle.cpu.specs.Effects.{dxch, ads, incr, aug, dim, das, dca, dcs, index, mp, dv, msu, bzf, bzmf, read, write, rand, ror, rxor, wand}
+use Rattle.cpu.specs.Effects.{wor, relint, inhint, resume}
 use Rattle.cpu.specs.Effects.Change.{AtPlace, OnChannel, WaitsWithSum}
-use Rattle.cpu.specs.Inputs.{asked_by, take, input_effect, counted, received, asked, asked_after, asked_on, carried, carries_into, stepped, step_of, count_of, is_overflow}
+use Rattle.cpu.specs.Inputs.{asked_by, take, input_effect, counted, received, asked, asked_after, asked_on, carried, carries_into, stepped}
+use Rattle.cpu.specs.Inputs.{step_of, count_of, is_overflow}
 use Rattle.cpu.specs.Next.{extra_after, fetched, executed, execute, instruction_word, entry, entered, next_by, next}
 use Rattle.cpu.specs.Links.{carries_in, link_by, link}
-use Rattle.cpu.specs.Beside.{SameFlags, FlagsDependOnLink, ControlFixesFlags, asking_spots, input_request_sources, request_sources, RequestsDependOnSources, ControlFixesRequests}
+use Rattle.cpu.specs.Beside.{SameFlags, FlagsDependOnLink, ControlFixesFlags, asking_spots, input_request_sources, request_sources}
+use Rattle.cpu.specs.Beside.{RequestsDependOnSources, ControlFixesRequests}
 use Rattle.cpu.proofs.RunLaws.{counted_in}
 use Rattle.cpu.proofs.ChangeLaws.{changes_append}
 use Rattle.cpu.proofs.Flowing.{Agree, get_same}
@@ -39,14 +46,16 @@ use Rattle.cpu.proofs.Linking.{alike_agree, control_fixes_link}
 abbrev Stays : State → State → Type 0
 Stays s u = (u.extra ≡ s.extra) × ((u.inhibit ≡ s.inhibit) × ((u.inside ≡ s.inside) × (u.requests ≡ s.requests)))
 
-cond_stays : (s : State) (b : Bool) (cs ds : List Change) → Stays s (changes s cs) → Stays s (changes s ds) → Stays s (changes s (cond b cs ds))
+cond_stays : (s : State) (b : Bool) (cs ds : List Change) → Stays s (changes s cs) → Stays s (changes s ds)
+    → Stays s (changes s (cond b cs ds))
 cond_stays s true cs ds first second = first
 cond_stays s false cs ds first second = second
 
 edits_stay : (u : State) (l : Linear) (x : ℕ) → Stays u (changes u (edits l x))
 unfolding edits
 edits_stay u (Erasable p) x =
-    cond_stays u (nat_le cycle_right p && nat_le p edit_opcode) (AtPlace p x ∷ []) [] (refl, (refl, (refl, refl))) (refl, (refl, (refl, refl)))
+    cond_stays u (nat_le cycle_right p && nat_le p edit_opcode) (AtPlace p x ∷ []) [] (refl, (refl, (refl, refl)))
+    (refl, (refl, (refl, refl)))
 edits_stay u (Fixed bank offset) x = (refl, (refl, (refl, refl)))
 
 two_edits_stay : (u : State) (l m : Linear) (x y : ℕ) → Stays u (changes u (edits l x ++ edits m y))
@@ -78,25 +87,30 @@ left_inside s _ = s.inside
 abbrev pub LeavesFlags : Words → State → Instruction → ℕ → Type 0
 LeavesFlags r s i k =
     ((after r s i k).extra ≡ s.extra)
-    × (((after r s i k).inhibit ≡ left_inhibit s i) × (((after r s i k).inside ≡ left_inside s i) × ((after r s i k).requests ≡ s.requests)))
+    × (((after r s i k).inhibit ≡ left_inhibit s i)
+    × (((after r s i k).inside ≡ left_inside s i) × ((after r s i k).requests ≡ s.requests)))
 
 pub leaves_flags : (r : Words) (s : State) (i : Instruction) (k : ℕ) → LeavesFlags r s i k
-unfolding after resume tc ccs tcf das lxch incr ads ca cs index dxch ts xch ad mask read write rand wand ror wor rxor dv bzf msu qxch aug dim dca dcs su bzmf mp relint inhint
+unfolding after resume tc ccs tcf das lxch incr ads ca cs index dxch ts xch ad mask read write rand wand ror wor rxor dv bzf msu qxch aug
+    dim dca dcs su bzmf mp relint inhint
 leaves_flags r s Tc k = cond_stays s (k == return_address) _ _ (refl, (refl, (refl, refl))) (refl, (refl, (refl, refl)))
 leaves_flags r s Ccs k = edits_stay _ (place_in s k) _
-leaves_flags r s Das k = cond_stays s (erasable_in s (first_of greatest_short k) == accumulator) _ _ (refl, (refl, (refl, refl))) (refl, (refl, (refl, refl)))
+leaves_flags r s Das k = cond_stays s (erasable_in s (first_of greatest_short k) == accumulator) _ _ (refl, (refl, (refl, refl)))
+    (refl, (refl, (refl, refl)))
 leaves_flags r s Ca k = edits_stay _ (place_in s k) _
 leaves_flags r s Cs k = edits_stay _ (place_in s k) _
 leaves_flags r s Index k = edits_stay (change s (WaitsWithSum (value_at r s (place_in s k)))) (place_in s k) (value_at r s (place_in s k))
 leaves_flags r s Ts k =
     cond_stays s (not (has_overflow (over (accumulator_of s)))) _ _ (refl, (refl, (refl, refl)))
-    (cond_stays s (erasable_in s k == accumulator) _ _ (refl, (refl, (refl, refl))) (cond_stays s (erasable_in s k == program_counter) _ _ (refl, (refl, (refl, refl))) (refl, (refl, (refl, refl)))))
+    (cond_stays s (erasable_in s k == accumulator) _ _ (refl, (refl, (refl, refl)))
+    (cond_stays s (erasable_in s k == program_counter) _ _ (refl, (refl, (refl, refl))) (refl, (refl, (refl, refl)))))
 leaves_flags r s Ad k = edits_stay _ (place_in s k) _
 leaves_flags r s Mask k = edits_stay _ (place_in s k) _
 leaves_flags r s Dv k = edits_stay _ (place_in s k) _
 leaves_flags r s Bzf k = cond_stays s (is_at_zero s) _ _ (refl, (refl, (refl, refl))) (refl, (refl, (refl, refl)))
 leaves_flags r s Msu k = edits_stay _ (place_in s k) _
-leaves_flags r s Dim k = cond_stays s (is_zero (get s.cells (erasable_in s k))) [] _ (refl, (refl, (refl, refl))) (refl, (refl, (refl, refl)))
+leaves_flags r s Dim k = cond_stays s (is_zero (get s.cells (erasable_in s k))) [] _ (refl, (refl, (refl, refl)))
+    (refl, (refl, (refl, refl)))
 leaves_flags r s Dca k = two_edits_stay _ _ _ _ _
 leaves_flags r s Dcs k = two_edits_stay _ _ _ _ _
 leaves_flags r s Su k = edits_stay _ (place_in s k) _
@@ -107,10 +121,28 @@ leaves_flags r s instruction k = (refl, (refl, (refl, refl)))
 -- an input leaves the flags, and what a counter carries leaves what is asked for
 carry_stays : (s : State) (other : Option Counter) (x : Carry) (b : Bool) → is_overflow x ≡ b → Stays s (carried s other x)
 carry_stays s None x b e = (refl, (refl, (refl, refl)))
-carry_stays s (Some other) x true e =
-    (ap (λ b. (cond b (stepped s other (pinc (count_of s other))) s).extra) e, (ap (λ b. (cond b (stepped s other (pinc (count_of s other))) s).inhibit) e, (ap (λ b. (cond b (stepped s other (pinc (count_of s other))) s).inside) e, ap (λ b. (cond b (stepped s other (pinc (count_of s other))) s).requests) e)))
-carry_stays s (Some other) x false e =
-    (ap (λ b. (cond b (stepped s other (pinc (count_of s other))) s).extra) e, (ap (λ b. (cond b (stepped s other (pinc (count_of s other))) s).inhibit) e, (ap (λ b. (cond b (stepped s other (pinc (count_of s other))) s).inside) e, ap (λ b. (cond b (stepped s other (pinc (count_of s other))) s).requests) e)))
+carry_stays s (Some other) x true e = (
+  ap (λ b. (cond b (stepped s other (pinc (count_of s other))) s).extra) e,
+  (
+    ap (λ b. (cond b (stepped s other (pinc (count_of s other))) s).inhibit) e,
+    (
+      ap (λ b. (cond b (stepped s other (pinc (count_of s other))) s).inside) e,
+      ap
+          (λ b. (cond b (stepped s other (pinc (count_of s other))) s).requests) e,
+    ),
+  ),
+)
+carry_stays s (Some other) x false e = (
+  ap (λ b. (cond b (stepped s other (pinc (count_of s other))) s).extra) e,
+  (
+    ap (λ b. (cond b (stepped s other (pinc (count_of s other))) s).inhibit) e,
+    (
+      ap (λ b. (cond b (stepped s other (pinc (count_of s other))) s).inside) e,
+      ap
+          (λ b. (cond b (stepped s other (pinc (count_of s other))) s).requests) e,
+    ),
+  ),
+)
 
 abbrev pub KeepsFlags : State → State → Type 0
 KeepsFlags s u = (u.extra ≡ s.extra) × ((u.inhibit ≡ s.inhibit) × (u.inside ≡ s.inside))
@@ -153,7 +185,8 @@ input_asks s (Count counter sequence) =
     let t = stepped s counter step in
     let u = carried t (carries_into counter) step.carry in
     asked_is u (asked_after counter step)
-    ∙ ap (λ requests. asked_set requests (asked_after counter step)) (carry_stays t (carries_into counter) step.carry (is_overflow step.carry) refl).1.1.1
+    ∙ ap (λ requests. asked_set requests (asked_after counter step))
+    (carry_stays t (carries_into counter) step.carry (is_overflow step.carry) refl).1.1.1
 input_asks s (Word n w) = asked_is (change s (OnChannel n (extend w))) (asked_on n)
 input_asks s (Interrupt k) = refl
 
@@ -162,12 +195,15 @@ or_true : (b : Bool) → (b || true) ≡ true
 or_true true = refl
 or_true false = refl
 
-inserted : (requests : set.FinSet nat_cmp) (o : Option ℕ) (k : ℕ) → set.contains requests k ≡ true → set.contains (asked_set requests o) k ≡ true
+inserted : (requests : set.FinSet nat_cmp) (o : Option ℕ) (k : ℕ) → set.contains requests k ≡ true
+    → set.contains (asked_set requests o) k ≡ true
 inserted requests None k there = there
 inserted requests (Some j) k there = set.contains-insert nat_cmp_total requests j k ∙ rw there (or_true (eq_by_cmp nat_cmp k j))
 
-pub input_withdraws_none : (s : State) (input : Input) (k : ℕ) → set.contains s.requests k ≡ true → set.contains (input_effect s input).requests k ≡ true
-input_withdraws_none s input k there = ap (λ requests. set.contains requests k) (input_asks s input) ∙ inserted s.requests (asks_of s input) k there
+pub input_withdraws_none : (s : State) (input : Input) (k : ℕ) → set.contains s.requests k ≡ true
+    → set.contains (input_effect s input).requests k ≡ true
+input_withdraws_none s input k there = ap (λ requests. set.contains requests k) (input_asks s input)
+    ∙ inserted s.requests (asks_of s input) k there
 
 asks_same : (r : Words) (s : State) (o : Words) (t : State) (asks : Asks) (counter : Counter) (sequence : Sequence)
     → is_overflow (step_of sequence (count_of s counter)).carry ≡ is_overflow (step_of sequence (count_of t counter)).carry
@@ -197,13 +233,19 @@ inside_same : (u v : State) (i : Instruction) → u.inside ≡ v.inside → left
 inside_same u v Resume e = refl
 inside_same u v instruction e = e
 
-next_flags : (r : Words) (s : State) (o : Words) (t : State) (d d' : Option (Input × Option ℕ)) (k k' : Option ℕ) → link_by r s d k ≡ link_by o t d' k'
+next_flags : (r : Words) (s : State) (o : Words) (t : State) (d d' : Option (Input × Option ℕ)) (k k' : Option ℕ)
+    → link_by r s d k ≡ link_by o t d' k'
     → SameFlags s t → SameFlags (next_by r s d k).0 (next_by o t d' k').0
 unfolding take execute executed fetched entered
 next_flags r s o t (Some given) (Some given') k k' e f =
     let one = input_keeps (counted_in s given) given.0 in
     let other = input_keeps (counted_in t given') given'.0 in
-    record { extra = one.0 ∙ f.extra ∙ sym other.0; inhibit = one.1.0 ∙ f.inhibit ∙ sym other.1.0; inside = one.1.1 ∙ f.inside ∙ sym other.1.1 }
+    record {
+      extra = one.0 ∙ f.extra ∙ sym other.0;
+      inhibit = one.1.0 ∙ f.inhibit ∙ sym other.1.0;
+      inside = one.1.1 ∙ f.inside
+          ∙ sym other.1.1;
+    }
 next_flags r s o t None None (Some k) (Some k') e f = record { extra = f.extra; inhibit = f.inhibit; inside = refl }
 next_flags r s o t None None None None e f =
     let code = code_of s.extra (instruction_word r s) in
@@ -213,8 +255,10 @@ next_flags r s o t None None None None e f =
     let two = leaves_flags o (fetched t) other.instruction other.operand in
     record {
       extra = λ i. extra_after (same i).instruction (f.extra i);
-      inhibit = one.1.0 ∙ inhibit_same (fetched s) (fetched t) code.instruction f.inhibit ∙ ap (λ (code : Code). left_inhibit (fetched t) code.instruction) same ∙ sym two.1.0;
-      inside = one.1.1.0 ∙ inside_same (fetched s) (fetched t) code.instruction f.inside ∙ ap (λ (code : Code). left_inside (fetched t) code.instruction) same ∙ sym two.1.1.0;
+      inhibit = one.1.0 ∙ inhibit_same (fetched s) (fetched t) code.instruction f.inhibit
+          ∙ ap (λ (code : Code). left_inhibit (fetched t) code.instruction) same ∙ sym two.1.0;
+      inside = one.1.1.0 ∙ inside_same (fetched s) (fetched t) code.instruction f.inside
+          ∙ ap (λ (code : Code). left_inside (fetched t) code.instruction) same ∙ sym two.1.1.0;
     }
 next_flags r s o t (Some given) None k (Some k') e f = absurd (cc)
 next_flags r s o t (Some given) None k None e f = absurd (cc)
@@ -223,8 +267,10 @@ next_flags r s o t None (Some given') None k' e f = absurd (cc)
 next_flags r s o t None None (Some k) None e f = absurd (cc)
 next_flags r s o t None None None (Some k') e f = absurd (cc)
 
-next_requests : (r : Words) (s : State) (o : Words) (t : State) (d d' : Option (Input × Option ℕ)) (k k' : Option ℕ) → link_by r s d k ≡ link_by o t d' k'
-    → Agree r s o t (request_sources (link_by r s d k)) → s.requests ≡ t.requests → (next_by r s d k).0.requests ≡ (next_by o t d' k').0.requests
+next_requests : (r : Words) (s : State) (o : Words) (t : State) (d d' : Option (Input × Option ℕ)) (k k' : Option ℕ)
+    → link_by r s d k ≡ link_by o t d' k'
+    → Agree r s o t (request_sources (link_by r s d k)) → s.requests ≡ t.requests
+    → (next_by r s d k).0.requests ≡ (next_by o t d' k').0.requests
 unfolding take execute executed fetched entered
 next_requests r s o t (Some given) (Some given') k k' e h w =
     let inputs : given.0 ≡ given'.0 = cc in
@@ -239,7 +285,8 @@ next_requests r s o t None None (Some k) (Some k') e h w =
 next_requests r s o t None None None None e h w =
     let code = code_of s.extra (instruction_word r s) in
     let other = code_of t.extra (instruction_word o t) in
-    (leaves_flags r (fetched s) code.instruction code.operand).1.1.1 ∙ w ∙ sym (leaves_flags o (fetched t) other.instruction other.operand).1.1.1
+    (leaves_flags r (fetched s) code.instruction code.operand).1.1.1 ∙ w
+    ∙ sym (leaves_flags o (fetched t) other.instruction other.operand).1.1.1
 next_requests r s o t (Some given) None k (Some k') e h w = absurd (cc)
 next_requests r s o t (Some given) None k None e h w = absurd (cc)
 next_requests r s o t None (Some given') (Some k) k' e h w = absurd (cc)
@@ -262,7 +309,8 @@ requests_depend_on_sources one s other t = λ e h w.
 -- what controls fixes them with the link
 pub control_fixes_flags : (one : Scenario) (s : State) (other : Scenario) (t : State) → ControlFixesFlags one s other t
 control_fixes_flags one s other t = λ c.
-    flags_depend_on_link one s other t (control_fixes_link one s other t c) (record { extra = c.extra; inhibit = c.inhibit; inside = c.inside })
+    flags_depend_on_link one s other t (control_fixes_link one s other t c)
+    (record { extra = c.extra; inhibit = c.inhibit; inside = c.inside })
 
 pub control_fixes_requests : (one : Scenario) (s : State) (other : Scenario) (t : State) → ControlFixesRequests one s other t
 control_fixes_requests one s other t = λ c h. requests_depend_on_sources one s other t (control_fixes_link one s other t c) h c.requests

@@ -19,13 +19,15 @@ one_more false x t m e = grind (arith)
 -- what is put down to one account adds up to as many times as it stands
 put_down : (b : Account) (x : ℕ) (list : List Account) → sum_over (λ a. cond (same_account a b) x 0) list ≡ times_in b list * x
 put_down b x [] = omega arith
-put_down b x (a ∷ list) = one_more (same_account a b) x (times_in b list) (sum_over (λ a. cond (same_account a b) x 0) list) (put_down b x list)
+put_down b x (a ∷ list) = one_more (same_account a b) x (times_in b list) (sum_over (λ a. cond (same_account a b) x 0) list)
+    (put_down b x list)
 
 zeros : (list : List Account) → sum_over (λ a. 0) list ≡ 0
 zeros [] = refl
 zeros (a ∷ list) = let rest = zeros list in omega (arith, rest)
 
-cycles_add_up : (scenario : Scenario) (accounts : List Account) (n : ℕ) → ((t : ℕ) → t < n → times_in (account_of scenario (run scenario t)) accounts ≡ 1)
+cycles_add_up : (scenario : Scenario) (accounts : List Account) (n : ℕ)
+    → ((t : ℕ) → t < n → times_in (account_of scenario (run scenario t)) accounts ≡ 1)
     → sum_over (λ a. cycles_at scenario a n) accounts ≡ (run scenario n).cycles
 unfolding cycles_at run start
 cycles_add_up scenario accounts zero once = zeros accounts
@@ -39,7 +41,8 @@ cycles_add_up scenario accounts (suc n) once =
     let rise : s.cycles ≤ (next scenario s).0.cycles = rise-next scenario s in
     omega (arith, before, parts, down, single, rise)
 
-counts_add_up : (scenario : Scenario) (accounts : List Account) (n : ℕ) → ((t : ℕ) → t < n → times_in (account_of scenario (run scenario t)) accounts ≡ 1)
+counts_add_up : (scenario : Scenario) (accounts : List Account) (n : ℕ)
+    → ((t : ℕ) → t < n → times_in (account_of scenario (run scenario t)) accounts ≡ 1)
     → sum_over (λ a. count_at scenario a n) accounts ≡ n
 unfolding count_at
 counts_add_up scenario accounts zero once = zeros accounts

@@ -1,5 +1,6 @@
 -- Each word lies in exactly one row of each code table.
-use Rattle.std.proofs.Common.{◌≡◌, ◌≤◌, ◌<◌, ◌+◌, ◌^◌, ℕ, List, [], ◌∷◌, Bool, true, false, refl, arith, rules, ◌%◌, ◌&&◌, eqb, leb, filter, length, ⊎_elim}
+use Rattle.std.proofs.Common.{◌≡◌, ◌≤◌, ◌<◌, ◌+◌, ◌^◌, ℕ, List, [], ◌∷◌, Bool, true, false, refl, arith, rules, ◌%◌, ◌&&◌, eqb, leb, filter}
+use Rattle.std.proofs.Common.{length, ⊎_elim}
 use Rattle.std.proofs.lemmas.Bool.{leb-true, eqb-true, cases_lt}
 use Rattle.std.proofs.lemmas.Bool.Decides.{nat_tests}
 use Rattle.cpu.specs.declared.instruction.Instruction.{Instruction}

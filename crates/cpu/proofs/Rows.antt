@@ -42,6 +42,11 @@ time_1_at_37777 s e f =
 
 -- a word on channel 15 asks for interrupt 5, and takes no cycle
 key_on_channel_15 : (s : State)
-    → take s (Word 0o15 0o21, None) ≡ record s { cells = put_channel s.cells 0o15 0o21; requests = set.insert s.requests 5; taken = s.taken + 1 }
+    → take s (Word 0o15 0o21, None) ≡ record s {
+      cells = put_channel s.cells 0o15 0o21;
+      requests = set.insert s.requests 5;
+      taken = s.taken
+          + 1;
+    }
 unfolding take received
 key_on_channel_15 s = let none : s.cycles + 0 ≡ s.cycles = omega arith in rw none refl

@@ -1,5 +1,6 @@
 -- The reference run, step by step.
-use Rattle.std.proofs.Common.{◌≡◌, ◌≤◌, ◌+◌, ◌*◌, ◌++◌, ℕ, zero, suc, [], Bool, true, false, cond, Option, Some, None, refl, arith, add-one, ◌∙◌, inl, inr, ◌⊎◌}
+use Rattle.std.proofs.Common.{◌≡◌, ◌≤◌, ◌+◌, ◌*◌, ◌++◌, ℕ, zero, suc, [], Bool, true, false, cond, Option, Some, None, refl, arith, add-one}
+use Rattle.std.proofs.Common.{◌∙◌, inl, inr, ◌⊎◌}
 use Rattle.std.specs.Option.{option_to_list}
 use Rattle.words.specs.declared.counters.Carry.{Carry}
 use Rattle.words.specs.declared.counters.Carry.TheVariants.{No, Plus, Minus, ShiftedOut}
@@ -13,7 +14,8 @@ use Rattle.cpu.specs.State.{State, Scenario, start}
 use Rattle.cpu.specs.declared.instruction.Instruction.{Instruction}
 use Rattle.cpu.specs.Codes.{row_of, code_of}
 use Rattle.cpu.specs.Next.{fetched, jumps, jump_cycles, executed, execute, instruction_word, entry, entered, next_by, next}
-use Rattle.cpu.specs.Inputs.{take, input_effect, input_cycles, counted, received, asked, asked_after, asked_on, carried, carries_into, stepped, step_of, count_of}
+use Rattle.cpu.specs.Inputs.{take, input_effect, input_cycles, counted, received, asked, asked_after, asked_on, carried, carries_into}
+use Rattle.cpu.specs.Inputs.{stepped, step_of, count_of}
 use Rattle.cpu.specs.Run.{run, out, outs}
 
 pub run-zero : (scenario : Scenario) → run scenario 0 ≡ start

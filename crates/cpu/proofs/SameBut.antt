@@ -3,15 +3,22 @@ use Rattle.std.proofs.Common.{◌≡◌, ◌≢◌, ℕ, ◌/◌, ◌%◌, Bool,
 use Rattle.words.specs.Numbers.{extend}
 use Rattle.std.specs.FinMap as map'
 use Rattle.rope.specs.Places.{Words}
-use Rattle.space.specs.Cells.{Cells, lower_accumulator_channel, return_address_channel, at, get, put, get_channel, put_channel, superbank, accumulator, lower_accumulator, return_address, erasable_bank, fixed_bank, program_counter, both_banks, always_zero, channel_cell, superbank_channel}
+use Rattle.space.specs.Cells.{Cells, lower_accumulator_channel, return_address_channel, at, get, put, get_channel, put_channel, superbank}
+use Rattle.space.specs.Cells.{accumulator, lower_accumulator, return_address, erasable_bank, fixed_bank, program_counter, both_banks}
+use Rattle.space.specs.Cells.{always_zero, channel_cell, superbank_channel}
 use Rattle.space.specs.Places.{place}
 use Rattle.space.specs.declared.place.Linear.{Linear}
 use Rattle.space.specs.declared.place.Linear.TheVariants.{Erasable, Fixed}
 use Rattle.cpu.specs.declared.instruction.Instruction.{Instruction}
-use Rattle.cpu.specs.declared.instruction.Instruction.TheVariants.{Relint, Inhint, Extend, Resume, Tc, Ccs, Tcf, Das, Lxch, Incr, Ads, Ca, Cs, Index, Dxch, Ts, Xch, Ad, Mask, Read, Write, Rand, Wand, Ror, Wor, Rxor, Edrupt, Dv, Bzf, Msu, Qxch, Aug, Dim, Dca, Dcs, Su, Bzmf, Mp}
+use Rattle.cpu.specs.declared.instruction.Instruction.TheVariants.{Relint, Inhint, Extend, Resume, Tc, Ccs, Tcf, Das, Lxch, Incr, Ads, Ca}
+use Rattle.cpu.specs.declared.instruction.Instruction.TheVariants.{Cs, Index, Dxch, Ts, Xch, Ad, Mask, Read, Write, Rand, Wand, Ror, Wor}
+use Rattle.cpu.specs.declared.instruction.Instruction.TheVariants.{Rxor, Edrupt, Dv, Bzf, Msu, Qxch, Aug, Dim, Dca, Dcs, Su, Bzmf, Mp}
 use Rattle.cpu.specs.State.{State, interrupted_address, interrupted_word}
 use Rattle.cpu.specs.Codes.{row_of}
-use Rattle.cpu.specs.Effects.{Change, change, changes, accumulator_of, lower_of, next_address, place_in, erasable_number, erasable_in, value_at, operand, first_of, greatest_short, greatest_address, exchange, after, tc, ccs, tcf, ca, cs, ad, su, mask, ts, xch, lxch, qxch, dxch, ads, incr, aug, dim, das, dca, dcs, index, mp, dv, msu, bzf, bzmf, read, write, rand, ror, rxor, wand, wor, relint, inhint}
+use Rattle.cpu.specs.Effects.{Change, change, changes, accumulator_of, lower_of, next_address, place_in, erasable_number, erasable_in}
+use Rattle.cpu.specs.Effects.{value_at, operand, first_of, greatest_short, greatest_address, exchange, after, tc, ccs, tcf, ca, cs, ad, su}
+use Rattle.cpu.specs.Effects.{mask, ts, xch, lxch, qxch, dxch, ads, incr, aug, dim, das, dca, dcs, index, mp, dv, msu, bzf, bzmf, read}
+use Rattle.cpu.specs.Effects.{write, rand, ror, rxor, wand, wor, relint, inhint}
 use Rattle.cpu.specs.Effects.Change.{AtPlace, OnChannel, Inhibits, Serves, WaitsWithSum, WaitsWithWord}
 use Rattle.cpu.specs.Interrupts.{IsSameBut, IsApart, NamesNeither}
 use Rattle.cpu.proofs.Holding.{at-insert}
@@ -23,7 +30,8 @@ insert_same s t d x c e = at-insert t d x c ∙ ap (λ y. cond (c == d) x y) e �
 put_by : (s t : Cells) (p u v w c : ℕ) (b d : Bool) → at t c ≡ at s c
     → at (cond b (map'.insert (map'.insert t fixed_bank u) erasable_bank v) (cond d t (map'.insert t p w))) c
     ≡ at (cond b (map'.insert (map'.insert s fixed_bank u) erasable_bank v) (cond d s (map'.insert s p w))) c
-put_by s t p u v w c true d e = insert_same (map'.insert s fixed_bank u) (map'.insert t fixed_bank u) erasable_bank v c (insert_same s t fixed_bank u c e)
+put_by s t p u v w c true d e = insert_same (map'.insert s fixed_bank u) (map'.insert t fixed_bank u) erasable_bank v c
+    (insert_same s t fixed_bank u c e)
 put_by s t p u v w c false true e = e
 put_by s t p u v w c false false e = insert_same s t p w c e
 
@@ -32,8 +40,10 @@ unfolding put
 put_same s t p x c e = put_by s t p _ _ _ c (p == both_banks) (p == always_zero) e
 
 channel_by : (s t : Cells) (n x w v c : ℕ) (b d f : Bool) → at t c ≡ at s c
-    → at (cond b (put t lower_accumulator x) (cond d (put t return_address x) (cond f (map'.insert t (channel_cell n) w) (map'.insert t (channel_cell n) v)))) c
-    ≡ at (cond b (put s lower_accumulator x) (cond d (put s return_address x) (cond f (map'.insert s (channel_cell n) w) (map'.insert s (channel_cell n) v)))) c
+    → at (cond b (put t lower_accumulator x) (cond d (put t return_address x)
+    (cond f (map'.insert t (channel_cell n) w) (map'.insert t (channel_cell n) v)))) c
+    ≡ at (cond b (put s lower_accumulator x) (cond d (put s return_address x)
+    (cond f (map'.insert s (channel_cell n) w) (map'.insert s (channel_cell n) v)))) c
 channel_by s t n x w v c true d f e = put_same s t lower_accumulator x c e
 channel_by s t n x w v c false true f e = put_same s t return_address x c e
 channel_by s t n x w v c false false true e = insert_same s t (channel_cell n) w c e
@@ -41,15 +51,73 @@ channel_by s t n x w v c false false false e = insert_same s t (channel_cell n) 
 
 channel_same : (s t : Cells) (n x c : ℕ) → at t c ≡ at s c → at (put_channel t n x) c ≡ at (put_channel s n x) c
 unfolding put_channel
-channel_same s t n x c e = channel_by s t n x _ _ c (n == lower_accumulator_channel) (n == return_address_channel) (n == superbank_channel) e
+channel_same s t n x c e = channel_by s t n x _ _ c (n == lower_accumulator_channel) (n == return_address_channel) (n == superbank_channel)
+    e
 
 same_change : (s t : State) (c : Change) → IsSameBut s t → IsSameBut (change s c) (change t c)
-same_change s t (AtPlace p x) h = record { cells = λ c z b. put_same s.cells t.cells p x c (h.cells c z b); extra = h.extra; inhibit = h.inhibit; inside = h.inside; waiting_sum = h.waiting_sum; waiting_word = h.waiting_word; taken = h.taken; counts = h.counts }
-same_change s t (OnChannel n x) h = record { cells = λ c z b. channel_same s.cells t.cells n x c (h.cells c z b); extra = h.extra; inhibit = h.inhibit; inside = h.inside; waiting_sum = h.waiting_sum; waiting_word = h.waiting_word; taken = h.taken; counts = h.counts }
-same_change s t (Inhibits b) h = record { cells = h.cells; extra = h.extra; inhibit = refl; inside = h.inside; waiting_sum = h.waiting_sum; waiting_word = h.waiting_word; taken = h.taken; counts = h.counts }
-same_change s t (Serves b) h = record { cells = h.cells; extra = h.extra; inhibit = h.inhibit; inside = refl; waiting_sum = h.waiting_sum; waiting_word = h.waiting_word; taken = h.taken; counts = h.counts }
-same_change s t (WaitsWithSum x) h = record { cells = h.cells; extra = h.extra; inhibit = h.inhibit; inside = h.inside; waiting_sum = refl; waiting_word = h.waiting_word; taken = h.taken; counts = h.counts }
-same_change s t (WaitsWithWord w) h = record { cells = h.cells; extra = h.extra; inhibit = h.inhibit; inside = h.inside; waiting_sum = h.waiting_sum; waiting_word = refl; taken = h.taken; counts = h.counts }
+same_change s t (AtPlace p x) h = record {
+  cells = λ c z b. put_same s.cells t.cells p x c (h.cells c z b);
+  extra = h.extra;
+  inhibit
+      = h.inhibit;
+  inside = h.inside;
+  waiting_sum = h.waiting_sum;
+  waiting_word = h.waiting_word;
+  taken = h.taken;
+  counts = h.counts;
+}
+same_change s t (OnChannel n x) h = record {
+  cells = λ c z b. channel_same s.cells t.cells n x c (h.cells c z b);
+  extra = h.extra;
+  inhibit
+      = h.inhibit;
+  inside = h.inside;
+  waiting_sum = h.waiting_sum;
+  waiting_word = h.waiting_word;
+  taken = h.taken;
+  counts = h.counts;
+}
+same_change s t (Inhibits b) h = record {
+  cells = h.cells;
+  extra = h.extra;
+  inhibit = refl;
+  inside = h.inside;
+  waiting_sum = h.waiting_sum;
+  waiting_word = h.waiting_word;
+  taken = h.taken;
+  counts = h.counts;
+}
+same_change s t (Serves b) h = record {
+  cells = h.cells;
+  extra = h.extra;
+  inhibit = h.inhibit;
+  inside = refl;
+  waiting_sum = h.waiting_sum;
+  waiting_word = h.waiting_word;
+  taken = h.taken;
+  counts = h.counts;
+}
+same_change s t (WaitsWithSum x) h = record {
+  cells = h.cells;
+  extra = h.extra;
+  inhibit = h.inhibit;
+  inside = h.inside;
+  waiting_sum = refl;
+  waiting_word = h.waiting_word;
+  taken = h.taken;
+  counts = h.counts;
+}
+same_change s t (WaitsWithWord w) h = record {
+  cells = h.cells;
+  extra = h.extra;
+  inhibit = h.inhibit;
+  inside = h.inside;
+  waiting_sum
+      = h.waiting_sum;
+  waiting_word = refl;
+  taken = h.taken;
+  counts = h.counts;
+}
 
 pub same_changes : (s t : State) (cs : List Change) → IsSameBut s t → IsSameBut (changes s cs) (changes t cs)
 same_changes s t [] h = h
@@ -58,12 +126,14 @@ same_changes s t (c ∷ cs) h = same_changes (change s c) (change t c) cs (same_
 same_by : (s t : State) (xs ys : List Change) → IsSameBut s t → ys ≡ xs → IsSameBut (changes s xs) (changes t ys)
 same_by s t xs ys h e = subst (λ (zs : List Change). IsSameBut (changes s xs) (changes t zs)) (sym e) (same_changes s t xs h)
 
-both : (s t : Cells) (p : ℕ) → at t p ≡ at s p → at t erasable_bank ≡ at s erasable_bank → at t fixed_bank ≡ at s fixed_bank → get t p ≡ get s p
+both : (s t : Cells) (p : ℕ) → at t p ≡ at s p → at t erasable_bank ≡ at s erasable_bank → at t fixed_bank ≡ at s fixed_bank
+    → get t p ≡ get s p
 unfolding get
 both s t p e eb fb = cc
 
 reads : (s t : State) → IsSameBut s t → (p : ℕ) → p ≢ interrupted_address → p ≢ interrupted_word → get t.cells p ≡ get s.cells p
-reads s t h p z b = both s.cells t.cells p (h.cells p z b) (h.cells erasable_bank (λ e. omega arith) (λ e. omega arith)) (h.cells fixed_bank (λ e. omega arith) (λ e. omega arith))
+reads s t h p z b = both s.cells t.cells p (h.cells p z b) (h.cells erasable_bank (λ e. omega arith) (λ e. omega arith))
+    (h.cells fixed_bank (λ e. omega arith) (λ e. omega arith))
 
 pub acc : (s t : State) → IsSameBut s t → accumulator_of t ≡ accumulator_of s
 acc s t h = reads s t h accumulator (λ e. omega arith) (λ e. omega arith)
@@ -105,9 +175,11 @@ gets : (s t : State) → IsSameBut s t → (k : ℕ) → IsApart (place_in s k) 
 unfolding erasable_in
 gets s t h k apart = ap (λ l. get t.cells (erasable_number l)) (places s t h k) ∙ number_same s t h (place_in s k) apart
 
-channel_read : (s t : Cells) (n : ℕ) (b d : Bool) → get t lower_accumulator ≡ get s lower_accumulator → get t return_address ≡ get s return_address
+channel_read : (s t : Cells) (n : ℕ) (b d : Bool) → get t lower_accumulator ≡ get s lower_accumulator
+    → get t return_address ≡ get s return_address
     → at t (channel_cell n) ≡ at s (channel_cell n)
-    → cond b (get t lower_accumulator) (cond d (get t return_address) (extend (at t (channel_cell n)))) ≡ cond b (get s lower_accumulator) (cond d (get s return_address) (extend (at s (channel_cell n))))
+    → cond b (get t lower_accumulator) (cond d (get t return_address) (extend (at t (channel_cell n))))
+    ≡ cond b (get s lower_accumulator) (cond d (get s return_address) (extend (at s (channel_cell n))))
 channel_read s t n true d l q e = l
 channel_read s t n false true l q e = q
 channel_read s t n false false l q e = ap extend e
@@ -260,7 +332,8 @@ same-ts s t k h a =
     let z = nxt s t h in
     cc
 
-same-das : (s t : State) (k : ℕ) → IsSameBut s t → IsApart (place_in s (first_of greatest_short k)) × IsApart (place_in s k) → das t k ≡ das s k
+same-das : (s t : State) (k : ℕ) → IsSameBut s t → IsApart (place_in s (first_of greatest_short k)) × IsApart (place_in s k)
+    → das t k ≡ das s k
 unfolding das
 same-das s t k h a =
     let n = numbers s t h k in
@@ -271,7 +344,8 @@ same-das s t k h a =
     let l = low s t h in
     cc
 
-same-dca : (rope : Words) (s t : State) (k : ℕ) → IsSameBut s t → IsApart (place_in s (first_of greatest_address k)) × IsApart (place_in s k) → dca rope t k ≡ dca rope s k
+same-dca : (rope : Words) (s t : State) (k : ℕ) → IsSameBut s t
+    → IsApart (place_in s (first_of greatest_address k)) × IsApart (place_in s k) → dca rope t k ≡ dca rope s k
 unfolding dca
 same-dca rope s t k h a =
     let p = places s t h k in
@@ -280,7 +354,8 @@ same-dca rope s t k h a =
     let o' = operands rope s t h (first_of greatest_address k) a.0 in
     cc
 
-same-dcs : (rope : Words) (s t : State) (k : ℕ) → IsSameBut s t → IsApart (place_in s (first_of greatest_address k)) × IsApart (place_in s k) → dcs rope t k ≡ dcs rope s k
+same-dcs : (rope : Words) (s t : State) (k : ℕ) → IsSameBut s t
+    → IsApart (place_in s (first_of greatest_address k)) × IsApart (place_in s k) → dcs rope t k ≡ dcs rope s k
 unfolding dcs
 same-dcs rope s t k h a =
     let p = places s t h k in
@@ -354,22 +429,28 @@ same-bzmf s t k h =
     let x = acc s t h in
     cc
 
-number_read : (s u v : State) → IsSameBut u v → (k : ℕ) → IsApart (place_in s k) → get v.cells (erasable_in s k) ≡ get u.cells (erasable_in s k)
+number_read : (s u v : State) → IsSameBut u v → (k : ℕ) → IsApart (place_in s k)
+    → get v.cells (erasable_in s k) ≡ get u.cells (erasable_in s k)
 unfolding erasable_in
 number_read s u v h k apart = number_same u v h (place_in s k) apart
 
-same-dxch : (s t : State) (k : ℕ) → IsSameBut s t → IsApart (place_in s (first_of greatest_short k)) × IsApart (place_in s k) → IsSameBut (dxch s k) (dxch t k)
+same-dxch : (s t : State) (k : ℕ) → IsSameBut s t → IsApart (place_in s (first_of greatest_short k)) × IsApart (place_in s k)
+    → IsSameBut (dxch s k) (dxch t k)
 unfolding dxch
 same-dxch s t k h a =
     let k' = first_of greatest_short k in
-    let lows : exchange t lower_accumulator (erasable_in t k) ≡ exchange s lower_accumulator (erasable_in s k) = (let l = low s t h in let n = numbers s t h k in let g = gets s t h k a.1 in cc) in
+    let lows : exchange t lower_accumulator (erasable_in t k)
+    ≡ exchange s lower_accumulator (erasable_in s k)
+    = (let l = low s t h in let n = numbers s t h k in let g = gets s t h k a.1 in cc) in
     let u = changes s (exchange s lower_accumulator (erasable_in s k)) in
     let v = changes t (exchange t lower_accumulator (erasable_in t k)) in
-    let first : IsSameBut u v = same_by s t (exchange s lower_accumulator (erasable_in s k)) (exchange t lower_accumulator (erasable_in t k)) h lows in
+    let first : IsSameBut u v = same_by s t (exchange s lower_accumulator (erasable_in s k))
+    (exchange t lower_accumulator (erasable_in t k)) h lows in
     same_by u v (exchange u accumulator (erasable_in s k')) (exchange v accumulator (erasable_in t k')) first
     (let x = acc u v first in let n = numbers s t h k' in let g = number_read s u v first k' a.0 in cc)
 
-pub same_after : (rope : Words) (s t : State) (i : Instruction) (k : ℕ) → IsSameBut s t → i ≢ Resume → NamesNeither s (row_of i).operand k → IsSameBut (after rope s i k) (after rope t i k)
+pub same_after : (rope : Words) (s t : State) (i : Instruction) (k : ℕ) → IsSameBut s t → i ≢ Resume → NamesNeither s (row_of i).operand k
+    → IsSameBut (after rope s i k) (after rope t i k)
 unfolding after
 same_after rope s t Resume k h differs a = absurd (differs refl)
 same_after rope s t Extend k h differs a = h

@@ -1,5 +1,6 @@
 -- The reference run, many steps at once.
-use Rattle.std.proofs.Common.{◌≡◌, ◌<◌, ◌≤◌, ◌+◌, ◌++◌, ◌^◌, ℕ, zero, suc, Option, None, add-one, append-nil, arith, ap, refl, sym, ◌∙◌, inl, inr, ◌⊎◌}
+use Rattle.std.proofs.Common.{◌≡◌, ◌<◌, ◌≤◌, ◌+◌, ◌++◌, ◌^◌, ℕ, zero, suc, Option, None, add-one, append-nil, arith, ap, refl, sym, ◌∙◌}
+use Rattle.std.proofs.Common.{inl, inr, ◌⊎◌}
 use Rattle.std.specs.Option.{option_to_list}
 use Rattle.cpu.specs.Next.{most_cycles, next}
 use Rattle.cpu.specs.Run.{run, out, outs}
@@ -19,11 +20,13 @@ pub fits_at : (p : Scenario) (n : ℕ) (s : State) → s ≡ run p n → FitsRun
 fits_at p n s e = rw e (run-fits p n)
 
 -- the step from there
-pub state_next : (scenario : Scenario) (n : ℕ) (s t : State) (o : Option Output) → s ≡ run scenario n → (t, o) ≡ next scenario s → t ≡ run scenario (n + 1)
+pub state_next : (scenario : Scenario) (n : ℕ) (s t : State) (o : Option Output) → s ≡ run scenario n → (t, o) ≡ next scenario s
+    → t ≡ run scenario (n + 1)
 state_next scenario n s t o e h =
     ap (λ (p : State × Option Output). p.0) h ∙ ap (λ (u : State). (next scenario u).0) e ∙ sym (run-add-one scenario n)
 
-pub out_next : (scenario : Scenario) (n : ℕ) (s t : State) (o : Option Output) → s ≡ run scenario n → (t, o) ≡ next scenario s → o ≡ out scenario (n + 1)
+pub out_next : (scenario : Scenario) (n : ℕ) (s t : State) (o : Option Output) → s ≡ run scenario n → (t, o) ≡ next scenario s
+    → o ≡ out scenario (n + 1)
 out_next scenario n s t o e h =
     ap (λ (p : State × Option Output). p.1) h ∙ ap (λ (u : State). (next scenario u).1) e ∙ sym (out-add-one scenario n)
 

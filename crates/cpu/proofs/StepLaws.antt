@@ -1,5 +1,6 @@
 -- What a step comes to, by the kinds of steps.
-use Rattle.std.proofs.Common.{◌≡◌, ◌≢◌, ◌≤◌, ◌+◌, ℕ, List, [], ◌∷◌, Bool, true, false, cond, not, ◌&&◌, Option, Some, None, refl, arith, ◌∙◌, ap, sym, subst}
+use Rattle.std.proofs.Common.{◌≡◌, ◌≢◌, ◌≤◌, ◌+◌, ℕ, List, [], ◌∷◌, Bool, true, false, cond, not, ◌&&◌, Option, Some, None, refl, arith}
+use Rattle.std.proofs.Common.{◌∙◌, ap, sym, subst}
 use Rattle.std.specs.Prelude.{is_some}
 use Rattle.std.proofs.lemmas.Bool.Decides.{nat_tests}
 use Rattle.std.proofs.lemmas.Bool.{and_parts}
@@ -13,32 +14,39 @@ use Rattle.cpu.specs.State.{State, Scenario}
 use Rattle.cpu.specs.Effects.{Change, change, changes, accumulator_of, with_channel, after, dxch, write, wand, wor}
 use Rattle.words.specs.Numbers.{extend, correct}
 use Rattle.words.specs.BitSums.{and_sum, or_sum}
-use Rattle.space.specs.Cells.{Cells, get, put, get_channel, put_channel, accumulator, lower_accumulator_channel, return_address_channel, superbank_channel}
+use Rattle.space.specs.Cells.{Cells, get, put, get_channel, put_channel, accumulator, lower_accumulator_channel, return_address_channel}
+use Rattle.space.specs.Cells.{superbank_channel}
 use Rattle.space.proofs.CellLaws.{get-put_accumulator, get-put_channel, at-put_channel_other}
 use Rattle.cpu.specs.Effects.Change.{AtPlace, OnChannel, Inhibits, Serves, WaitsWithSum, WaitsWithWord}
 use Rattle.cpu.specs.declared.instruction.Instruction.{Instruction}
 use Rattle.cpu.specs.declared.instruction.Instruction.TheVariants.{Extend, Edrupt, Write, Wand, Wor}
 use Rattle.cpu.specs.declared.output.Output.{Output}
 use Rattle.cpu.specs.Codes.{Code, row_of, code_of}
-use Rattle.cpu.specs.Next.{fetched, jumps, jump_cycles, executed, execute_code, execute, instruction_word, written_by, written_channel, output_on, entry, entered, next_by, next}
+use Rattle.cpu.specs.Next.{fetched, jumps, jump_cycles, executed, execute_code, execute, instruction_word, written_by, written_channel}
+use Rattle.cpu.specs.Next.{output_on, entry, entered, next_by, next}
 use Rattle.cpu.specs.Inputs as inputs
-use Rattle.cpu.specs.Laws.{TakesInput, EntersInterrupt, ExecutesCode, AddsFewCycles, TakesInTurn, writes_channel, leads_out, IsPutOut, PutsOutByWriting, AsksNothing}
+use Rattle.cpu.specs.Laws.{TakesInput, EntersInterrupt, ExecutesCode, AddsFewCycles, TakesInTurn, writes_channel, leads_out, IsPutOut}
+use Rattle.cpu.specs.Laws.{PutsOutByWriting, AsksNothing}
 use Rattle.cpu.proofs.RunLaws.{cycles-next, rise-next, counted_in, cycles-effect}
 use Rattle.cpu.proofs.TakenLaws.{account-take, account-next_by, fits-next}
 
 -- the three kinds of steps
-pub by_input : (scenario : Scenario) (s : State) (given : Input × Option ℕ) → TakesInput scenario s given → next scenario s ≡ (inputs.take s given, None)
+pub by_input : (scenario : Scenario) (s : State) (given : Input × Option ℕ) → TakesInput scenario s given
+    → next scenario s ≡ (inputs.take s given, None)
 unfolding next
 by_input scenario s given e = ap (λ o. next_by scenario.rope s o (entry s)) e
 
-pub by_entry : (scenario : Scenario) (s : State) (k : ℕ) → EntersInterrupt scenario s k → next scenario s ≡ (entered scenario.rope s k, None)
+pub by_entry : (scenario : Scenario) (s : State) (k : ℕ) → EntersInterrupt scenario s k
+    → next scenario s ≡ (entered scenario.rope s k, None)
 unfolding next
 by_entry scenario s k e = ap (λ o. next_by scenario.rope s o (entry s)) e.none_due ∙ ap (next_by scenario.rope s None) e.enters
 
-pub by_code : (scenario : Scenario) (s : State) (code : Code) → ExecutesCode scenario s code → next scenario s ≡ execute_code scenario.rope s code
+pub by_code : (scenario : Scenario) (s : State) (code : Code) → ExecutesCode scenario s code
+    → next scenario s ≡ execute_code scenario.rope s code
 unfolding next execute
 by_code scenario s code e =
-    ap (λ o. next_by scenario.rope s o (entry s)) e.none_due ∙ ap (next_by scenario.rope s None) e.none_entered ∙ ap (execute_code scenario.rope s) e.executes
+    ap (λ o. next_by scenario.rope s o (entry s)) e.none_due ∙ ap (next_by scenario.rope s None) e.none_entered
+    ∙ ap (execute_code scenario.rope s) e.executes
 
 taken_cycles : (s : State) (given : Input × Option ℕ) → (inputs.take s given).cycles ≡ s.cycles + inputs.input_cycles given.0
 unfolding inputs.take
@@ -57,7 +65,11 @@ either_cycles false n h = h
 
 executed_cycles : (rope : Words) (s : State) (code : Code) → s.cycles + 1 ≤ (execute_code rope s code).0.cycles
 unfolding executed fetched
-executed_cycles rope s code = omega (arith, either_cycles (jumps (fetched s) code.instruction) (row_of code.instruction).cycles (some_cycles code.instruction))
+executed_cycles rope s code = omega (
+  arith,
+  either_cycles (jumps (fetched s) code.instruction) (row_of code.instruction).cycles
+      (some_cycles code.instruction),
+)
 
 pub adds_few_cycles : (scenario : Scenario) (s : State) → AddsFewCycles scenario s
 adds_few_cycles scenario s = record {
@@ -65,13 +77,18 @@ adds_few_cycles scenario s = record {
   at_most_six = cycles-next scenario s;
   by_input = λ given e. ap (λ (t : State × Option Output). t.0.cycles) (by_input scenario s given e) ∙ taken_cycles s given;
   by_entry = λ k e. ap (λ (t : State × Option Output). t.0.cycles) (by_entry scenario s k e) ∙ entered_cycles scenario.rope s k;
-  by_code = λ code e. subst (λ (t : State × Option Output). s.cycles + 1 ≤ t.0.cycles) (sym (by_code scenario s code e)) (executed_cycles scenario.rope s code);
+  by_code = λ code e. subst (λ (t : State × Option Output). s.cycles + 1 ≤ t.0.cycles) (sym (by_code scenario s code e))
+      (executed_cycles scenario.rope s code);
 }
 
 -- a step takes the input that it is given
-taken-next_by : (rope : Words) (s : State) (d : Option (Input × Option ℕ)) (o : Option ℕ) → (s.taken ≤ (next_by rope s d o).0.taken) × ((next_by rope s d o).0.taken ≤ s.taken + 1)
-taken-next_by rope s None o = let same : (next_by rope s None o).0.taken ≡ s.taken = ap (λ (a : ℕ × List ℕ). a.0) (account-next_by rope s o) in (omega arith, omega arith)
-taken-next_by rope s (Some given) o = let more : (inputs.take s given).taken ≡ s.taken + 1 = ap (λ (a : ℕ × List ℕ). a.0) (account-take s given) in (omega arith, omega arith)
+taken-next_by : (rope : Words) (s : State) (d : Option (Input × Option ℕ)) (o : Option ℕ)
+    → (s.taken ≤ (next_by rope s d o).0.taken) × ((next_by rope s d o).0.taken ≤ s.taken + 1)
+taken-next_by rope s None o = let same : (next_by rope s None o).0.taken
+    ≡ s.taken = ap (λ (a : ℕ × List ℕ). a.0) (account-next_by rope s o) in (omega arith, omega arith)
+taken-next_by rope s (Some given) o = let more : (inputs.take s given).taken
+    ≡ s.taken + 1 = ap (λ (a : ℕ × List ℕ). a.0) (account-take s given) in
+    (omega arith, omega arith)
 
 taken_one : (s : State) (given : Input × Option ℕ) → (inputs.take s given).taken ≡ s.taken + 1
 taken_one s given = ap (λ (a : ℕ × List ℕ). a.0) (account-take s given)
@@ -104,7 +121,8 @@ written : (s : State) (channel : Option ℕ) (o : Output) → output_on s channe
 written s None o e = absurd (cc)
 written s (Some n) o e = (n, refl)
 
-output-next_by : (rope : Words) (s : State) (d : Option (Input × Option ℕ)) (i : Option ℕ) (o : Output) → (next_by rope s d i).1 ≡ Some o → writes_channel (code_of s.extra (instruction_word rope s)).instruction ≡ true
+output-next_by : (rope : Words) (s : State) (d : Option (Input × Option ℕ)) (i : Option ℕ) (o : Output) → (next_by rope s d i).1 ≡ Some o
+    → writes_channel (code_of s.extra (instruction_word rope s)).instruction ≡ true
 unfolding execute
 output-next_by rope s (Some given) i o e = absurd (cc)
 output-next_by rope s None (Some k) o e = absurd (cc)
@@ -114,7 +132,8 @@ output-next_by rope s None None o e =
     writer code.instruction code.operand w.0 w.1
 
 -- A is none of the cells of channels that lead out
-a_stays : (s : Cells) (n x : ℕ) → n ≢ lower_accumulator_channel → n ≢ return_address_channel → get (put_channel s n x) accumulator ≡ get s accumulator
+a_stays : (s : Cells) (n x : ℕ) → n ≢ lower_accumulator_channel → n ≢ return_address_channel
+    → get (put_channel s n x) accumulator ≡ get s accumulator
 unfolding get
 a_stays s n x l q = at-put_channel_other s n x accumulator l q (λ e. omega arith)
 
@@ -158,7 +177,8 @@ after_both s n r out =
       held = back ∙ ap extend (sym (ap correct back ∙ twice));
     }
 
-same_word : (rope : Words) (s : State) (instruction : Instruction) (n : ℕ) → writes_channel instruction ≡ true → LeadsOut n → SameWord (after rope s instruction n) n
+same_word : (rope : Words) (s : State) (instruction : Instruction) (n : ℕ) → writes_channel instruction ≡ true → LeadsOut n
+    → SameWord (after rope s instruction n) n
 unfolding after wand wor
 same_word rope s Write n e out = after_write s n out
 same_word rope s Wand n e out = after_both s n (with_channel and_sum s n) out
@@ -169,7 +189,8 @@ same_word rope s instruction n e out = absurd (cc)
 none_out : (t : State) (n : ℕ) (o : Output) → output_on t (Some n) ≡ Some o → leads_out n ≡ true
 none_out t n o e = grind (arith, nat_tests)
 
-out_is : (t : State) (n : ℕ) → leads_out n ≡ true → output_on t (Some n) ≡ Some (record { cycles = t.cycles; channel = n; word = correct (get_channel t.cells n) })
+out_is : (t : State) (n : ℕ) → leads_out n ≡ true
+    → output_on t (Some n) ≡ Some (record { cycles = t.cycles; channel = n; word = correct (get_channel t.cells n) })
 out_is t n e = grind (arith, nat_tests)
 
 channel_of : (instruction : Instruction) (k : ℕ) → writes_channel instruction ≡ true → written_by (row_of instruction).role k ≡ Some k
@@ -178,7 +199,8 @@ channel_of Wand k e = refl
 channel_of Wor k e = refl
 channel_of instruction k e = absurd (cc)
 
-put_out : (rope : Words) (s : State) (code : Code) (o : Output) → (execute_code rope s code).1 ≡ Some o → IsPutOut code (execute_code rope s code).0 o
+put_out : (rope : Words) (s : State) (code : Code) (o : Output) → (execute_code rope s code).1 ≡ Some o
+    → IsPutOut code (execute_code rope s code).0 o
 unfolding executed
 put_out rope s code o e =
     let t = executed rope (fetched s) code in
@@ -187,11 +209,21 @@ put_out rope s code o e =
     let is : written_channel code ≡ Some code.operand = channel_of code.instruction code.operand writes in
     let given : output_on t (Some code.operand) ≡ Some o = ap (output_on t) (sym is) ∙ e in
     let out = none_out t code.operand o given in
-    let same : record { cycles = t.cycles; channel = code.operand; word = correct (get_channel t.cells code.operand) } ≡ o = (let both = sym (out_is t code.operand out) ∙ given in cc) in
+    let same : record { cycles = t.cycles; channel = code.operand; word = correct (get_channel t.cells code.operand) }
+    ≡ o = (let both = sym (out_is t code.operand out) ∙ given in cc) in
     let words = same_word rope (fetched s) code.instruction code.operand writes (if_out code.operand out) in
-    subst (IsPutOut code t) same (record { writes = writes; channel = refl; out = out; cycles = refl; word = words.word; held = words.held })
+    subst (IsPutOut code t) same (record {
+      writes = writes;
+      channel = refl;
+      out = out;
+      cycles = refl;
+      word = words.word;
+      held
+          = words.held;
+    })
 
-gone_out : (rope : Words) (s : State) (code : Code) → writes_channel code.instruction ≡ true → leads_out code.operand ≡ true → is_some (execute_code rope s code).1 ≡ true
+gone_out : (rope : Words) (s : State) (code : Code) → writes_channel code.instruction ≡ true → leads_out code.operand ≡ true
+    → is_some (execute_code rope s code).1 ≡ true
 gone_out rope s code writes out =
     let t = executed rope (fetched s) code in
     ap is_some (ap (output_on t) (channel_of code.instruction code.operand writes) ∙ out_is t code.operand out)
@@ -202,8 +234,10 @@ puts_out_by_writing scenario s = record {
   only = λ o e. output-next_by scenario.rope s (due scenario.inputs s.taken s.cycles) (entry s) o e;
   by_input = λ given e. ap (λ (t : State × Option Output). t.1) (by_input scenario s given e);
   by_entry = λ k e. ap (λ (t : State × Option Output). t.1) (by_entry scenario s k e);
-  by_code = λ code e. λ o put. subst (λ (t : State × Option Output). IsPutOut code t.0 o) (sym (by_code scenario s code e)) (put_out scenario.rope s code o (ap (λ (t : State × Option Output). t.1) (sym (by_code scenario s code e)) ∙ put));
-  each = λ code e. λ writes out. ap (λ (t : State × Option Output). is_some t.1) (by_code scenario s code e) ∙ gone_out scenario.rope s code writes out;
+  by_code = λ code e. λ o put. subst (λ (t : State × Option Output). IsPutOut code t.0 o) (sym (by_code scenario s code e))
+      (put_out scenario.rope s code o (ap (λ (t : State × Option Output). t.1) (sym (by_code scenario s code e)) ∙ put));
+  each = λ code e. λ writes out. ap (λ (t : State × Option Output). is_some t.1) (by_code scenario s code e)
+      ∙ gone_out scenario.rope s code writes out;
 }
 
 requests-change : (s : State) (c : Change) → (change s c).requests ≡ s.requests
@@ -224,10 +258,12 @@ requests-after rope s Extend k = refl
 requests-after rope s Edrupt k = refl
 requests-after rope s instruction k = search (requests-changes)
 
-requests-next_by : (rope : Words) (s : State) (o : Option ℕ) (k : ℕ) → set.contains (next_by rope s None o).0.requests k ≡ true → set.contains s.requests k ≡ true
+requests-next_by : (rope : Words) (s : State) (o : Option ℕ) (k : ℕ) → set.contains (next_by rope s None o).0.requests k ≡ true
+    → set.contains s.requests k ≡ true
 unfolding entered execute executed fetched
 requests-next_by rope s (Some entered) k e =
-    let parts : (not (eq_by_cmp nat_cmp k entered) && set.contains s.requests k) ≡ true = sym (set.contains-remove nat_cmp_total s.requests entered k) ∙ e in
+    let parts : (not (eq_by_cmp nat_cmp k entered) && set.contains s.requests k)
+    ≡ true = sym (set.contains-remove nat_cmp_total s.requests entered k) ∙ e in
     (and_parts _ _ parts).1
 requests-next_by rope s None k e = let code = code_of s.extra (instruction_word rope s) in
     let same = requests-after rope (fetched s) code.instruction code.operand in
@@ -236,4 +272,5 @@ requests-next_by rope s None k e = let code = code_of s.extra (instruction_word 
 pub asks_nothing : (scenario : Scenario) (s : State) → AsksNothing scenario s
 unfolding next
 asks_nothing scenario s = λ none. λ k e.
-    requests-next_by scenario.rope s (entry s) k (subst (λ (d : Option (Input × Option ℕ)). set.contains (next_by scenario.rope s d (entry s)).0.requests k ≡ true) none e)
+    requests-next_by scenario.rope s (entry s) k (subst
+    (λ (d : Option (Input × Option ℕ)). set.contains (next_by scenario.rope s d (entry s)).0.requests k ≡ true) none e)

@@ -21,7 +21,8 @@ use Rattle.cpu.specs.declared.instruction.Instruction.{Instruction}
 use Rattle.cpu.specs.declared.instruction.Instruction.TheVariants.{Extend, Edrupt}
 use Rattle.cpu.specs.Next.{fetched, executed, execute, entry, entered, next_by, next}
 use Rattle.cpu.specs.Inputs as inputs
-use Rattle.cpu.specs.Inputs.{input_effect, counted, received, asked, asked_after, asked_on, carried, carries_into, stepped, step_of, count_of}
+use Rattle.cpu.specs.Inputs.{input_effect, counted, received, asked, asked_after, asked_on, carried, carries_into, stepped, step_of}
+use Rattle.cpu.specs.Inputs.{count_of}
 use Rattle.cpu.specs.Run.{run}
 use Rattle.cpu.proofs.RunLaws.{counted_in}
 
@@ -67,7 +68,8 @@ account-effect s (Word n w) = account-asked _ (asked_on n)
 account-effect s (Interrupt k) = refl
 
 -- an input that is taken is counted
-pub account-take : (s : State) (given : Input × Option ℕ) → account (inputs.take s given) ≡ (s.taken + 1, from.counts_after s.counts given.1)
+pub account-take : (s : State) (given : Input × Option ℕ)
+    → account (inputs.take s given) ≡ (s.taken + 1, from.counts_after s.counts given.1)
 unfolding inputs.take
 account-take s given = account-effect (counted_in s given) given.0
 
@@ -80,10 +82,12 @@ account-next_by rope s None = account-after rope _ _ _
 fits-by : (scenario : Scenario) (s t : State) → account t ≡ account s → FitsRun scenario s → FitsRun scenario t
 fits-by scenario s t e f = subst (λ (a : ℕ × List ℕ). CountsTaken scenario.inputs a.0 a.1) (sym e) f
 
-fits-next_by : (scenario : Scenario) (s : State) (d : Option (Input × Option ℕ)) (o : Option ℕ) → IfSome d (λ given. CountsTaken scenario.inputs (s.taken + 1) (from.counts_after s.counts given.1)) → FitsRun scenario s
+fits-next_by : (scenario : Scenario) (s : State) (d : Option (Input × Option ℕ)) (o : Option ℕ)
+    → IfSome d (λ given. CountsTaken scenario.inputs (s.taken + 1) (from.counts_after s.counts given.1)) → FitsRun scenario s
     → FitsRun scenario (next_by scenario.rope s d o).0
 fits-next_by scenario s None o given f = fits-by scenario s (next_by scenario.rope s None o).0 (account-next_by scenario.rope s o) f
-fits-next_by scenario s (Some input) o given f = subst (λ (a : ℕ × List ℕ). CountsTaken scenario.inputs a.0 a.1) (sym (account-take s input)) given
+fits-next_by scenario s (Some input) o given f = subst (λ (a : ℕ × List ℕ). CountsTaken scenario.inputs a.0 a.1)
+    (sym (account-take s input)) given
 
 -- a step keeps the fit
 pub fits-next : (scenario : Scenario) (s : State) → FitsRun scenario s → FitsRun scenario (next scenario s).0
@@ -92,13 +96,15 @@ fits-next scenario s f =
     fits-next_by scenario s (due scenario.inputs s.taken s.cycles) (entry s) (fits-due scenario.inputs s.taken s.cycles s.counts f) f
 
 -- a state that a step leads to
-pub fits-after : (scenario : Scenario) (s t : State) (o : Option Output) → (t, o) ≡ next scenario s → FitsRun scenario s → FitsRun scenario t
+pub fits-after : (scenario : Scenario) (s t : State) (o : Option Output) → (t, o) ≡ next scenario s → FitsRun scenario s
+    → FitsRun scenario t
 fits-after scenario s t o e f = subst (λ (p : State × Option Output). FitsRun scenario p.0) (sym e) (fits-next scenario s f)
 
 -- the start fits whatever runs
 pub fits-at_start : (scenario : Scenario) → FitsRun scenario start
 unfolding start
-fits-at_start scenario = fits-start scenario.inputs (replicate most_series 0) (λ j b. get_or-replicate most_series j 0 0 (let l = length-replicate {A = ℕ} most_series 0 in omega (arith, l, b)))
+fits-at_start scenario = fits-start scenario.inputs (replicate most_series 0)
+    (λ j b. get_or-replicate most_series j 0 0 (let l = length-replicate {A = ℕ} most_series 0 in omega (arith, l, b)))
 
 -- Every state of the reference run fits what runs.
 pub run-fits : (scenario : Scenario) (n : ℕ) → FitsRun scenario (run scenario n)

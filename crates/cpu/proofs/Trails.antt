@@ -37,7 +37,8 @@ both_false false d e h = h
 -- what is among neither of two lists
 pub not_first : (c : ℕ) (xs ys : List ℕ) → is_in c (xs ++ ys) ≡ false → is_in c xs ≡ false
 not_first c [] ys h = refl
-not_first c (d ∷ xs) ys h = both_false (c == d) (is_in c xs) (first_false (c == d) (is_in c (xs ++ ys)) h) (not_first c xs ys (second_false (c == d) (is_in c (xs ++ ys)) h))
+not_first c (d ∷ xs) ys h = both_false (c == d) (is_in c xs) (first_false (c == d) (is_in c (xs ++ ys)) h)
+    (not_first c xs ys (second_false (c == d) (is_in c (xs ++ ys)) h))
 
 pub not_second : (c : ℕ) (xs ys : List ℕ) → is_in c (xs ++ ys) ≡ false → is_in c ys ≡ false
 not_second c [] ys h = h

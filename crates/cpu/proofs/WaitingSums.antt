@@ -40,11 +40,13 @@ abbrev IsLeft : Scenario → State → State → Link → ℕ → Type 0
 IsLeft scenario s t l x = LeftByIndex scenario s t l x ⊎ LeftByInput scenario s t l x
 
 -- of all instructions INDEX alone leaves a sum, which it reads
-only_index : (r : Words) (u : State) (i : Instruction) (k x : ℕ) → u.waiting_sum ≡ None → beside.left_sum r u i k ≡ Some x → (i ≡ Index) × (value_at r u (place_in u k) ≡ x)
+only_index : (r : Words) (u : State) (i : Instruction) (k x : ℕ) → u.waiting_sum ≡ None → beside.left_sum r u i k ≡ Some x
+    → (i ≡ Index) × (value_at r u (place_in u k) ≡ x)
 only_index r u Index k x none e = (refl, cc)
 only_index r u instruction k x none e = absurd (cc)
 
-left_by_code : (scenario : Scenario) (s : State) (x : ℕ) → due scenario.inputs s.taken s.cycles ≡ None → entry s ≡ None → (execute scenario.rope s).0.waiting_sum ≡ Some x
+left_by_code : (scenario : Scenario) (s : State) (x : ℕ) → due scenario.inputs s.taken s.cycles ≡ None → entry s ≡ None
+    → (execute scenario.rope s).0.waiting_sum ≡ Some x
     → LeftByIndex scenario s (execute scenario.rope s).0 (link_by scenario.rope s None None) x
 unfolding fetched execute executed
 left_by_code scenario s x no_input no_entry e =
@@ -55,23 +57,38 @@ left_by_code scenario s x no_input no_entry e =
     let only = only_index r u code.instruction code.operand x refl (sym leaves.0 ∙ e) in
     record {
       place = code.operand;
-      executes = record { none_due = no_input; none_entered = no_entry; executes = ap (λ (i : Instruction). record { instruction = i; operand = code.operand }) only.0 };
+      executes = record {
+        none_due = no_input;
+        none_entered = no_entry;
+        executes = ap
+            (λ (i : Instruction). record { instruction = i; operand = code.operand }) only.0;
+      };
       reads = only.1;
       no_word = leaves.1 ∙ ap (beside.left_word u) only.0;
       extra = ap (λ (i : Instruction). extra_after i s.extra) only.0;
       instruction = refl;
     }
 
-left_by_case : (scenario : Scenario) (s : State) (x : ℕ) (d : Option (Input × Option ℕ)) (k : Option ℕ) → due scenario.inputs s.taken s.cycles ≡ d → entry s ≡ k
-    → (next_by scenario.rope s d k).0.waiting_sum ≡ Some x → IsLeft scenario s (next_by scenario.rope s d k).0 (link_by scenario.rope s d k) x
+left_by_case : (scenario : Scenario) (s : State) (x : ℕ) (d : Option (Input × Option ℕ)) (k : Option ℕ)
+    → due scenario.inputs s.taken s.cycles ≡ d → entry s ≡ k
+    → (next_by scenario.rope s d k).0.waiting_sum ≡ Some x
+    → IsLeft scenario s (next_by scenario.rope s d k).0 (link_by scenario.rope s d k) x
 unfolding take entered
 left_by_case scenario s x (Some given) k is_due is_entry e =
     let kept = beside.input_keeps (counted_in s given) given.0 in
-    inr (record { given = ap is_some is_due; sum = sym kept.0 ∙ e; word = kept.1; extra = (flags.input_keeps (counted_in s given) given.0).0; instruction = refl })
+    inr (record {
+      given = ap is_some is_due;
+      sum = sym kept.0
+          ∙ e;
+      word = kept.1;
+      extra = (flags.input_keeps (counted_in s given) given.0).0;
+      instruction = refl;
+    })
 left_by_case scenario s x None (Some k) is_due is_entry e = absurd (let barred = sum_bars s x e in cc)
 left_by_case scenario s x None None is_due is_entry e = inl (left_by_code scenario s x is_due is_entry e)
 
 -- a sum that waits after a step was read by INDEX, or waited before an input
-pub left_by : (scenario : Scenario) (s : State) (x : ℕ) → (next scenario s).0.waiting_sum ≡ Some x → IsLeft scenario s (next scenario s).0 (link scenario s) x
+pub left_by : (scenario : Scenario) (s : State) (x : ℕ) → (next scenario s).0.waiting_sum ≡ Some x
+    → IsLeft scenario s (next scenario s).0 (link scenario s) x
 unfolding next link
 left_by scenario s x e = left_by_case scenario s x (due scenario.inputs s.taken s.cycles) (entry s) refl refl e

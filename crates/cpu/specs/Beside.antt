@@ -49,13 +49,15 @@ word_sources (Executes z code waited eb fb sup overflow) = resume_spots code.ins
 -- The sum that waits after an instruction depends on the link and on its sources alone; another step leaves what waits.
 abbrev pub SumDependsOnSources : Scenario → State → Scenario → State → Type 0
 SumDependsOnSources one s other t =
-    link one s ≡ link other t → StandAlike one.rope s other.rope t (sum_sources (link one s)) → (is_instruction (link one s) ≡ false → s.waiting_sum ≡ t.waiting_sum)
+    link one s ≡ link other t → StandAlike one.rope s other.rope t (sum_sources (link one s))
+    → (is_instruction (link one s) ≡ false → s.waiting_sum ≡ t.waiting_sum)
     → (next one s).0.waiting_sum ≡ (next other t).0.waiting_sum
 
 -- The same of the word that waits.
 abbrev pub WordDependsOnSources : Scenario → State → Scenario → State → Type 0
 WordDependsOnSources one s other t =
-    link one s ≡ link other t → StandAlike one.rope s other.rope t (word_sources (link one s)) → (is_instruction (link one s) ≡ false → s.waiting_word ≡ t.waiting_word)
+    link one s ≡ link other t → StandAlike one.rope s other.rope t (word_sources (link one s))
+    → (is_instruction (link one s) ≡ false → s.waiting_word ≡ t.waiting_word)
     → (next one s).0.waiting_word ≡ (next other t).0.waiting_word
 
 -- the channel that a step writes, and what is read there
@@ -118,4 +120,5 @@ RequestsDependOnSources one s other t =
 -- So what controls fixes them, with those sources, which only an input that a counter takes has.
 abbrev pub ControlFixesRequests : Scenario → State → Scenario → State → Type 0
 ControlFixesRequests one s other t =
-    SameControl one s other t → StandAlike one.rope s other.rope t (request_sources (link one s)) → (next one s).0.requests ≡ (next other t).0.requests
+    SameControl one s other t → StandAlike one.rope s other.rope t (request_sources (link one s))
+    → (next one s).0.requests ≡ (next other t).0.requests

@@ -1,5 +1,6 @@
 -- What instructions come to by the value.
-use Rattle.std.specs.Prelude.{◌≡◌, ℕ, ◌+◌, ◌-◌, ◌*◌, ◌%◌, ◌^◌, ◌<◌, nat_lt, nat_le, Bool, true, false, not, ◌&&◌, ◌||◌, ◌==◌, Option, None, ℤ, pos, ◌+ℤ◌, ◌*ℤ◌, int_lt, unsigned_abs}
+use Rattle.std.specs.Prelude.{◌≡◌, ℕ, ◌+◌, ◌-◌, ◌*◌, ◌%◌, ◌^◌, ◌<◌, nat_lt, nat_le, Bool, true, false, not, ◌&&◌, ◌||◌, ◌==◌, Option, None}
+use Rattle.std.specs.Prelude.{ℤ, pos, ◌+ℤ◌, ◌*ℤ◌, int_lt, unsigned_abs}
 use Rattle.words.specs.Numbers.{value, value_wide, extend, correct, neg}
 use Rattle.words.specs.Signs.{minus_zero, is_minus_wide}
 use Rattle.words.specs.Products.{dividend_is_minus, is_minus, magnitude, differ}
@@ -43,8 +44,8 @@ MultipliesByValue scenario s k a x =
     Executes scenario s Mp k → correct (accumulator_of s) ≡ a → correct (reads_at scenario s k) ≡ x → IsProduct (next scenario s).0 a x
 
 -- ## DV
--- Quotient times divisor plus remainder is the dividend, of A and L; the remainder is less than the divisor; the quotient is minus where the signs of dividend
--- and divisor differ, and the remainder where the dividend is.
+-- Quotient times divisor plus remainder is the dividend, of A and L; the remainder is less than the divisor; the quotient is minus where
+-- the signs of dividend and divisor differ, and the remainder where the dividend is.
 pub record IsQuotient (t : State) (a l x : ℕ) : Type 0 where
   pub dividend : value_wide (accumulator_of t) *ℤ value x +ℤ value_wide (lower_of t) ≡ double (value a) (value l)
   pub less : unsigned_abs (value_wide (lower_of t)) < magnitude x
@@ -60,12 +61,13 @@ DividesByValue scenario s k a l x =
 -- ## DAS
 -- A, K and K+1 together, of which A is worth 2^28, are a number; A is +1, -1 or +0, and L is +0
 pub record IsSum (t : State) (first second : ℕ) (total : ℤ) : Type 0 where
-  pub makes : value_wide (accumulator_of t) *ℤ pos (2 ^ 28) +ℤ double (value_wide (get t.cells first)) (value_wide (get t.cells second)) ≡ total
+  pub makes : value_wide (accumulator_of t) *ℤ pos (2 ^ 28) +ℤ double (value_wide (get t.cells first)) (value_wide (get t.cells second))
+      ≡ total
   pub carry : (accumulator_of t == 0 || accumulator_of t == 1 || accumulator_of t == extend (neg 1)) ≡ true
   pub lower : lower_of t ≡ 0
 
--- Where A holds a, which may overflow, L l, K x and K+1 y: the sum of both double numbers, where a wide has that of the high words; without overflow of A it has.
--- K and K+1 are plain places. Of editing places and of registers other than A and L there is no law.
+-- Where A holds a, which may overflow, L l, K x and K+1 y: the sum of both double numbers, where a wide has that of the high words; without
+-- overflow of A it has. K and K+1 are plain places. Of editing places and of registers other than A and L there is no law.
 abbrev pub AddsDoubles : Scenario → State → (k a l x y : ℕ) → Type 0
 AddsDoubles scenario s k a l x y =
     let first = erasable_in s (first_of greatest_short k) in
@@ -79,7 +81,8 @@ AddsDoubles scenario s k a l x y =
 abbrev pub DoublesByValue : Scenario → State → (a l : ℕ) → Type 0
 DoublesByValue scenario s a l =
     Executes scenario s Das 1 → accumulator_of s ≡ a → lower_of s ≡ extend l → unsigned_abs (value_wide a +ℤ value_wide a) + 1 < 2 ^ 15
-    → double (value_wide (accumulator_of (next scenario s).0)) (value_wide (lower_of (next scenario s).0)) ≡ double (value_wide a +ℤ value_wide a) (value l +ℤ value l)
+    → double (value_wide (accumulator_of (next scenario s).0)) (value_wide (lower_of (next scenario s).0))
+    ≡ double (value_wide a +ℤ value_wide a) (value l +ℤ value l)
 
 -- ## CCS
 -- A is the magnitude less one, not below 0, and so many instructions are skipped: none above +0, one at +0, two below -0, three at -0
@@ -92,16 +95,19 @@ pub record Counts (t : State) (x z : ℕ) : Type 0 where
 
 -- where K holds x and z is the address of the next instruction
 abbrev pub CountsDown : Scenario → State → (k x z : ℕ) → Type 0
-CountsDown scenario s k x z = Executes scenario s Ccs k → reads_at scenario s k ≡ x → next_address (fetched s) ≡ z → Counts (next scenario s).0 x z
+CountsDown scenario s k x z = Executes scenario s Ccs k → reads_at scenario s k ≡ x → next_address (fetched s) ≡ z
+    → Counts (next scenario s).0 x z
 
 -- ## INDEX
 -- a step executes INDEX with an operand
 abbrev pub ExecutesIndex : Scenario → State → ℕ → Type 0
 ExecutesIndex scenario s k = Executes scenario s Index k
 
--- The next instruction has the sum of the values of its word and of K's, where a word has that; extracode stays as it is, and no interrupt comes between.
+-- The next instruction has the sum of the values of its word and of K's, where a word has that; extracode stays as it is, and no interrupt
+-- comes between.
 pub record AddsToNext (scenario : Scenario) (s t : State) (x : ℕ) : Type 0 where
-  pub sum : unsigned_abs (value (word_at_z scenario.rope t) +ℤ value x) < 2 ^ 14 → value (instruction_word scenario.rope t) ≡ value (word_at_z scenario.rope t) +ℤ value x
+  pub sum : unsigned_abs (value (word_at_z scenario.rope t) +ℤ value x) < 2 ^ 14
+      → value (instruction_word scenario.rope t) ≡ value (word_at_z scenario.rope t) +ℤ value x
   pub extra : t.extra ≡ s.extra
   pub none_entered : entry t ≡ None
 
@@ -118,11 +124,13 @@ clock s = double (value_wide (get s.cells (counter_place Time2))) (value_wide (g
 
 -- one tick: the clock goes on by one, but from its greatest number, at which both counters begin again at +0
 pub record IsTick (s t : State) : Type 0 where
-  pub on : (get s.cells (counter_place Time1) == greatest_value && get s.cells (counter_place Time2) == greatest_value) ≡ false → clock t ≡ clock s +ℤ pos 1
+  pub on : (get s.cells (counter_place Time1) == greatest_value && get s.cells (counter_place Time2) == greatest_value) ≡ false
+      → clock t ≡ clock s +ℤ pos 1
   pub again : get s.cells (counter_place Time1) ≡ greatest_value → get s.cells (counter_place Time2) ≡ greatest_value → clock t ≡ pos 0
 
 -- where the counters hold words
 abbrev pub TicksAsOne : Scenario → State → (t1 t2 : ℕ) → Option ℕ → Type 0
 TicksAsOne scenario s t1 t2 series =
-    TakesInput scenario s (Count Time1 Pinc, series) → get s.cells (counter_place Time1) ≡ extend t1 → get s.cells (counter_place Time2) ≡ extend t2
+    TakesInput scenario s (Count Time1 Pinc, series) → get s.cells (counter_place Time1) ≡ extend t1
+    → get s.cells (counter_place Time2) ≡ extend t2
     → IsTick s (next scenario s).0

@@ -1,11 +1,15 @@
 -- Instructions: what there is to say of each, and which words are which.
-use Rattle.std.specs.Prelude.{ℕ, ◌%◌, ◌^◌, Bool, true, false, nat_le, ◌==◌, ◌&&◌, ◌||◌, List, [], ◌∷◌, find, filter, length, unwrap_or, codes}
+use Rattle.std.specs.Prelude.{ℕ, ◌%◌, ◌^◌, Bool, true, false, nat_le, ◌==◌, ◌&&◌, ◌||◌, List, [], ◌∷◌, find, filter, length, unwrap_or}
+use Rattle.std.specs.Prelude.{codes}
 use Rattle.cpu.specs.declared.instruction.Instruction.{Instruction}
-use Rattle.cpu.specs.declared.instruction.Instruction.TheVariants.{Relint, Inhint, Extend, Resume, Tc, Ccs, Tcf, Das, Lxch, Incr, Ads, Ca, Cs, Index, Dxch, Ts, Xch, Ad, Mask, Read, Write, Rand, Wand, Ror, Wor, Rxor, Edrupt, Dv, Bzf, Msu, Qxch, Aug, Dim, Dca, Dcs, Su, Bzmf, Mp}
+use Rattle.cpu.specs.declared.instruction.Instruction.TheVariants.{Relint, Inhint, Extend, Resume, Tc, Ccs, Tcf, Das, Lxch, Incr, Ads, Ca}
+use Rattle.cpu.specs.declared.instruction.Instruction.TheVariants.{Cs, Index, Dxch, Ts, Xch, Ad, Mask, Read, Write, Rand, Wand, Ror, Wor}
+use Rattle.cpu.specs.declared.instruction.Instruction.TheVariants.{Rxor, Edrupt, Dv, Bzf, Msu, Qxch, Aug, Dim, Dca, Dcs, Su, Bzmf, Mp}
 use Rattle.cpu.specs.declared.instruction.Operand.{Operand}
 use Rattle.cpu.specs.declared.instruction.Operand.TheVariants.{Nothing, Short, Long, ShortPair, LongPair, Channel}
 use Rattle.cpu.specs.declared.instruction.Role.{Role}
-use Rattle.cpu.specs.declared.instruction.Role.TheVariants.{Plain, JumpsAtZero, JumpsAtZeroOrMinus, PutsOut, BeginsExtracode, KeepsExtracode}
+use Rattle.cpu.specs.declared.instruction.Role.TheVariants.{Plain, JumpsAtZero, JumpsAtZeroOrMinus, PutsOut, BeginsExtracode}
+use Rattle.cpu.specs.declared.instruction.Role.TheVariants.{KeepsExtracode}
 
 -- all that there is to say of an instruction but its effect: its name, what a word's low bits hold, its cycles, and what it
 -- does besides

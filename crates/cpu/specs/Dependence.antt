@@ -46,7 +46,8 @@ pub record SameControl (one : Scenario) (s : State) (other : Scenario) (t : Stat
   pub sum : s.waiting_sum ≡ t.waiting_sum
   pub word : s.waiting_word ≡ t.waiting_word
   pub overflow : over (accumulator_of s) ≡ over (accumulator_of t)
-  pub banks : StandAlike one.rope s other.rope t (Cell program_counter ∷ Cell erasable_bank ∷ Cell fixed_bank ∷ Cell (channel_cell superbank_channel) ∷ [])
+  pub banks : StandAlike one.rope s other.rope t
+      (Cell program_counter ∷ Cell erasable_bank ∷ Cell fixed_bank ∷ Cell (channel_cell superbank_channel) ∷ [])
   pub fetched : StandAlike one.rope s other.rope t (spots (place_in s (next_address s)))
 
 -- what controls fixes the link

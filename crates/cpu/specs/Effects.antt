@@ -6,14 +6,17 @@ use Rattle.words.specs.Numbers.{extend, correct, sum, neg_wide, dabs, modular_di
 use Rattle.words.specs.Products.{product, quotient}
 use Rattle.words.specs.BitSums.{and_sum, or_sum, xor_sum}
 use Rattle.words.specs.Signs.{over, minus_zero, is_zero, is_minus_wide}
-use Rattle.space.specs.Cells.{get, put, get_channel, put_channel, at, accumulator, lower_accumulator, return_address, erasable_bank, fixed_bank, program_counter, cycle_right, edit_opcode, return_address_channel, superbank}
+use Rattle.space.specs.Cells.{get, put, get_channel, put_channel, at, accumulator, lower_accumulator, return_address, erasable_bank}
+use Rattle.space.specs.Cells.{fixed_bank, program_counter, cycle_right, edit_opcode, return_address_channel, superbank}
 use Rattle.space.specs.Places.{place}
 use Rattle.space.specs.declared.place.Linear.{Linear}
 use Rattle.space.specs.declared.place.Linear.TheVariants.{Erasable, Fixed}
 use Rattle.rope.specs.Places.{Words, word_at}
 use Rattle.cpu.specs.State.{State, interrupted_address, interrupted_word}
 use Rattle.cpu.specs.declared.instruction.Instruction.{Instruction}
-use Rattle.cpu.specs.declared.instruction.Instruction.TheVariants.{Relint, Inhint, Extend, Resume, Tc, Ccs, Tcf, Das, Lxch, Incr, Ads, Ca, Cs, Index, Dxch, Ts, Xch, Ad, Mask, Read, Write, Rand, Wand, Ror, Wor, Rxor, Edrupt, Dv, Bzf, Msu, Qxch, Aug, Dim, Dca, Dcs, Su, Bzmf, Mp}
+use Rattle.cpu.specs.declared.instruction.Instruction.TheVariants.{Relint, Inhint, Extend, Resume, Tc, Ccs, Tcf, Das, Lxch, Incr, Ads, Ca}
+use Rattle.cpu.specs.declared.instruction.Instruction.TheVariants.{Cs, Index, Dxch, Ts, Xch, Ad, Mask, Read, Write, Rand, Wand, Ror, Wor}
+use Rattle.cpu.specs.declared.instruction.Instruction.TheVariants.{Rxor, Edrupt, Dv, Bzf, Msu, Qxch, Aug, Dim, Dca, Dcs, Su, Bzmf, Mp}
 
 -- what changes: an erasable place, a channel, whether interrupts are inhibited, whether one is served, the sum or the word
 -- that waits

@@ -6,7 +6,9 @@ use Rattle.space.specs.Cells.{at, accumulator, lower_accumulator, return_address
 use Rattle.space.specs.declared.place.Linear.{Linear}
 use Rattle.space.specs.declared.place.Linear.TheVariants.{Erasable, Fixed}
 use Rattle.cpu.specs.declared.instruction.Instruction.{Instruction}
-use Rattle.cpu.specs.declared.instruction.Instruction.TheVariants.{Relint, Inhint, Extend, Resume, Tc, Ccs, Tcf, Das, Lxch, Incr, Ads, Ca, Cs, Index, Dxch, Ts, Xch, Ad, Mask, Read, Write, Rand, Wand, Ror, Wor, Rxor, Edrupt, Dv, Bzf, Msu, Qxch, Aug, Dim, Dca, Dcs, Su, Bzmf, Mp}
+use Rattle.cpu.specs.declared.instruction.Instruction.TheVariants.{Relint, Inhint, Extend, Resume, Tc, Ccs, Tcf, Das, Lxch, Incr, Ads, Ca}
+use Rattle.cpu.specs.declared.instruction.Instruction.TheVariants.{Cs, Index, Dxch, Ts, Xch, Ad, Mask, Read, Write, Rand, Wand, Ror, Wor}
+use Rattle.cpu.specs.declared.instruction.Instruction.TheVariants.{Rxor, Edrupt, Dv, Bzf, Msu, Qxch, Aug, Dim, Dca, Dcs, Su, Bzmf, Mp}
 use Rattle.feed.specs.declared.input.Input.{Input}
 use Rattle.cpu.specs.State.{State, Scenario, interrupted_address, interrupted_word}
 use Rattle.cpu.specs.Codes.{Code}
@@ -91,8 +93,9 @@ part_cells lead k OnChannel = cell_of_channel k ∷ []
 abbrev pub row_cells : State → Code → List ℕ
 row_cells s code = program_counter ∷ flat_map (part_cells (place_in s) code.operand) (changed_by code.instruction)
 
--- After an instruction each other cell holds what it held; RELINT and INHINT alone change whether interrupts are inhibited, and RESUME whether one is served; EXTEND
--- alone puts extracode in force, and only INDEX leaves it so; INDEX alone leaves a sum waiting, and RESUME alone a word; what is asked for and the inputs taken stay.
+-- After an instruction each other cell holds what it held; RELINT and INHINT alone change whether interrupts are inhibited, and RESUME
+-- whether one is served; EXTEND alone puts extracode in force, and only INDEX leaves it so; INDEX alone leaves a sum waiting, and RESUME
+-- alone a word; what is asked for and the inputs taken stay.
 pub record KeepsRest (s t : State) (code : Code) : Type 0 where
   pub cells : (c : ℕ) → is_in c (row_cells s code) ≡ false → at t.cells c ≡ at s.cells c
   pub inhibit : code.instruction ≢ Relint → code.instruction ≢ Inhint → t.inhibit ≡ s.inhibit
@@ -109,7 +112,8 @@ pub record KeepsRest (s t : State) (code : Code) : Type 0 where
 abbrev pub ChangesItsRow : Scenario → State → Type 0
 ChangesItsRow scenario s = (code : Code) → ExecutesCode scenario s code → KeepsRest s (next scenario s).0 code
 
--- An input leaves the flags, and what waits goes on waiting. (Of the cells it writes those that are told of it, and of the interrupts it withdraws none.)
+-- An input leaves the flags, and what waits goes on waiting. (Of the cells it writes those that are told of it, and of the interrupts it
+-- withdraws none.)
 pub record InputKeepsRest (s t : State) : Type 0 where
   pub extra : t.extra ≡ s.extra
   pub inhibit : t.inhibit ≡ s.inhibit

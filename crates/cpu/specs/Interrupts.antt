@@ -42,8 +42,8 @@ pub record IsSameBut (s t : State) : Type 0 where
 abbrev pub with_word_waiting : State → ℕ → State
 with_word_waiting s word = record (fetched s) { waiting_word = Some word }
 
--- Two steps and five cycles later, whatever the instruction that was put off, all is as it was but that this instruction is fetched: its word waits, ZRUPT and
--- BRUPT hold the address after it and the word, and the interrupt is asked for no more. None is entered before it.
+-- Two steps and five cycles later, whatever the instruction that was put off, all is as it was but that this instruction is fetched: its
+-- word waits, ZRUPT and BRUPT hold the address after it and the word, and the interrupt is asked for no more. None is entered before it.
 pub record LeadsBack (scenario : Scenario) (s : State) (k : ℕ) (t : State) : Type 0 where
   pub same : IsSameBut (with_word_waiting s (instruction_word scenario.rope s)) t
   pub word : instruction_word scenario.rope t ≡ instruction_word scenario.rope s
@@ -90,4 +90,5 @@ pub record IsNotFelt (scenario : Scenario) (s : State) (k : ℕ) : Type 0 where
 abbrev pub InterruptIsNotFelt : Scenario → State → ℕ → Type 0
 InterruptIsNotFelt scenario s k =
     let code = code_of s.extra (instruction_word scenario.rope s) in
-    ResumesAtOnce scenario s k → code.instruction ≢ Resume → NamesNeither s (row_of code.instruction).operand code.operand → IsNotFelt scenario s k
+    ResumesAtOnce scenario s k → code.instruction ≢ Resume → NamesNeither s (row_of code.instruction).operand code.operand
+    → IsNotFelt scenario s k

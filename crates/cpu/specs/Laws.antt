@@ -56,8 +56,8 @@ writes_channel _ = false
 abbrev pub leads_out : ℕ → Bool
 leads_out n = not (n == lower_accumulator_channel || n == return_address_channel || n == superbank_channel)
 
--- What an instruction puts out that leads to a state: the word that A then holds, which is also what the channel holds, on the channel that it names, at the
--- cycles that have passed with it.
+-- What an instruction puts out that leads to a state: the word that A then holds, which is also what the channel holds, on the channel that
+-- it names, at the cycles that have passed with it.
 pub record IsPutOut (code : Code) (t : State) (o : Output) : Type 0 where
   pub writes : writes_channel code.instruction ≡ true
   pub channel : o.channel ≡ code.operand
@@ -66,13 +66,17 @@ pub record IsPutOut (code : Code) (t : State) (o : Output) : Type 0 where
   pub word : o.word ≡ correct (accumulator_of t)
   pub held : get_channel t.cells o.channel ≡ extend o.word
 
--- A step puts out where it executes WRITE, WAND or WOR on a channel that leads out, and nowhere else: not where an input is taken or an interrupt entered.
+-- A step puts out where it executes WRITE, WAND or WOR on a channel that leads out, and nowhere else: not where an input is taken or an
+-- interrupt entered.
 pub record PutsOutByWriting (scenario : Scenario) (s : State) : Type 0 where
-  pub only : (o : Output) → (next scenario s).1 ≡ Some o → writes_channel (code_of s.extra (instruction_word scenario.rope s)).instruction ≡ true
+  pub only : (o : Output) → (next scenario s).1 ≡ Some o
+      → writes_channel (code_of s.extra (instruction_word scenario.rope s)).instruction ≡ true
   pub by_input : (given : Input × Option ℕ) → TakesInput scenario s given → (next scenario s).1 ≡ None
   pub by_entry : (k : ℕ) → EntersInterrupt scenario s k → (next scenario s).1 ≡ None
-  pub by_code : (code : Code) → ExecutesCode scenario s code → (o : Output) → (next scenario s).1 ≡ Some o → IsPutOut code (next scenario s).0 o
-  pub each : (code : Code) → ExecutesCode scenario s code → writes_channel code.instruction ≡ true → leads_out code.operand ≡ true → is_some (next scenario s).1 ≡ true
+  pub by_code : (code : Code) → ExecutesCode scenario s code → (o : Output) → (next scenario s).1 ≡ Some o
+      → IsPutOut code (next scenario s).0 o
+  pub each : (code : Code) → ExecutesCode scenario s code → writes_channel code.instruction ≡ true → leads_out code.operand ≡ true
+      → is_some (next scenario s).1 ≡ true
 
 -- a step that takes no input asks for no interrupt
 abbrev pub AsksNothing : Scenario → State → Type 0

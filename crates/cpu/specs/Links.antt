@@ -1,10 +1,13 @@
 -- What a step is, which cells it writes, and from what comes what it writes there.
-use Rattle.std.specs.Prelude.{ℕ, Bool, true, false, Option, Some, None, List, [], ◌∷◌, ◌++◌, map, if◌then◌else◌, ◌==◌, nat_le, ◌&&◌, ◌||◌, not, is_some}
+use Rattle.std.specs.Prelude.{ℕ, Bool, true, false, Option, Some, None, List, [], ◌∷◌, ◌++◌, map, if◌then◌else◌, ◌==◌, nat_le, ◌&&◌, ◌||◌}
+use Rattle.std.specs.Prelude.{not, is_some}
 use Rattle.std.specs.List.{flat_map}
 use Rattle.words.specs.declared.wide.Overflow.{Overflow}
 use Rattle.words.specs.declared.wide.Overflow.TheVariants.{No}
 use Rattle.words.specs.Signs.{over}
-use Rattle.space.specs.Cells.{at, superbank, channel_cell, accumulator, lower_accumulator, return_address, erasable_bank, fixed_bank, program_counter, both_banks, always_zero, cycle_right, edit_opcode, lower_accumulator_channel, return_address_channel}
+use Rattle.space.specs.Cells.{at, superbank, channel_cell, accumulator, lower_accumulator, return_address, erasable_bank, fixed_bank}
+use Rattle.space.specs.Cells.{program_counter, both_banks, always_zero, cycle_right, edit_opcode, lower_accumulator_channel}
+use Rattle.space.specs.Cells.{return_address_channel}
 use Rattle.space.specs.Places.{place}
 use Rattle.space.specs.declared.place.Linear.{Linear}
 use Rattle.space.specs.declared.place.Linear.TheVariants.{Erasable, Fixed}
@@ -16,13 +19,16 @@ use Rattle.feed.specs.Merged.{due}
 use Rattle.feed.specs.Counters.{counter_place}
 use Rattle.cpu.specs.State.{State, Scenario, interrupted_address, interrupted_word}
 use Rattle.cpu.specs.Codes.{Code, code_of}
-use Rattle.cpu.specs.Effects.{place_in, erasable_number, next_address, accumulator_of, has_overflow, first_of, greatest_short, greatest_address}
+use Rattle.cpu.specs.Effects.{place_in, erasable_number, next_address, accumulator_of, has_overflow, first_of, greatest_short}
+use Rattle.cpu.specs.Effects.{greatest_address}
 use Rattle.cpu.specs.Next.{instruction_word, entry}
 use Rattle.cpu.specs.Inputs.{carries_into, is_overflow, step_of, count_of}
 use Rattle.cpu.specs.declared.spot.Spot.{Spot}
 use Rattle.cpu.specs.declared.spot.Spot.TheVariants.{Cell, InRope}
 use Rattle.cpu.specs.declared.instruction.Instruction.{Instruction}
-use Rattle.cpu.specs.declared.instruction.Instruction.TheVariants.{Relint, Inhint, Extend, Resume, Tc, Ccs, Tcf, Das, Lxch, Incr, Ads, Ca, Cs, Index, Dxch, Ts, Xch, Ad, Mask, Read, Write, Rand, Wand, Ror, Wor, Rxor, Edrupt, Dv, Bzf, Msu, Qxch, Aug, Dim, Dca, Dcs, Su, Bzmf, Mp}
+use Rattle.cpu.specs.declared.instruction.Instruction.TheVariants.{Relint, Inhint, Extend, Resume, Tc, Ccs, Tcf, Das, Lxch, Incr, Ads, Ca}
+use Rattle.cpu.specs.declared.instruction.Instruction.TheVariants.{Cs, Index, Dxch, Ts, Xch, Ad, Mask, Read, Write, Rand, Wand, Ror, Wor}
+use Rattle.cpu.specs.declared.instruction.Instruction.TheVariants.{Rxor, Edrupt, Dv, Bzf, Msu, Qxch, Aug, Dim, Dca, Dcs, Su, Bzmf, Mp}
 
 -- the number that stands at a spot
 abbrev pub spot_word : Words → State → Spot → ℕ
@@ -146,7 +152,8 @@ flows_of lead overflow Tcf k = to_place program_counter [] ∷ []
 flows_of lead overflow Das k = das_flows (erasable_number (lead (first_of greatest_short k))) (erasable_number (lead k))
 flows_of lead overflow Lxch k = exchange_flows lower_accumulator (erasable_number (lead k))
 flows_of lead overflow Incr k = let p = erasable_number (lead k) in to_place p (place_spots p) ∷ []
-flows_of lead overflow Ads k = let p = erasable_number (lead k) in to_place p (a ∷ place_spots p) ∷ to_place accumulator (a ∷ place_spots p) ∷ []
+flows_of lead overflow Ads k = let p = erasable_number (lead k) in to_place p (a ∷ place_spots p) ∷ to_place accumulator (a ∷ place_spots p)
+    ∷ []
 flows_of lead overflow Ca k = to_place accumulator (spots (lead k)) ∷ edit_flows (lead k)
 flows_of lead overflow Cs k = to_place accumulator (spots (lead k)) ∷ edit_flows (lead k)
 flows_of lead overflow Index k = edit_flows (lead k)
@@ -163,7 +170,8 @@ flows_of lead overflow Ror n = to_place accumulator (a ∷ channel_spots n) ∷ 
 flows_of lead overflow Wor n = to_place accumulator (a ∷ channel_spots n) ∷ to_channel n (a ∷ channel_spots n) ∷ []
 flows_of lead overflow Rxor n = to_place accumulator (a ∷ channel_spots n) ∷ []
 flows_of lead overflow Edrupt k = []
-flows_of lead overflow Dv k = to_place accumulator (a ∷ l ∷ spots (lead k)) ∷ to_place lower_accumulator (a ∷ l ∷ spots (lead k)) ∷ edit_flows (lead k)
+flows_of lead overflow Dv k = to_place accumulator (a ∷ l ∷ spots (lead k)) ∷ to_place lower_accumulator (a ∷ l ∷ spots (lead k))
+    ∷ edit_flows (lead k)
 flows_of lead overflow Bzf k = to_place program_counter (a ∷ []) ∷ []
 flows_of lead overflow Msu k = to_place accumulator (a ∷ spots (lead k)) ∷ edit_flows (lead k)
 flows_of lead overflow Qxch k = exchange_flows return_address (erasable_number (lead k))
@@ -177,7 +185,8 @@ flows_of lead overflow Dcs k =
     to_place accumulator (spots first) ∷ to_place lower_accumulator (spots (lead k)) ∷ edit_flows first ++ edit_flows (lead k)
 flows_of lead overflow Su k = to_place accumulator (a ∷ spots (lead k)) ∷ edit_flows (lead k)
 flows_of lead overflow Bzmf k = to_place program_counter (a ∷ []) ∷ []
-flows_of lead overflow Mp k = to_place accumulator (a ∷ spots (lead k)) ∷ to_place lower_accumulator (a ∷ spots (lead k)) ∷ edit_flows (lead k)
+flows_of lead overflow Mp k = to_place accumulator (a ∷ spots (lead k)) ∷ to_place lower_accumulator (a ∷ spots (lead k))
+    ∷ edit_flows (lead k)
 
 -- how A overflows, where TS is executed
 abbrev pub overflow_of : Instruction → ℕ → Overflow

@@ -1,11 +1,13 @@
 -- One step of the computer.
-use Rattle.std.specs.Prelude.{ℕ, ◌+◌, ◌*◌, ◌%◌, ◌^◌, Bool, true, false, Option, Some, None, if◌then◌else◌, ◌==◌, ◌||◌, unwrap_or, find, is_some}
+use Rattle.std.specs.Prelude.{ℕ, ◌+◌, ◌*◌, ◌%◌, ◌^◌, Bool, true, false, Option, Some, None, if◌then◌else◌, ◌==◌, ◌||◌, unwrap_or, find}
+use Rattle.std.specs.Prelude.{is_some}
 use Rattle.std.specs.List.{range_with_len}
 use Rattle.std.specs.Ordering.{nat_cmp}
 use Rattle.std.specs.FinSet as set
 use Rattle.words.specs.Numbers.{extend, correct, sum}
 use Rattle.words.specs.Signs.{over}
-use Rattle.space.specs.Cells.{Cells, put, get_channel, program_counter, lower_accumulator_channel, return_address_channel, superbank_channel}
+use Rattle.space.specs.Cells.{Cells, put, get_channel, program_counter, lower_accumulator_channel, return_address_channel}
+use Rattle.space.specs.Cells.{superbank_channel}
 use Rattle.cpu.specs.declared.instruction.Instruction.{Instruction}
 use Rattle.cpu.specs.declared.instruction.Role.{Role}
 use Rattle.cpu.specs.declared.instruction.Role.TheVariants.{JumpsAtZero, JumpsAtZeroOrMinus, PutsOut, BeginsExtracode, KeepsExtracode}

@@ -63,4 +63,5 @@ pub record AddsUp (scenario : Scenario) (n : ℕ) (accounts : List Account) : Ty
   pub steps : sum_over (λ a. count_at scenario a n) accounts ≡ n
 
 abbrev pub ProfileAddsUp : Scenario → ℕ → List Account → Type 0
-ProfileAddsUp scenario n accounts = ((t : ℕ) → t < n → times_in (account_of scenario (run scenario t)) accounts ≡ 1) → AddsUp scenario n accounts
+ProfileAddsUp scenario n accounts = ((t : ℕ) → t < n → times_in (account_of scenario (run scenario t)) accounts ≡ 1)
+    → AddsUp scenario n accounts

@@ -17,7 +17,9 @@ use Rattle.cpu.specs.Links.Link.{Takes, Enters, Executes}
 use Rattle.cpu.specs.declared.spot.Spot.{Spot}
 use Rattle.cpu.specs.declared.spot.Spot.TheVariants.{Cell}
 use Rattle.cpu.specs.declared.instruction.Instruction.{Instruction}
-use Rattle.cpu.specs.declared.instruction.Instruction.TheVariants.{Relint, Inhint, Extend, Resume, Tc, Ccs, Tcf, Das, Lxch, Incr, Ads, Ca, Cs, Index, Dxch, Ts, Xch, Ad, Mask, Read, Write, Rand, Wand, Ror, Wor, Rxor, Edrupt, Dv, Bzf, Msu, Qxch, Aug, Dim, Dca, Dcs, Su, Bzmf, Mp}
+use Rattle.cpu.specs.declared.instruction.Instruction.TheVariants.{Relint, Inhint, Extend, Resume, Tc, Ccs, Tcf, Das, Lxch, Incr, Ads, Ca}
+use Rattle.cpu.specs.declared.instruction.Instruction.TheVariants.{Cs, Index, Dxch, Ts, Xch, Ad, Mask, Read, Write, Rand, Wand, Ror, Wor}
+use Rattle.cpu.specs.declared.instruction.Instruction.TheVariants.{Rxor, Edrupt, Dv, Bzf, Msu, Qxch, Aug, Dim, Dca, Dcs, Su, Bzmf, Mp}
 
 -- A and L, and a pair of erasable places: the first, and the second
 abbrev pub pair_reads : Linear → Linear → List Spot
@@ -80,7 +82,8 @@ carry_reads None = []
 carry_reads (Some other) = place_spots (counter_place other)
 
 abbrev pub input_reads : Input → Bool → List Spot
-input_reads (Count counter sequence) carries = place_spots (counter_place counter) ++ (if carries then carry_reads (carries_into counter) else [])
+input_reads (Count counter sequence) carries = place_spots (counter_place counter)
+    ++ (if carries then carry_reads (carries_into counter) else [])
 input_reads (Word n w) carries = []
 input_reads (Interrupt k) carries = []
 

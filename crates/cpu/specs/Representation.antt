@@ -15,9 +15,24 @@ use Rattle.cpu.specs.State.{State, Processing}
 abbrev pub state_code : Coded State
 state_code =
     code_by (Cells × (Bool × (Bool × (Bool × (Option ℕ × (Option ℕ × (set.FinSet nat_cmp × (ℕ × (List ℕ × ℕ)))))))))
-    (coded× (map.code coded_ℕ coded_ℕ) (coded× coded_bool (coded× coded_bool (coded× coded_bool (coded× (coded_option coded_ℕ) (coded× (coded_option coded_ℕ) (coded× (set.code coded_ℕ) (coded× coded_ℕ (coded× (coded_list coded_ℕ) coded_ℕ)))))))))
+    (coded× (map.code coded_ℕ coded_ℕ) (coded× coded_bool
+    (coded× coded_bool (coded× coded_bool (coded× (coded_option coded_ℕ)
+    (coded× (coded_option coded_ℕ) (coded× (set.code coded_ℕ) (coded× coded_ℕ (coded× (coded_list coded_ℕ) coded_ℕ)))))))))
     (λ s. (s.cells, (s.extra, (s.inhibit, (s.inside, (s.waiting_sum, (s.waiting_word, (s.requests, (s.taken, (s.counts, s.cycles))))))))))
-    (λ p. record { cells = p.0; extra = p.1.0; inhibit = p.1.1.0; inside = p.1.1.1.0; waiting_sum = p.1.1.1.1.0; waiting_word = p.1.1.1.1.1.0; requests = p.1.1.1.1.1.1.0; taken = p.1.1.1.1.1.1.1.0; counts = p.1.1.1.1.1.1.1.1.0; cycles = p.1.1.1.1.1.1.1.1.1 })
+    (λ p. record {
+      cells = p.0;
+      extra = p.1.0;
+      inhibit = p.1.1.0;
+      inside = p.1.1.1.0;
+      waiting_sum = p.1.1.1.1.0;
+      waiting_word
+          = p.1.1.1.1.1.0;
+      requests = p.1.1.1.1.1.1.0;
+      taken = p.1.1.1.1.1.1.1.0;
+      counts = p.1.1.1.1.1.1.1.1.0;
+      cycles
+          = p.1.1.1.1.1.1.1.1.1;
+    })
     (λ _. refl)
 
 -- the code by which processors are told apart

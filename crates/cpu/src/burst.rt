@@ -20,8 +20,8 @@ impl Machine {
         !self.asks() && !self.waits()
     }
 
-    /// Executes the instruction at Z where that is plain, and answers whether extracode is in force then. Each stands here by code of
-    /// its own, in which what its row says is known.
+    /// Executes the instruction at Z where that is plain, and answers whether extracode is in force then. Each stands
+    /// here by code of its own, in which what its row says is known.
     #[inline(always)]
     pub(crate) fn execute_basic(&mut self, rope: &Rope) -> Option<bool>
         requires still { IsStill self.old }

@@ -65,8 +65,8 @@ impl Machine {
         self.set_channel(channel, both);
     }
 
-    /// WOR: A takes the bits that stand in it or on the channel, and the channel takes the same. The superbank's channel keeps three
-    /// of them, and A all.
+    /// WOR: A takes the bits that stand in it or on the channel, and the channel takes the same. The superbank's
+    /// channel keeps three of them, and A all.
     #[tactic(auto, unfolding(crate::specs::Effects::wor))]
     pub(crate) fn write_or(&mut self, channel: Chan)
         ensures { self.new ≡ changes self.old (wor self.old channel) }

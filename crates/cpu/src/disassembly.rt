@@ -16,8 +16,8 @@ use words::{Word, push_all, push_octal};
 /// The most bytes of an instruction's text.
 const MOST_TEXT: usize = 10;
 
-/// The instruction that a word is, under extracode or not, as text: its name, and after a blank its address in four octal
-/// digits or its channel in three.
+/// The instruction that a word is, under extracode or not, as text: its name, and after a blank its address in four
+/// octal digits or its channel in three.
 #[tactic(auto, unfolding(crate::specs::Texts::instruction_text))]
 pub fn disassemble(word: Word, extra: bool) -> ArrayVec<u8, 10>
     ensures { result.items ≡ disassembly extra word }

@@ -42,8 +42,8 @@ pub(crate) fn decode(word: u16, extra: bool) -> Instruction
     if extra { extracode(word) } else { basic(word) }
 }
 
-/// The instruction that a word is where extracode is not in force. Among words of TC and of INDEX stand the four that are
-/// set apart.
+/// The instruction that a word is where extracode is not in force. Among words of TC and of INDEX stand the four that
+/// are set apart.
 #[inline(always)]
 #[tactic(auto, unfolding(crate::specs::Codes::code_of, crate::specs::Codes::basic_rows))]
 fn basic(word: u16) -> Instruction

@@ -3,7 +3,8 @@
 ghost use Rattle.std.specs.Prelude.{◌≡◌, ◌+◌, ◌*◌, ◌%◌, ◌^◌, ◌≤◌, Some, None, true, false, if◌then◌else◌};
 ghost use Rattle.cpu.specs.Codes.{operand_of};
 ghost use Rattle.cpu.specs.Effects.{after};
-ghost use Rattle.cpu.specs.Next.{following_address, word_at_z, instruction_word, fetched, extra_by, written_by, output_on, jumps_by, jump_cycles, entry, entered, execute, most_cycles};
+ghost use Rattle.cpu.specs.Next.{following_address, word_at_z, instruction_word, fetched, extra_by, written_by};
+ghost use Rattle.cpu.specs.Next.{output_on, jumps_by, jump_cycles, entry, entered, execute, most_cycles};
 
 use crate::address::{Addr10, address_of_word, channel_of_word};
 use crate::dispatch::decode;

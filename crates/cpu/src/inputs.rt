@@ -1,7 +1,8 @@
 //! Taking an input.
 
 ghost use Rattle.std.specs.Prelude.{◌≡◌, ◌≤◌, Some, None, if◌then◌else◌};
-ghost use Rattle.cpu.specs.Inputs.{step_of, is_overflow, asked_by, carried_by, stepped, carried, asked, counted, asked_on, received, take};
+ghost use Rattle.cpu.specs.Inputs.{step_of, is_overflow, asked_by, carried_by, stepped, carried, asked, counted};
+ghost use Rattle.cpu.specs.Inputs.{asked_on, received, take};
 ghost use Rattle.cpu.specs.Asking.{interrupt_asked};
 ghost use Rattle.cpu.specs.Representation.{HasRoom};
 ghost use Rattle.cpu.specs.Next.{most_cycles};

@@ -2,7 +2,9 @@
 
 ghost use Rattle.std.specs.Prelude.{◌≡◌, ◌+◌, ◌≤◌, true, false, if◌then◌else◌};
 ghost use Rattle.words.specs.Numbers.{neg_wide};
-ghost use Rattle.cpu.specs.Effects.{changes, carry, ccs_skip, exchange, is_at_zero, is_at_zero_or_minus, tc, ccs, tcf, ca, cs, ad, su, mask, ts, xch, lxch, qxch, dxch, ads, incr, aug, dim, das, dca, dcs, index, mp, dv, msu, bzf, bzmf, relint, inhint, resume};
+ghost use Rattle.cpu.specs.Effects.{changes, carry, ccs_skip, exchange, is_at_zero, is_at_zero_or_minus, tc, ccs, tcf};
+ghost use Rattle.cpu.specs.Effects.{ca, cs, ad, su, mask, ts, xch, lxch, qxch, dxch, ads, incr, aug, dim, das, dca};
+ghost use Rattle.cpu.specs.Effects.{dcs, index, mp, dv, msu, bzf, bzmf, relint, inhint, resume};
 
 use crate::address::{Addr10, before};
 use crate::bits::{and, is_whole};
@@ -32,8 +34,8 @@ macro_rules! reading_two {
 }
 
 impl Machine {
-    /// TC: Q takes the address after this instruction, and the next one is at the address. The address 2, which is Q's own, leaves Q
-    /// as it is: so a program returns.
+    /// TC: Q takes the address after this instruction, and the next one is at the address. The address 2, which is Q's
+    /// own, leaves Q as it is: so a program returns.
     #[inline(always)]
     #[tactic(auto, unfolding(crate::specs::Effects::tc, crate::specs::Effects::tcf))]
     pub(crate) fn transfer_control(&mut self, address: Addr12)
@@ -46,8 +48,8 @@ impl Machine {
         self.jump(address);
     }
 
-    /// CCS: A takes the magnitude less one of what is read, not below +0. Above +0 nothing is skipped, at +0 one instruction, below -0
-    /// two, at -0 three.
+    /// CCS: A takes the magnitude less one of what is read, not below +0. Above +0 nothing is skipped, at +0 one
+    /// instruction, below -0 two, at -0 three.
     #[inline(always)]
     #[tactic(auto, unfolding(crate::specs::Effects::ccs))]
     pub(crate) fn count_compare_and_skip(&mut self, rope: &Rope, address: Addr10)
@@ -114,8 +116,8 @@ impl Machine {
         });
     }
 
-    /// MASK: A keeps the bits that stand in it and in what is read too: all 16 of A and Q, of other places those of the two words,
-    /// extended.
+    /// MASK: A keeps the bits that stand in it and in what is read too: all 16 of A and Q, of other places those of the
+    /// two words, extended.
     #[inline(always)]
     #[tactic(auto, unfolding(crate::specs::Effects::mask))]
     pub(crate) fn mask(&mut self, rope: &Rope, address: Addr12)
@@ -127,8 +129,9 @@ impl Machine {
         });
     }
 
-    /// TS: the place takes A. Where A overflows it takes the corrected word, A takes +1 or -1 by the overflow's direction, and the
-    /// next instruction is skipped. TS A then skips alone, and A keeps its 16 bits; TS Z stores and sets A, and does not skip.
+    /// TS: the place takes A. Where A overflows it takes the corrected word, A takes +1 or -1 by the overflow's
+    /// direction, and the next instruction is skipped. TS A then skips alone, and A keeps its 16 bits; TS Z stores and
+    /// sets A, and does not skip.
     #[inline(always)]
     #[tactic(auto, unfolding(crate::specs::Effects::ts))]
     pub(crate) fn transfer_to_storage(&mut self, address: Addr10)
@@ -247,8 +250,8 @@ impl Machine {
         }
     }
 
-    /// DAS: A and L are added to two places, and the carry of the lower sum to the higher. The places take the corrected sums, L +0,
-    /// and A the higher sum's carry. DAS A leaves both sums in A and L.
+    /// DAS: A and L are added to two places, and the carry of the lower sum to the higher. The places take the
+    /// corrected sums, L +0, and A the higher sum's carry. DAS A leaves both sums in A and L.
     #[tactic(auto, unfolding(crate::specs::Effects::das))]
     pub(crate) fn double_add_to_storage(&mut self, address: Addr10)
         ensures { self.new ≡ changes self.old (das self.old address) }
@@ -269,7 +272,8 @@ impl Machine {
         }
     }
 
-    /// DCA: A takes what is read at the first of two addresses, and then L what was read at the second. Both reads come before.
+    /// DCA: A takes what is read at the first of two addresses, and then L what was read at the second. Both reads come
+    /// before.
     #[tactic(auto, using(crate::proofs::ChangeLaws::changes_append), unfolding(crate::specs::Effects::dca))]
     pub(crate) fn double_clear_and_add(&mut self, rope: &Rope, address: Addr12)
         ensures { self.new ≡ changes self.old (dca rope.now self.old address) }
@@ -291,7 +295,8 @@ impl Machine {
         });
     }
 
-    /// INDEX: what is read is added to the next word before that is executed. Extracode that is in force stays in force.
+    /// INDEX: what is read is added to the next word before that is executed. Extracode that is in force stays in
+    /// force.
     #[inline(always)]
     #[tactic(auto, unfolding(crate::specs::Effects::index))]
     pub(crate) fn index(&mut self, rope: &Rope, address: Addr12)
@@ -314,8 +319,8 @@ impl Machine {
         });
     }
 
-    /// DV: A takes the quotient of A's and L's words by what is read, and L the remainder. A quotient that does not fit is told as the
-    /// greatest magnitude, and L stays.
+    /// DV: A takes the quotient of A's and L's words by what is read, and L the remainder. A quotient that does not fit
+    /// is told as the greatest magnitude, and L stays.
     #[tactic(auto, unfolding(crate::specs::Effects::dv))]
     pub(crate) fn divide(&mut self, rope: &Rope, address: Addr10)
         ensures { self.new ≡ changes self.old (dv rope.now self.old address) }
@@ -331,7 +336,8 @@ impl Machine {
         });
     }
 
-    /// MSU: A takes the difference of A's word and what is read as angles, unsigned modulo 2^15, as a word in ones' complement.
+    /// MSU: A takes the difference of A's word and what is read as angles, unsigned modulo 2^15, as a word in ones'
+    /// complement.
     #[tactic(auto, unfolding(crate::specs::Effects::msu))]
     pub(crate) fn modular_subtract(&mut self, rope: &Rope, address: Addr10)
         ensures { self.new ≡ changes self.old (msu rope.now self.old address) }
@@ -392,8 +398,8 @@ impl Machine {
         self.set_inhibit(true);
     }
 
-    /// RESUME: ends an interrupt. Z takes what ZRUPT holds, and the word that BRUPT holds is executed next, in place of one that is
-    /// fetched.
+    /// RESUME: ends an interrupt. Z takes what ZRUPT holds, and the word that BRUPT holds is executed next, in place of
+    /// one that is fetched.
     #[tactic(auto, unfolding(crate::specs::Effects::resume))]
     pub(crate) fn resume(&mut self)
         ensures { self.new ≡ changes self.old (resume self.old) }

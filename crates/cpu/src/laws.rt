@@ -4,7 +4,8 @@ ghost use Rattle.std.specs.Prelude.{◌≡◌, ℕ, Option};
 ghost use Rattle.cpu.specs.Codes.{rows_serving};
 ghost use Rattle.cpu.specs.Laws.{AddsFewCycles, TakesInTurn, PutsOutByWriting, AsksNothing};
 ghost use Rattle.cpu.specs.Frames.{ChangesItsRow, EntriesKeepRest, InputsKeepRest};
-ghost use Rattle.cpu.specs.ByValue.{AddsDoubles, DoublesByValue, TicksAsOne, MultipliesByValue, DividesByValue, CountsDown, IndexesByValue};
+ghost use Rattle.cpu.specs.ByValue.{AddsDoubles, DoublesByValue, TicksAsOne, MultipliesByValue, DividesByValue};
+ghost use Rattle.cpu.specs.ByValue.{CountsDown, IndexesByValue};
 ghost use Rattle.cpu.specs.Interrupts.{InterruptLeadsBack, InterruptIsNotFelt};
 
 use crate::machine::Machine;
@@ -40,7 +41,8 @@ pub fn step_takes_in_turn(processor: &Processor, machine: &Machine)
     let _machine = machine;
 }
 
-/// WRITE, WAND and WOR put out, where the channel leads out, and nothing else does: the word that A then holds, at the cycles that have passed.
+/// WRITE, WAND and WOR put out, where the channel leads out, and nothing else does: the word that A then holds, at the
+/// cycles that have passed.
 #[tactic(auto, using(crate::proofs::StepLaws::puts_out_by_writing))]
 pub fn step_puts_out_by_writing(processor: &Processor, machine: &Machine)
     ensures { PutsOutByWriting processor.now.scenario machine.now }
@@ -58,8 +60,8 @@ pub fn step_asks_nothing(processor: &Processor, machine: &Machine)
     let _machine = machine;
 }
 
-/// An instruction changes Z and the cells of its row, and leaves all else: each other cell, and, but for the few that change these, whether interrupts are inhibited
-/// and whether one is served, what is asked for and the inputs taken.
+/// An instruction changes Z and the cells of its row, and leaves all else: each other cell, and, but for the few that
+/// change these, whether interrupts are inhibited and whether one is served, what is asked for and the inputs taken.
 pub fn instruction_changes_its_row(processor: &Processor, machine: &Machine)
     ensures { ChangesItsRow processor.now.scenario machine.now }
 {
@@ -67,8 +69,8 @@ pub fn instruction_changes_its_row(processor: &Processor, machine: &Machine)
     let _machine = machine;
 }
 
-/// An input leaves the flags, what waits, and what is asked for; an entry changes Z, ZRUPT and BRUPT, that an interrupt is served, and that this one is asked for, and
-/// leaves all else.
+/// An input leaves the flags, what waits, and what is asked for; an entry changes Z, ZRUPT and BRUPT, that an interrupt
+/// is served, and that this one is asked for, and leaves all else.
 pub fn input_and_entry_keep_rest(processor: &Processor, machine: &Machine)
     ensures input { InputsKeepRest processor.now.scenario machine.now }
     ensures entry { EntriesKeepRest processor.now.scenario machine.now }
@@ -77,8 +79,8 @@ pub fn input_and_entry_keep_rest(processor: &Processor, machine: &Machine)
     let _machine = machine;
 }
 
-/// An interrupt whose routine is RESUME alone leads back: two steps and five cycles later the instruction that was put off is the next, and all else is as it
-/// was, but that ZRUPT and BRUPT hold the address after it and its word.
+/// An interrupt whose routine is RESUME alone leads back: two steps and five cycles later the instruction that was put
+/// off is the next, and all else is as it was, but that ZRUPT and BRUPT hold the address after it and its word.
 pub fn interrupt_leads_back(processor: &Processor, machine: &Machine, request: Interrupt)
     ensures { InterruptLeadsBack processor.now.scenario machine.now request }
 {
@@ -87,8 +89,9 @@ pub fn interrupt_leads_back(processor: &Processor, machine: &Machine, request: I
     let _request = request;
 }
 
-/// It is not felt: the third step leads where one step of the same machine leads of which no interrupt is asked, but for ZRUPT, BRUPT, the interrupts asked for
-/// and the five cycles, and puts out the same. So for every instruction that is not RESUME and names neither ZRUPT nor BRUPT.
+/// It is not felt: the third step leads where one step of the same machine leads of which no interrupt is asked, but
+/// for ZRUPT, BRUPT, the interrupts asked for and the five cycles, and puts out the same. So for every instruction that
+/// is not RESUME and names neither ZRUPT nor BRUPT.
 pub fn interrupt_is_not_felt(processor: &Processor, machine: &Machine, request: Interrupt)
     ensures { InterruptIsNotFelt processor.now.scenario machine.now request }
 {
@@ -115,7 +118,8 @@ pub fn dv_divides(processor: &Processor, machine: &Machine, a: Word, l: Word, x:
     let _words = (a, l, x);
 }
 
-/// CCS by the value: A is the magnitude less one, and the sign and the zero of what was read say how many instructions are skipped.
+/// CCS by the value: A is the magnitude less one, and the sign and the zero of what was read say how many instructions
+/// are skipped.
 pub fn ccs_counts_down(processor: &Processor, machine: &Machine, x: Wide, z: Addr12)
     ensures { (k : ℕ) → CountsDown processor.now.scenario machine.now k x z }
 {
@@ -124,7 +128,8 @@ pub fn ccs_counts_down(processor: &Processor, machine: &Machine, x: Wide, z: Add
     let _read = (x, z);
 }
 
-/// INDEX by the value: the next instruction's word is the sum of its own and of K's, under the same extracode, and no interrupt comes between.
+/// INDEX by the value: the next instruction's word is the sum of its own and of K's, under the same extracode, and no
+/// interrupt comes between.
 pub fn index_adds_to_next(processor: &Processor, machine: &Machine, x: Word)
     ensures { (k : ℕ) → IndexesByValue processor.now.scenario machine.now k x }
 {

@@ -4,7 +4,8 @@ ghost use Rattle.std.specs.Prelude.{ℕ, List};
 ghost use Rattle.cpu.specs.declared.spot.Spot.{Spot};
 ghost use Rattle.cpu.specs.Links.{Link};
 ghost use Rattle.cpu.specs.Dependence.{DependsOnSources, LeavesRest, ControlFixesLink, DependsOnOrigins};
-ghost use Rattle.cpu.specs.Beside.{SumDependsOnSources, WordDependsOnSources, OutputDependsOnSources, FlagsDependOnLink, ControlFixesFlags, RequestsDependOnSources, ControlFixesRequests};
+ghost use Rattle.cpu.specs.Beside.{SumDependsOnSources, WordDependsOnSources, OutputDependsOnSources};
+ghost use Rattle.cpu.specs.Beside.{FlagsDependOnLink, ControlFixesFlags, RequestsDependOnSources, ControlFixesRequests};
 ghost use Rattle.cpu.specs.Chains.{ChainExplains, ChainFixes, WritesAmong};
 ghost use Rattle.cpu.specs.declared.account.Account.{Account};
 ghost use Rattle.cpu.specs.Profiles.{ProfileAddsUp};
@@ -20,7 +21,8 @@ pub fn step_depends_on_sources(
     other_processor: &Processor,
     other: &Machine,
 )
-    ensures { (x : Spot) → DependsOnSources processor.now.scenario machine.now other_processor.now.scenario other.now x }
+    ensures { (x : Spot) → DependsOnSources processor.now.scenario machine.now other_processor.now.scenario other.now
+        x }
 {
     let _processor = processor;
     let _machine = machine;
@@ -28,7 +30,8 @@ pub fn step_depends_on_sources(
     let _other = other;
 }
 
-/// The sum that waits after an instruction depends on the link and on its sources, and on nothing else; so an index has a source.
+/// The sum that waits after an instruction depends on the link and on its sources, and on nothing else; so an index has
+/// a source.
 #[tactic(auto, using(crate::proofs::LeavingBeside::sum_depends_on_sources))]
 pub fn sum_depends_on_sources(
     processor: &Processor,
@@ -93,8 +96,8 @@ pub fn flags_depend_on_link(
     let _other = other;
 }
 
-/// The interrupts asked for after a step depend on the link, on its sources and on those asked for before, and on nothing else; so what controls fixes them,
-/// with the word of a counter that asks by it.
+/// The interrupts asked for after a step depend on the link, on its sources and on those asked for before, and on
+/// nothing else; so what controls fixes them, with the word of a counter that asks by it.
 #[tactic(auto, using(crate::proofs::LeavingFlags::requests_depend_on_sources, crate::proofs::LeavingFlags::control_fixes_requests))]
 pub fn requests_depend_on_sources(
     processor: &Processor,
@@ -102,8 +105,10 @@ pub fn requests_depend_on_sources(
     other_processor: &Processor,
     other: &Machine,
 )
-    ensures by_link { RequestsDependOnSources processor.now.scenario machine.now other_processor.now.scenario other.now }
-    ensures by_control { ControlFixesRequests processor.now.scenario machine.now other_processor.now.scenario other.now }
+    ensures by_link { RequestsDependOnSources processor.now.scenario machine.now other_processor.now.scenario
+        other.now }
+    ensures by_control { ControlFixesRequests processor.now.scenario machine.now other_processor.now.scenario
+        other.now }
 {
     let _processor = processor;
     let _machine = machine;
@@ -145,22 +150,26 @@ pub fn run_depends_on_origins(processor: &Processor, other: &Processor)
     let _other = other;
 }
 
-/// What stands at spots after steps depends on the links since the end of a chain and on its origins, and on nothing else.
+/// What stands at spots after steps depends on the links since the end of a chain and on its origins, and on nothing
+/// else.
 pub fn run_chain_explains(processor: &Processor)
     ensures { (p : ℕ) (xs : List Spot) (ts : List ℕ) → ChainExplains processor.now.scenario p xs ts }
 {
     let _processor = processor;
 }
 
-/// What stands at spots depends on the links of a chain and on its origins, and on nothing else, whatever goes on between.
+/// What stands at spots depends on the links of a chain and on its origins, and on nothing else, whatever goes on
+/// between.
 pub fn chain_fixes(processor: &Processor, other: &Processor)
-    ensures { (p n : ℕ) (ts us : List ℕ) (xs : List Spot) → ChainFixes processor.now.scenario p ts other.now.scenario n us xs }
+    ensures { (p n : ℕ) (ts us : List ℕ) (xs : List Spot)
+        → ChainFixes processor.now.scenario p ts other.now.scenario n us xs }
 {
     let _processor = processor;
     let _other = other;
 }
 
-/// A step writes at one of some spots where it writes one of the cells among them: a set of cells does for a list of spots.
+/// A step writes at one of some spots where it writes one of the cells among them: a set of cells does for a list of
+/// spots.
 #[tactic(auto, using(crate::proofs::CellSets::writes_among))]
 pub fn step_writes_among(processor: &Processor)
     ensures { (link : Link) (xs : List Spot) → WritesAmong link xs }

@@ -63,7 +63,20 @@ impl Model for Machine {
 
     ghost coded = { state_code };
 
-    ghost view = { λ m. record { cells = m.store; extra = m.extra; inhibit = m.inhibit; inside = m.inside; waiting_sum = m.waiting_sum; waiting_word = m.waiting_word; requests = requests_of m.requests; taken = m.taken; counts = m.counts; cycles = m.cycles } };
+    ghost view = { λ m. record {
+      cells = m.store;
+      extra = m.extra;
+      inhibit = m.inhibit;
+      inside = m.inside;
+      waiting_sum
+          = m.waiting_sum;
+      waiting_word = m.waiting_word;
+      requests = requests_of m.requests;
+      taken = m.taken;
+      counts
+          = m.counts;
+      cycles = m.cycles;
+    } };
 
     ghost invariant = { λ m. IsMarked m.requests m.asks m.waiting_sum m.waiting_word m.waits };
 }
@@ -312,7 +325,8 @@ impl Machine {
     /// One input more was taken, from this series or plain.
     pub(crate) fn count_input(&mut self, series: Option<usize>)
         ensures cycles { self.new.cycles ≡ self.old.cycles }
-        ensures counted { HasRoom self.old → self.new ≡ record self.old { taken = self.old.taken + 1; counts = counts_after self.old.counts series } }
+        ensures counted { HasRoom self.old → self.new
+            ≡ record self.old { taken = self.old.taken + 1; counts = counts_after self.old.counts series } }
     {
         self.taken = self.taken.saturating_add(1);
         if let Some(series) = series
@@ -453,7 +467,8 @@ impl Machine {
     }
 }
 
-/// Takes a machine apart. No field is left out, so one more, as of a past, is refused here: an image is what is counted.
+/// Takes a machine apart. No field is left out, so one more, as of a past, is refused here: an image is what is
+/// counted.
 fn all_fields(
     machine: &Machine,
 ) -> (

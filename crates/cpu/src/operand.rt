@@ -18,8 +18,8 @@ pub fn instruction_name(word: Word, extra: bool) -> &'static [u8]
     decode(word.to_u16(), extra).row().name
 }
 
-/// The address that the instruction names which a word is, under extracode or not: of two places that follow one another the
-/// first's, and none where it names no place.
+/// The address that the instruction names which a word is, under extracode or not: of two places that follow one
+/// another the first's, and none where it names no place.
 pub fn named_address(word: Word, extra: bool) -> Option<Addr12>
     ensures { result ≡ address_of (code_of extra word) }
 {

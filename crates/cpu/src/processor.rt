@@ -1,6 +1,7 @@
 //! The processor: fixed memory, the inputs, and the count of steps.
 
-ghost use Rattle.std.specs.Prelude.{◌≡◌, ◌≢◌, true, false, ◌+◌, ◌-◌, ◌<◌, ◌≤◌, ◌^◌, min, ℕ, Some, None, Err, IfOk, IfSome, OnOk, OnErr, filter, map};
+ghost use Rattle.std.specs.Prelude.{◌≡◌, ◌≢◌, true, false, ◌+◌, ◌-◌, ◌<◌, ◌≤◌, ◌^◌, min, ℕ, Some, None, Err, IfOk};
+ghost use Rattle.std.specs.Prelude.{IfSome, OnOk, OnErr, filter, map};
 ghost use Rattle.feed.specs.Added.{AddsLast, TakenBelow};
 ghost use Rattle.feed.specs.CountsTaken.{is_from};
 ghost use Rattle.feed.specs.Merged.{due, plain_entry};
@@ -70,17 +71,18 @@ impl Processor {
         }
     }
 
-    /// Makes one step, and answers what it puts out: takes the next input where it is due, else enters an interrupt, else
-    /// executes an instruction. The meter counts the step, but stays at its greatest value. No state is told of a machine with
-    /// more than 2^62 cycles, to which no run of fewer than 2^59 steps from the start leads, nor of one that does not fit what
-    /// runs, as one from another processor.
+    /// Makes one step, and answers what it puts out: takes the next input where it is due, else enters an interrupt,
+    /// else executes an instruction. The meter counts the step, but stays at its greatest value. No state is told of a
+    /// machine with more than 2^62 cycles, to which no run of fewer than 2^59 steps from the start leads, nor of one
+    /// that does not fit what runs, as one from another processor.
     #[inline(always)]
     pub fn step(&mut self, machine: &mut Machine) -> Option<Output>
         ensures meter { self.new ≡ record self.old { meter = min (self.old.meter + 1) (2 ^ 128 - 1) } }
         ensures growing { self.old.meter < 2 ^ 128 → self.old.meter ≤ self.new.meter }
         ensures step { machine.old.cycles ≤ most_cycles → FitsRun self.old.scenario machine.old →
             (machine.new, result) ≡ next self.old.scenario machine.old }
-        ensures fits { machine.old.cycles ≤ most_cycles → FitsRun self.old.scenario machine.old → FitsRun self.old.scenario machine.new }
+        ensures fits { machine.old.cycles ≤ most_cycles → FitsRun self.old.scenario machine.old
+            → FitsRun self.old.scenario machine.new }
     {
         self.count(1);
         self.step_uncounted(machine)
@@ -93,7 +95,8 @@ impl Processor {
         ensures same { self.new ≡ self.old }
         ensures step { machine.old.cycles ≤ most_cycles → FitsRun self.old.scenario machine.old →
             (machine.new, result) ≡ next self.old.scenario machine.old }
-        ensures fits { machine.old.cycles ≤ most_cycles → FitsRun self.old.scenario machine.old → FitsRun self.old.scenario machine.new }
+        ensures fits { machine.old.cycles ≤ most_cycles → FitsRun self.old.scenario machine.old
+            → FitsRun self.old.scenario machine.new }
     {
         if self.take_input(machine) {
             return None;
@@ -108,9 +111,10 @@ impl Processor {
         machine.execute(&self.rope)
     }
 
-    /// Makes the steps of a run behind step `done`, up to step `stop` or to the first that puts something out: many at once, each as
-    /// `step` makes it. Answers how many the run has made then, and what the last one has put out. The meter counts each, but stays at
-    /// its greatest value.
+    /// Makes the steps of a run behind step `done`, up to step `stop` or to the first that puts something out: many at
+    /// once, each as
+    /// `step` makes it. Answers how many the run has made then, and what the last one has put out. The meter counts
+    /// each, but stays at its greatest value.
     pub fn run_on(&mut self, machine: &mut Machine, done: u64, stop: u64) -> (u64, Option<Output>)
         requires order { done < stop }
         requires few { stop ≤ 2 ^ 40 }
@@ -152,8 +156,8 @@ impl Processor {
         self.meter = self.meter.saturating_add(u128::from(steps));
     }
 
-    /// Makes the steps of a run behind step `done`, up to step `stop`, or to the first that puts something out, or to where the cycles
-    /// reach `silent`, before which no input is due. Answers as `run_on` does.
+    /// Makes the steps of a run behind step `done`, up to step `stop`, or to the first that puts something out, or to
+    /// where the cycles reach `silent`, before which no input is due. Answers as `run_on` does.
     #[inline(always)]
     fn run_silent(
         &self,
@@ -165,12 +169,14 @@ impl Processor {
         requires order { done ≤ stop }
         requires few { stop ≤ 2 ^ 40 }
         requires stands { machine.old ≡ run self.now.scenario done }
-        requires silent { (cycles : ℕ) → cycles < silent → due self.now.scenario.inputs machine.old.taken cycles ≡ None }
+        requires silent { (cycles : ℕ) → cycles < silent
+            → due self.now.scenario.inputs machine.old.taken cycles ≡ None }
         ensures past { done ≤ result.0 }
         ensures within { result.0 ≤ stop }
         ensures state { machine.new ≡ run self.now.scenario result.0 }
         ensures none { result.1 ≡ None → IsSilent self.now.scenario done result.0 }
-        ensures put { IfSome result.1 (λ o. (done < result.0) × (IsSilent self.now.scenario done (result.0 - 1)) × (Some o ≡ out self.now.scenario result.0)) }
+        ensures put { IfSome result.1 (λ o. (done < result.0) × (IsSilent self.now.scenario done (result.0 - 1))
+            × (Some o ≡ out self.now.scenario result.0)) }
     {
         let mut at = done;
         while at < stop && machine.cycles() < silent {
@@ -183,14 +189,15 @@ impl Processor {
         (at, None)
     }
 
-    /// Makes the steps of a run behind step `done`, up to step `stop`, or to where an input may be due, as long as each executes a plain
-    /// instruction. Answers how many the run has made then.
+    /// Makes the steps of a run behind step `done`, up to step `stop`, or to where an input may be due, as long as each
+    /// executes a plain instruction. Answers how many the run has made then.
     #[inline(always)]
     fn run_plain(&self, machine: &mut Machine, done: u64, stop: u64, silent: u64) -> u64
         requires order { done ≤ stop }
         requires few { stop ≤ 2 ^ 40 }
         requires stands { machine.old ≡ run self.now.scenario done }
-        requires silent { (cycles : ℕ) → cycles < silent → due self.now.scenario.inputs machine.old.taken cycles ≡ None }
+        requires silent { (cycles : ℕ) → cycles < silent
+            → due self.now.scenario.inputs machine.old.taken cycles ≡ None }
         ensures past { done ≤ result }
         ensures within { result ≤ stop }
         ensures state { machine.new ≡ run self.now.scenario result }
@@ -245,8 +252,10 @@ impl Processor {
     fn take_input(&mut self, machine: &mut Machine) -> bool
         ensures same { self.new ≡ self.old }
         ensures none { result ≡ false → machine.new ≡ machine.old }
-        ensures known { FitsRun self.old.scenario machine.old → result ≡ false → due self.old.scenario.inputs machine.old.taken machine.old.cycles ≡ None }
-        ensures next { machine.old.cycles ≤ most_cycles → FitsRun self.old.scenario machine.old → result ≡ true → (machine.new, None) ≡ next self.old.scenario machine.old }
+        ensures known { FitsRun self.old.scenario machine.old → result ≡ false
+            → due self.old.scenario.inputs machine.old.taken machine.old.cycles ≡ None }
+        ensures next { machine.old.cycles ≤ most_cycles → FitsRun self.old.scenario machine.old → result ≡ true
+            → (machine.new, None) ≡ next self.old.scenario machine.old }
     {
         if self.feed.is_none_due(machine.taken(), machine.cycles()) {
             return false;
@@ -261,8 +270,10 @@ impl Processor {
     fn take_due(&mut self, machine: &mut Machine) -> bool
         ensures same { self.new ≡ self.old }
         ensures none { result ≡ false → machine.new ≡ machine.old }
-        ensures known { FitsRun self.old.scenario machine.old → result ≡ false → due self.old.scenario.inputs machine.old.taken machine.old.cycles ≡ None }
-        ensures next { machine.old.cycles ≤ most_cycles → FitsRun self.old.scenario machine.old → result ≡ true → (machine.new, None) ≡ next self.old.scenario machine.old }
+        ensures known { FitsRun self.old.scenario machine.old → result ≡ false
+            → due self.old.scenario.inputs machine.old.taken machine.old.cycles ≡ None }
+        ensures next { machine.old.cycles ≤ most_cycles → FitsRun self.old.scenario machine.old → result ≡ true
+            → (machine.new, None) ≡ next self.old.scenario machine.old }
     {
         let due = self
             .feed
@@ -276,12 +287,14 @@ impl Processor {
         false
     }
 
-    /// Adds an input at a cycle, after all inputs of that cycle. An input at a cycle above those of a step changes no state and
-    /// no output up to that step.
+    /// Adds an input at a cycle, after all inputs of that cycle. An input at a cycle above those of a step changes no
+    /// state and no output up to that step.
     pub fn add(&mut self, cycle: u64, input: Input) -> Result<(), AddFault>
         ensures added { OnOk result (AddsInput cycle input self.old self.new) }
-        ensures later { OnOk result ((n : ℕ) → (run self.old.scenario n).cycles < cycle → AreAlikeUpTo self.old.scenario self.new.scenario n) }
-        ensures fits { OnOk result ((s : State) → TakenBelow self.old.scenario.inputs s.taken cycle → FitsRun self.old.scenario s → FitsRun self.new.scenario s) }
+        ensures later { OnOk result ((n : ℕ) → (run self.old.scenario n).cycles < cycle
+            → AreAlikeUpTo self.old.scenario self.new.scenario n) }
+        ensures fits { OnOk result ((s : State) → TakenBelow self.old.scenario.inputs s.taken cycle
+            → FitsRun self.old.scenario s → FitsRun self.new.scenario s) }
         ensures unchanged { OnErr result (self.new ≡ self.old) }
         ensures room { result ≢ Err AddFault.TooMany → plain_inputs self.old.scenario < most_plain_inputs }
         ensures full { result ≡ Err AddFault.TooMany → most_plain_inputs ≤ plain_inputs self.old.scenario }
@@ -299,11 +312,13 @@ impl Processor {
         Ok(Processor::new(rope, self.feed.copied(alloc)?))
     }
 
-    /// What runs, once more, with one input more at a cycle, after all inputs of that cycle. Below the cycle the inputs are the same.
+    /// What runs, once more, with one input more at a cycle, after all inputs of that cycle. Below the cycle the inputs
+    /// are the same.
     pub fn with_input(&self, alloc: Global, cycle: u64, input: Input) -> Result<Processor, AddFault>
         ensures rope { IfOk result (λ fork. fork.scenario.rope ≡ self.now.scenario.rope) }
         ensures inputs { IfOk result (λ fork. AddsLast self.now.scenario.inputs cycle input fork.scenario.inputs) }
-        ensures later { IfOk result (λ fork. (k now : ℕ) → now < cycle → due fork.scenario.inputs k now ≡ due self.now.scenario.inputs k now) }
+        ensures later { IfOk result (λ fork. (k now : ℕ) → now < cycle
+            → due fork.scenario.inputs k now ≡ due self.now.scenario.inputs k now) }
         ensures meter { IfOk result (λ fork. fork.meter ≡ 0) }
     {
         let mut fork = self.copied(alloc)?;
@@ -412,16 +427,18 @@ impl Processor {
 
     /// Whether the next step writes one of some cells.
     pub fn writes_some(&self, machine: &Machine, cells: &CellSet) -> bool
-        ensures { FitsRun self.now.scenario machine.now → result ≡ writes_some (link self.now.scenario machine.now) cells.now }
+        ensures { FitsRun self.now.scenario machine.now
+            → result ≡ writes_some (link self.now.scenario machine.now) cells.now }
     {
         cells.has_any(self.targets(machine).as_slice())
     }
 
-    /// From what comes what the next step leaves in a cell: spots at which the machine holds something, or fixed memory does. Where
-    /// the step does not write the cell, the cell itself.
+    /// From what comes what the next step leaves in a cell: spots at which the machine holds something, or fixed memory
+    /// does. Where the step does not write the cell, the cell itself.
     #[tactic(auto, using(crate::proofs::Trails::followed_from), unfolding(crate::specs::Links::sources, crate::specs::Links::link))]
     pub fn sources(&self, machine: &Machine, cell: Cell) -> ArrayVec<Spot, 6>
-        ensures { FitsRun self.now.scenario machine.now → result.items ≡ sources (link self.now.scenario machine.now) (Spot.Cell cell) }
+        ensures { FitsRun self.now.scenario machine.now
+            → result.items ≡ sources (link self.now.scenario machine.now) (Spot.Cell cell) }
     {
         let mut trail = Trail::new(cell);
         if let Some((input, _)) = self.due(machine) {
@@ -436,7 +453,8 @@ impl Processor {
 
     /// The input that is due for a machine, with its series.
     fn due(&self, machine: &Machine) -> Option<(Input, Option<usize>)>
-        ensures { FitsRun self.now.scenario machine.now → result ≡ due self.now.scenario.inputs machine.now.taken machine.now.cycles }
+        ensures { FitsRun self.now.scenario machine.now
+            → result ≡ due self.now.scenario.inputs machine.now.taken machine.now.cycles }
     {
         self.feed
             .peek(machine.taken(), machine.counts(), machine.cycles())

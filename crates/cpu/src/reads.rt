@@ -19,7 +19,8 @@ use rope::Rope;
 use space::{Chan, Eras, Linear};
 use std::marker::Model;
 
-/// Spots, as one after another is read: a word that is fetched from BB, and by DAS A, L and two places, each of at most two cells.
+/// Spots, as one after another is read: a word that is fetched from BB, and by DAS A, L and two places, each of at most
+/// two cells.
 #[derive(Drop)]
 pub(crate) struct Reads {
     spots: ArrayVec<Spot, 8>,
@@ -174,7 +175,8 @@ impl Reads {
     #[tactic(auto, unfolding(crate::specs::Effects::erasable_in))]
     fn instruction(&mut self, machine: &Machine, instruction: Instruction, word: u16)
         requires { length self.old ≤ 2 }
-        ensures value { self.new ≡ self.old ++ reads_of (place_in machine.now) instruction (operand_of instruction word) }
+        ensures value { self.new ≡ self.old ++ reads_of (place_in machine.now) instruction
+            (operand_of instruction word) }
     {
         let short = Addr10::of_word(word);
         let address = address_of_word(word);

@@ -6,8 +6,8 @@ ghost use Rattle.cpu.specs.Links.{cell_of_channel, is_in};
 use space::{Bank, Chan, Eras, Offset};
 use std::marker::Model;
 
-/// A cell: that of an erasable place, or from 04000 on that of a channel. BB and the place that reads as 0 have none of their
-/// own, nor have the channels that are L and Q.
+/// A cell: that of an erasable place, or from 04000 on that of a channel. BB and the place that reads as 0 have none of
+/// their own, nor have the channels that are L and Q.
 #[derive(Clone, Copy, PartialEq, Eq, Debug)]
 pub struct Cell {
     number: u16,

@@ -4,7 +4,9 @@ ghost use Rattle.std.specs.Prelude.{◌≡◌, ℕ, ◌+◌, ◌≤◌, [], ◌�
 ghost use Rattle.space.specs.Cells.{accumulator, lower_accumulator};
 ghost use Rattle.cpu.specs.Codes.{operand_of};
 ghost use Rattle.cpu.specs.Effects.{place_in};
-ghost use Rattle.cpu.specs.Links.{place_cells, cell_of_channel, to_place, to_channel, edit_flows, tc_flows, ts_flows, das_flows, dxch_flows, overflow_in, flows_of, flows, link_by, carries_in, input_flows};
+ghost use Rattle.cpu.specs.Links.{place_cells, cell_of_channel, to_place, to_channel, edit_flows, tc_flows, ts_flows};
+ghost use Rattle.cpu.specs.Links.{das_flows, dxch_flows, overflow_in, flows_of, flows, link_by, carries_in};
+ghost use Rattle.cpu.specs.Links.{input_flows};
 ghost use Rattle.cpu.specs.Trails.{gathered};
 
 use crate::address::{Addr10, address_of_word, before, channel_of_word};
@@ -110,7 +112,8 @@ impl Targets {
     /// A and another register are written, and what was read edits.
     fn load_and(&mut self, register: Eras, place: &Linear)
         requires { length self.old ≤ 2 }
-        ensures value { self.new ≡ gathered self.old (to_place accumulator [] ∷ to_place register [] ∷ edit_flows place.now) }
+        ensures value { self.new ≡ gathered self.old
+            (to_place accumulator [] ∷ to_place register [] ∷ edit_flows place.now) }
         ensures len { length self.new ≤ 10 }
     {
         self.place(Eras::A);
@@ -122,7 +125,8 @@ impl Targets {
     #[tactic(auto, using(crate::proofs::Trails::gathered_append))]
     fn load_two(&mut self, first: &Linear, second: &Linear)
         requires { length self.old ≤ 2 }
-        ensures value { self.new ≡ gathered self.old (to_place accumulator [] ∷ to_place lower_accumulator [] ∷ edit_flows first.now ++ edit_flows second.now) }
+        ensures value { self.new ≡ gathered self.old
+            (to_place accumulator [] ∷ to_place lower_accumulator [] ∷ edit_flows first.now ++ edit_flows second.now) }
         ensures len { length self.new ≤ 10 }
     {
         self.place(Eras::A);
@@ -207,7 +211,9 @@ impl Targets {
     #[tactic(auto, unfolding(crate::specs::Effects::erasable_in))]
     fn instruction(&mut self, machine: &Machine, instruction: Instruction, word: u16)
         requires { length self.old ≤ 2 }
-        ensures value { self.new ≡ gathered self.old (flows_of (place_in machine.now) (overflow_in instruction machine.now) instruction (operand_of instruction word)) }
+        ensures value { self.new ≡ gathered self.old
+            (flows_of (place_in machine.now) (overflow_in instruction machine.now) instruction
+            (operand_of instruction word)) }
     {
         let short = Addr10::of_word(word);
         let address = address_of_word(word);

@@ -6,7 +6,9 @@ ghost use Rattle.arrayvec.specs.ArrayVec.{array_vec_len};
 ghost use Rattle.space.specs.Cells.{accumulator, lower_accumulator, program_counter};
 ghost use Rattle.cpu.specs.Codes.{operand_of};
 ghost use Rattle.cpu.specs.Effects.{place_in};
-ghost use Rattle.cpu.specs.Links.{a, l, place_spots, spots, channel_spots, place_cells, is_in, to_place, to_channel, edit_flows, exchange_flows, dxch_flows, das_flows, tc_flows, ts_flows, overflow_in, flows_of, sources_by, through, flows, link_by, carries_in, input_flows};
+ghost use Rattle.cpu.specs.Links.{a, l, place_spots, spots, channel_spots, place_cells, is_in, to_place, to_channel};
+ghost use Rattle.cpu.specs.Links.{edit_flows, exchange_flows, dxch_flows, das_flows, tc_flows, ts_flows, overflow_in};
+ghost use Rattle.cpu.specs.Links.{flows_of, sources_by, through, flows, link_by, carries_in, input_flows};
 ghost use Rattle.cpu.specs.Trails.{passed, followed, untouched};
 
 use crate::address::{Addr10, address_of_word, before, channel_of_word};
@@ -120,7 +122,9 @@ impl Trail {
 
     /// CCS.
     fn count(&mut self, place: &Linear)
-        ensures { self.new ≡ followed self.old (to_place accumulator (spots place.now) ∷ to_place program_counter (spots place.now) ∷ edit_flows place.now) }
+        ensures { self.new ≡ followed self.old
+            (to_place accumulator (spots place.now) ∷ to_place program_counter (spots place.now)
+            ∷ edit_flows place.now) }
     {
         self.place(Eras::A, of(place));
         self.place(Eras::Z, of(place));
@@ -129,7 +133,9 @@ impl Trail {
 
     /// MP.
     fn multiply(&mut self, place: &Linear)
-        ensures { self.new ≡ followed self.old (to_place accumulator (a ∷ spots place.now) ∷ to_place lower_accumulator (a ∷ spots place.now) ∷ edit_flows place.now) }
+        ensures { self.new ≡ followed self.old
+            (to_place accumulator (a ∷ spots place.now) ∷ to_place lower_accumulator (a ∷ spots place.now)
+            ∷ edit_flows place.now) }
     {
         self.place(Eras::A, a_and(place));
         self.place(Eras::L, a_and(place));
@@ -138,7 +144,9 @@ impl Trail {
 
     /// DV.
     fn divide(&mut self, place: &Linear)
-        ensures { self.new ≡ followed self.old (to_place accumulator (a ∷ l ∷ spots place.now) ∷ to_place lower_accumulator (a ∷ l ∷ spots place.now) ∷ edit_flows place.now) }
+        ensures { self.new ≡ followed self.old
+            (to_place accumulator (a ∷ l ∷ spots place.now) ∷ to_place lower_accumulator (a ∷ l ∷ spots place.now)
+            ∷ edit_flows place.now) }
     {
         self.place(Eras::A, a_l_and(place));
         self.place(Eras::L, a_l_and(place));
@@ -148,7 +156,9 @@ impl Trail {
     /// DCA and DCS.
     #[tactic(auto, using(crate::proofs::Trails::followed_append))]
     fn load_two(&mut self, first: &Linear, second: &Linear)
-        ensures { self.new ≡ followed self.old (to_place accumulator (spots first.now) ∷ to_place lower_accumulator (spots second.now) ∷ edit_flows first.now ++ edit_flows second.now) }
+        ensures { self.new ≡ followed self.old
+            (to_place accumulator (spots first.now) ∷ to_place lower_accumulator (spots second.now)
+            ∷ edit_flows first.now ++ edit_flows second.now) }
     {
         self.place(Eras::A, of(first));
         self.place(Eras::L, of(second));
@@ -173,7 +183,8 @@ impl Trail {
 
     /// ADS.
     fn add_to(&mut self, place: Eras)
-        ensures { self.new ≡ followed self.old (to_place place (a ∷ place_spots place) ∷ to_place accumulator (a ∷ place_spots place) ∷ []) }
+        ensures { self.new ≡ followed self.old
+            (to_place place (a ∷ place_spots place) ∷ to_place accumulator (a ∷ place_spots place) ∷ []) }
     {
         self.place(place, a_and_place(place));
         self.place(Eras::A, a_and_place(place));
@@ -241,7 +252,9 @@ impl Trail {
     /// An instruction, with its operand in a word.
     #[tactic(auto, unfolding(crate::specs::Effects::erasable_in))]
     pub(crate) fn instruction(&mut self, machine: &Machine, instruction: Instruction, word: u16)
-        ensures { self.new ≡ followed self.old (flows_of (place_in machine.now) (overflow_in instruction machine.now) instruction (operand_of instruction word)) }
+        ensures { self.new ≡ followed self.old
+            (flows_of (place_in machine.now) (overflow_in instruction machine.now) instruction
+            (operand_of instruction word)) }
     {
         let short = Addr10::of_word(word);
         let address = address_of_word(word);
@@ -300,7 +313,8 @@ impl Trail {
 
     /// WAND and WOR.
     fn both(&mut self, channel: Chan)
-        ensures { self.new ≡ followed self.old (to_place accumulator (a ∷ channel_spots channel) ∷ to_channel channel (a ∷ channel_spots channel) ∷ []) }
+        ensures { self.new ≡ followed self.old
+            (to_place accumulator (a ∷ channel_spots channel) ∷ to_channel channel (a ∷ channel_spots channel) ∷ []) }
     {
         self.place(Eras::A, a_and_channel(channel));
         self.channel(channel, a_and_channel(channel));
@@ -430,7 +444,8 @@ pub(crate) fn of(place: &Linear) -> Spots
 /// From what comes what stands in a place's cell after L and another place were exchanged.
 fn push_through(from: &mut Spots, low: Eras, cell: Eras)
     requires { array_vec_len from.old + 2 ≤ 6 }
-    ensures items { from.new.items ≡ from.old.items ++ sources_by (exchange_flows lower_accumulator low) cell (Spot.Cell cell ∷ []) }
+    ensures items { from.new.items ≡ from.old.items
+        ++ sources_by (exchange_flows lower_accumulator low) cell (Spot.Cell cell ∷ []) }
     ensures len { array_vec_len from.new ≤ array_vec_len from.old + 2 }
 {
     let cell = Cell::of_place(cell);

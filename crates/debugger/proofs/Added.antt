@@ -13,25 +13,35 @@ use Rattle.debugger.specs.Inputs.{input_line, lines_from}
 dropped : (plain : List Plain) (i : ℕ) (p : Plain) → i < length plain → get_or plain i p ≡ p → drop i plain ≡ p ∷ drop (i + 1) plain
 dropped plain i p within is = drop_more plain i p within ∙ ap (λ (e : Plain). e ∷ drop (i + 1) plain) is
 
-pub input_yes : (first : ℕ) (plain : List Plain) (n i : ℕ) (p : Plain) → i < length plain → get_or plain i p ≡ p → nat_le first p.line ≡ true
-    → lines_from first n (map plain_entry (drop i plain)) ≡ input_line (plain_entry p) ++ lines_from first (n + 1) (map plain_entry (drop (i + 1) plain))
-input_yes first plain n i p within is there = ap (λ (l : List Plain). lines_from first n (map plain_entry l)) (dropped plain i p within is) ∙ rw there refl
+pub input_yes : (first : ℕ) (plain : List Plain) (n i : ℕ) (p : Plain) → i < length plain → get_or plain i p ≡ p
+    → nat_le first p.line ≡ true
+    → lines_from first n (map plain_entry (drop i plain))
+    ≡ input_line (plain_entry p) ++ lines_from first (n + 1) (map plain_entry (drop (i + 1) plain))
+input_yes first plain n i p within is there = ap (λ (l : List Plain). lines_from first n (map plain_entry l)) (dropped plain i p within is)
+    ∙ rw there refl
 
-pub input_no : (first : ℕ) (plain : List Plain) (n i : ℕ) (p : Plain) → i < length plain → get_or plain i p ≡ p → nat_le first p.line ≡ false
+pub input_no : (first : ℕ) (plain : List Plain) (n i : ℕ) (p : Plain) → i < length plain → get_or plain i p ≡ p
+    → nat_le first p.line ≡ false
     → lines_from first n (map plain_entry (drop i plain)) ≡ lines_from first n (map plain_entry (drop (i + 1) plain))
-input_no first plain n i p within is before = ap (λ (l : List Plain). lines_from first n (map plain_entry l)) (dropped plain i p within is) ∙ rw before refl
+input_no first plain n i p within is before = ap (λ (l : List Plain). lines_from first n (map plain_entry l)) (dropped plain i p within is)
+    ∙ rw before refl
 
-pub input_end : (first : ℕ) (plain : List Plain) (n i : ℕ) → length plain ≤ i → lines_from first n (map plain_entry (drop i plain)) ≡ line (codes "# COUNT " ++ decimal n)
+pub input_end : (first : ℕ) (plain : List Plain) (n i : ℕ) → length plain ≤ i
+    → lines_from first n (map plain_entry (drop i plain)) ≡ line (codes "# COUNT " ++ decimal n)
 input_end first plain n i past = ap (λ (l : List Plain). lines_from first n (map plain_entry l)) (drop_all i plain past)
 
 -- a line after those of some, and of one more
 pub line_more : (plain : List Plain) (i before : ℕ) (p : Plain) → i < length plain → get_or plain i p ≡ p
-    → max before (line_after (map plain_entry (drop i plain))) ≡ max (max before (p.line + 1)) (line_after (map plain_entry (drop (i + 1) plain)))
+    → max before (line_after (map plain_entry (drop i plain)))
+    ≡ max (max before (p.line + 1)) (line_after (map plain_entry (drop (i + 1) plain)))
 line_more plain i before p within is =
-    ap (λ (l : List Plain). max before (line_after (map plain_entry l))) (dropped plain i p within is) ∙ (let e : max before (max (p.line + 1) (line_after (map plain_entry (drop (i + 1) plain)))) ≡ max (max before (p.line + 1)) (line_after (map plain_entry (drop (i + 1) plain))) = omega arith in e)
+    ap (λ (l : List Plain). max before (line_after (map plain_entry l))) (dropped plain i p within is)
+    ∙ (let e : max before (max (p.line + 1) (line_after (map plain_entry (drop (i + 1) plain))))
+    ≡ max (max before (p.line + 1)) (line_after (map plain_entry (drop (i + 1) plain))) = omega arith in e)
 
 pub line_end : (plain : List Plain) (i before : ℕ) → length plain ≤ i → max before (line_after (map plain_entry (drop i plain))) ≡ before
-line_end plain i before past = ap (λ (l : List Plain). max before (line_after (map plain_entry l))) (drop_all i plain past) ∙ (let e : max before 0 ≡ before = omega arith in e)
+line_end plain i before past = ap (λ (l : List Plain). max before (line_after (map plain_entry l))) (drop_all i plain past)
+    ∙ (let e : max before 0 ≡ before = omega arith in e)
 
 -- a line is told, or it is not
 pub is_told : (first at : ℕ) → first ≤ at → nat_le first at ≡ true

@@ -14,15 +14,21 @@ use Rattle.feed.specs.declared.fault.LineFault.{LineFault}
 use Rattle.feed.specs.declared.fault.LineFault.TheVariants as fault
 use Rattle.feed.specs.declared.input.Input.{Input}
 use Rattle.feed.proofs.Givens.{line_gives}
-use Rattle.commands.specs.Commands.{Form, alone, with_one, with_both, count_in, channel_in, place_in, erasable_in, erasable_number, breaking, forms, known, adding, rest_after, added_by, parsed_in}
-use Rattle.commands.specs.Extended.{ExtendedForm, sole, with_none, word_alone, with_field_or, steps_in, help_in, usual_links, stepped_in, lines_in, links_in, why_of, why_place, word_then, links_then, since_in, index_told, telling, since_after, since_of, why_since, why_form, memory_of, channel_form, memory_form, counted_place, place_alone, broken_at, watches, bits_of, watches_bits, subject_alone, break_form, extended_forms, in_words, or_plain, echoed, extended_in, extended_line}
+use Rattle.commands.specs.Commands.{Form, alone, with_one, with_both, count_in, channel_in, place_in, erasable_in, erasable_number}
+use Rattle.commands.specs.Commands.{breaking, forms, known, adding, rest_after, added_by, parsed_in}
+use Rattle.commands.specs.Extended.{ExtendedForm, sole, with_none, word_alone, with_field_or, steps_in, help_in, usual_links, stepped_in}
+use Rattle.commands.specs.Extended.{lines_in, links_in, why_of, why_place, word_then, links_then, since_in, index_told, telling}
+use Rattle.commands.specs.Extended.{since_after, since_of, why_since, why_form, memory_of, channel_form, memory_form, counted_place}
+use Rattle.commands.specs.Extended.{place_alone, broken_at, watches, bits_of, watches_bits, subject_alone, break_form, extended_forms}
+use Rattle.commands.specs.Extended.{in_words, or_plain, echoed, extended_in, extended_line}
 use Rattle.commands.specs.Lines.{command_length}
 use Rattle.commands.specs.NamedPlaces.{place_first, after_place}
 use Rattle.commands.specs.Subjects.{channel_named, erasable_first, place_subject, channel_subject}
 use Rattle.commands.specs.declared.command.Breakpoint.{Breakpoint}
 use Rattle.commands.specs.declared.command.Breakpoint.TheVariants as breakpoint
 use Rattle.commands.specs.declared.command.Command.{Command}
-use Rattle.commands.specs.declared.command.Command.TheVariants.{Step, Run, Back, Goto, Seek, Break, Clear, Registers, Memory, Channel, Last, Symbol, Changed, Tail, Add, Quit}
+use Rattle.commands.specs.declared.command.Command.TheVariants.{Step, Run, Back, Goto, Seek, Break, Clear, Registers, Memory, Channel, Last}
+use Rattle.commands.specs.declared.command.Command.TheVariants.{Symbol, Changed, Tail, Add, Quit}
 use Rattle.commands.specs.declared.command.ParsedLine.{ParsedLine}
 use Rattle.commands.specs.declared.command.ParsedLine.TheVariants.{Nothing, TooLong, Unknown, WrongCounter, Known}
 use Rattle.commands.specs.declared.subject.Subject.{Subject}
@@ -31,7 +37,10 @@ use Rattle.commands.specs.Surveys.{survey_in}
 use Rattle.commands.specs.WhatIfs.{tried_in, usual_steps, whatif_form}
 use Rattle.commands.specs.declared.extended.LinkLines.{LinkLines}
 use Rattle.commands.specs.declared.extended.ExtendedLine.{ExtendedLine}
-use Rattle.commands.specs.declared.extended.ExtendedLine.TheVariants.{Plain, Common, Says, Help, Breaks, ClearOne, On, AllRegisters, Until, WhyStep, Why, Words, Where, Find, Trace, Inputs, Over, Out, Listed, Values, Channels, Differs, WhySince, TailSteps, Survey, Say, WhatIf, Calls}
+use Rattle.commands.specs.declared.extended.ExtendedLine.TheVariants.{Plain, Common, Says, Help, Breaks, ClearOne, On, AllRegisters, Until}
+use Rattle.commands.specs.declared.extended.ExtendedLine.TheVariants.{WhyStep, Why, Words, Where, Find, Trace, Inputs, Over, Out, Listed}
+use Rattle.commands.specs.declared.extended.ExtendedLine.TheVariants.{Values, Channels, Differs, WhySince, TailSteps, Survey, Say, WhatIf}
+use Rattle.commands.specs.declared.extended.ExtendedLine.TheVariants.{Calls}
 
 -- what is asked for adds nothing, or an input that a line can give
 abbrev pub AddsGivable : Command → Type 0
@@ -65,7 +74,8 @@ chosen P true o p h k = h
 chosen P false o p h k = k
 
 -- ## The commands of any session
-with_one_adds : {X : Type 0} (read : List ℕ → Option X) (command : X → Command) → ((x : X) → AddsGivable (command x)) → (fs : List (List ℕ)) → IfSome (with_one read command fs) AddsGivable
+with_one_adds : {X : Type 0} (read : List ℕ → Option X) (command : X → Command) → ((x : X) → AddsGivable (command x)) → (fs : List (List ℕ))
+    → IfSome (with_one read command fs) AddsGivable
 with_one_adds read command each [] = tt
 with_one_adds read command each (field ∷ []) = mapped AddsGivable command each (read field)
 with_one_adds read command each (field ∷ next ∷ more) = tt
@@ -98,37 +108,40 @@ FormAdds form = (fs : List (List ℕ)) → IfSome (form fs) AddsGivable
 
 form_adds : (symbols : SymbolTable) (name : List ℕ) → IfSome (value_in (forms symbols) name) FormAdds
 unfolding forms
-form_adds symbols name = All-lookup FormAdds (same_name name) (forms symbols) (All-from_recursion (λ (e : List ℕ × Form). FormAdds e.1) (forms symbols) (
-  with_one_adds count_in (λ k. Step k) (λ k. tt),
-  (
-    with_one_adds count_in (λ k. Run k) (λ k. tt),
-    (
-      with_one_adds count_in (λ k. Back k) (λ k. tt),
+form_adds symbols name = All-lookup FormAdds (same_name name) (forms symbols)
+    (All-from_recursion (λ (e : List ℕ × Form). FormAdds e.1) (forms symbols) (
+      with_one_adds count_in (λ k. Step k) (λ k. tt),
       (
-        with_one_adds count_in (λ t. Goto t) (λ t. tt),
+        with_one_adds count_in (λ k. Run k) (λ k. tt),
         (
-          alone_adds Seek tt,
+          with_one_adds count_in (λ k. Back k) (λ k. tt),
           (
-            breaking_adds symbols,
+            with_one_adds count_in (λ t. Goto t) (λ t. tt),
             (
-              alone_adds Clear tt,
+              alone_adds Seek tt,
               (
-                alone_adds Registers tt,
+                breaking_adds symbols,
                 (
-                  with_one_adds (place_in symbols) (λ p. Memory p) (λ p. tt),
+                  alone_adds Clear tt,
                   (
-                    with_one_adds channel_in (λ c. Channel c) (λ c. tt),
+                    alone_adds Registers tt,
                     (
-                      with_one_adds (erasable_in symbols) (λ p. Last p) (λ p. tt),
+                      with_one_adds (place_in symbols) (λ p. Memory p) (λ p. tt),
                       (
-                        with_one_adds (λ name. Some (value_in symbols name)) (λ value. Symbol value) (λ value. tt),
+                        with_one_adds channel_in (λ c. Channel c) (λ c. tt),
                         (
-                          with_one_adds count_in (λ t. Changed t) (λ t. tt),
+                          with_one_adds (erasable_in symbols) (λ p. Last p) (λ p. tt),
                           (
-                            alone_adds Tail tt,
+                            with_one_adds (λ name. Some (value_in symbols name)) (λ value. Symbol value) (λ value. tt),
                             (
-                              alone_adds Quit tt,
-                              tt,
+                              with_one_adds count_in (λ t. Changed t) (λ t. tt),
+                              (
+                                alone_adds Tail tt,
+                                (
+                                  alone_adds Quit tt,
+                                  tt,
+                                ),
+                              ),
                             ),
                           ),
                         ),
@@ -141,9 +154,7 @@ form_adds symbols name = All-lookup FormAdds (same_name name) (forms symbols) (A
           ),
         ),
       ),
-    ),
-  ),
-))
+    ))
 
 known_adds : (o : Option Command) → IfSome o AddsGivable → ParsedGivable (known o)
 known_adds None h = tt
@@ -162,7 +173,8 @@ parsed_adds : (symbols : SymbolTable) (line : List ℕ) (pieces : List Piece) �
 parsed_adds symbols line [] = tt
 parsed_adds symbols line (name ∷ more) = on (same_name name.text (codes "add"))
   where
-    on : (b : Bool) → ParsedGivable (cond b (added_by line (name ∷ more)) (known (option_and_then (λ form. form (texts more)) (value_in (forms symbols) name.text))))
+    on : (b : Bool) → ParsedGivable (cond b (added_by line (name ∷ more))
+        (known (option_and_then (λ form. form (texts more)) (value_in (forms symbols) name.text))))
     on true = adding_adds (parsed (rest_after name line)) (line_gives (rest_after name line))
     on false =
         known_adds (option_and_then (λ form. form (texts more)) (value_in (forms symbols) name.text))
@@ -173,35 +185,43 @@ with_none_adds : (request : ExtendedLine) → AskedGivable request → (fs : Lis
 with_none_adds request h [] = h
 with_none_adds request h (field ∷ more) = tt
 
-with_field_or_adds : {X : Type 0} (none : ExtendedLine) (read : List ℕ → Option X) (request : X → ExtendedLine) → AskedGivable none → ((x : X) → AskedGivable (request x))
+with_field_or_adds : {X : Type 0} (none : ExtendedLine) (read : List ℕ → Option X) (request : X → ExtendedLine) → AskedGivable none
+    → ((x : X) → AskedGivable (request x))
     → (fs : List (List ℕ)) → IfSome (with_field_or none read request fs) AskedGivable
 with_field_or_adds none read request h each [] = h
 with_field_or_adds none read request h each (field ∷ more) = mapped AskedGivable request each (option_and_then read (sole (field ∷ more)))
 
 why_of_adds : (subject : Option Subject) (fs : List (List ℕ)) → IfSome (why_of subject fs) AskedGivable
 why_of_adds subject fs =
-    followed AskedGivable (λ s. option_map (λ (r : ℕ × LinkLines). Why s r.0 r.1) (links_in fs)) (λ s. mapped AskedGivable (λ (r : ℕ × LinkLines). Why s r.0 r.1) (λ r. tt) (links_in fs)) subject
+    followed AskedGivable (λ s. option_map (λ (r : ℕ × LinkLines). Why s r.0 r.1) (links_in fs))
+    (λ s. mapped AskedGivable (λ (r : ℕ × LinkLines). Why s r.0 r.1) (λ r. tt) (links_in fs)) subject
 
 why_place_adds : (symbols : SymbolTable) (fs : List (List ℕ)) → IfSome (why_place symbols fs) AskedGivable
 why_place_adds symbols [] = tt
 why_place_adds symbols (field ∷ more) =
-    either AskedGivable (why_of (place_subject symbols (field ∷ more)) (after_place (field ∷ more))) (why_of (channel_subject symbols field) more)
+    either AskedGivable (why_of (place_subject symbols (field ∷ more)) (after_place (field ∷ more)))
+    (why_of (channel_subject symbols field) more)
     (why_of_adds (place_subject symbols (field ∷ more)) (after_place (field ∷ more))) (why_of_adds (channel_subject symbols field) more)
 
 since_of_adds : (subject : Option Subject) (fs : List (List ℕ)) → IfSome (since_of subject fs) AskedGivable
 since_of_adds subject fs =
     followed AskedGivable (λ s. since_after s (links_then fs).0 (word_then (codes "index") (links_then fs).1))
-    (λ s. mapped AskedGivable (λ t. WhySince s (links_then fs).0 (telling (index_told (word_then (codes "index") (links_then fs).1).0) (word_then (codes "places") (word_then (codes "index") (links_then fs).1).1).0) t) (λ t. tt) (since_in (word_then (codes "places") (word_then (codes "index") (links_then fs).1).1).1)) subject
+    (λ s. mapped AskedGivable (λ t. WhySince s (links_then fs).0
+    (telling (index_told (word_then (codes "index") (links_then fs).1).0)
+    (word_then (codes "places") (word_then (codes "index") (links_then fs).1).1).0) t) (λ t. tt)
+    (since_in (word_then (codes "places") (word_then (codes "index") (links_then fs).1).1).1)) subject
 
 why_since_adds : (symbols : SymbolTable) (fs : List (List ℕ)) → IfSome (why_since symbols fs) AskedGivable
 why_since_adds symbols [] = tt
 why_since_adds symbols (field ∷ more) =
-    either AskedGivable (since_of (place_subject symbols (field ∷ more)) (after_place (field ∷ more))) (since_of (channel_subject symbols field) more)
+    either AskedGivable (since_of (place_subject symbols (field ∷ more)) (after_place (field ∷ more)))
+    (since_of (channel_subject symbols field) more)
     (since_of_adds (place_subject symbols (field ∷ more)) (after_place (field ∷ more))) (since_of_adds (channel_subject symbols field) more)
 
 why_adds : (symbols : SymbolTable) (fs : List (List ℕ)) → IfSome (why_form symbols fs) AskedGivable
 why_adds symbols fs =
-    either AskedGivable (option_map (λ lines. WhyStep lines) (lines_in fs)) (option_or (why_place symbols fs) (why_since symbols fs)) (mapped AskedGivable (λ lines. WhyStep lines) (λ lines. tt) (lines_in fs))
+    either AskedGivable (option_map (λ lines. WhyStep lines) (lines_in fs)) (option_or (why_place symbols fs) (why_since symbols fs))
+    (mapped AskedGivable (λ lines. WhyStep lines) (λ lines. tt) (lines_in fs))
     (either AskedGivable (why_place symbols fs) (why_since symbols fs) (why_place_adds symbols fs) (why_since_adds symbols fs))
 
 memory_of_adds : (fs : List (List ℕ)) (place : Linear) → IfSome (memory_of place fs) AskedGivable
@@ -217,7 +237,8 @@ memory_adds symbols fs =
 watches_adds : (symbols : SymbolTable) (fs : List (List ℕ)) → IfSome (watches symbols fs) AskedGivable
 watches_adds symbols fs =
     followed AskedGivable (λ p. option_map (λ w. broken_at (breakpoint.Word p w)) (option_and_then word_in (sole (after_place fs))))
-    (λ p. mapped AskedGivable (λ w. broken_at (breakpoint.Word p w)) (λ w. tt) (option_and_then word_in (sole (after_place fs)))) (erasable_first symbols fs)
+    (λ p. mapped AskedGivable (λ w. broken_at (breakpoint.Word p w)) (λ w. tt) (option_and_then word_in (sole (after_place fs))))
+    (erasable_first symbols fs)
 
 bits_adds : (channel word mask : Option ℕ) → IfSome (bits_of channel word mask) AskedGivable
 bits_adds None word mask = tt
@@ -235,11 +256,14 @@ watches_bits_adds (channel ∷ word ∷ mask ∷ next ∷ more) = tt
 break_adds : (symbols : SymbolTable) (fs : List (List ℕ)) → IfSome (break_form symbols fs) AskedGivable
 break_adds symbols [] = tt
 break_adds symbols (kind ∷ fs) =
-    chosen AskedGivable (same_name kind (codes "at")) _ _ (mapped AskedGivable (λ p. broken_at (breakpoint.Place p)) (λ p. tt) (place_alone symbols fs))
+    chosen AskedGivable (same_name kind (codes "at")) _ _
+    (mapped AskedGivable (λ p. broken_at (breakpoint.Place p)) (λ p. tt) (place_alone symbols fs))
     (chosen AskedGivable (same_name kind (codes "word")) _ _ (watches_adds symbols fs)
     (chosen AskedGivable (same_name kind (codes "chan")) _ _ (watches_bits_adds fs)
-    (chosen AskedGivable (same_name kind (codes "exec")) _ _ (mapped AskedGivable (λ p. broken_at (breakpoint.Executed p)) (λ p. tt) (place_alone symbols fs))
-    (chosen AskedGivable (same_name kind (codes "change")) _ _ (mapped AskedGivable (λ s. broken_at (breakpoint.Changed s)) (λ s. tt) (subject_alone symbols fs)) tt))))
+    (chosen AskedGivable (same_name kind (codes "exec")) _ _
+    (mapped AskedGivable (λ p. broken_at (breakpoint.Executed p)) (λ p. tt) (place_alone symbols fs))
+    (chosen AskedGivable (same_name kind (codes "change")) _ _
+    (mapped AskedGivable (λ s. broken_at (breakpoint.Changed s)) (λ s. tt) (subject_alone symbols fs)) tt))))
 
 tried_adds : (input : Result Input LineFault) (steps : Option ℕ) → IfSome (tried_in input steps) AskedGivable
 tried_adds input None = tt
@@ -252,7 +276,8 @@ whatif_adds [] = tt
 whatif_adds (name ∷ []) = tt
 whatif_adds (name ∷ first ∷ []) = tried_adds (short_input name first) (Some usual_steps)
 whatif_adds (name ∷ first ∷ second ∷ []) =
-    chosen AskedGivable (same_name name (codes "CHAN")) _ _ (tried_adds (long_input name first second) (Some usual_steps)) (tried_adds (short_input name first) (count_in second))
+    chosen AskedGivable (same_name name (codes "CHAN")) _ _ (tried_adds (long_input name first second) (Some usual_steps))
+    (tried_adds (short_input name first) (count_in second))
 whatif_adds (name ∷ first ∷ second ∷ steps ∷ []) = tried_adds (long_input name first second) (count_in steps)
 whatif_adds (name ∷ first ∷ second ∷ steps ∷ next ∷ more) = tt
 
@@ -261,55 +286,63 @@ AskedAdds form = (fs : List (List ℕ)) → IfSome (form fs) AskedGivable
 
 asked_adds : (symbols : SymbolTable) (name : List ℕ) → IfSome (value_in (extended_forms symbols) name) AskedAdds
 unfolding extended_forms
-asked_adds symbols name = All-lookup AskedAdds (same_name name) (extended_forms symbols) (All-from_recursion (λ (e : List ℕ × ExtendedForm). AskedAdds e.1) (extended_forms symbols) (
-  (λ fs. mapped AskedGivable (λ k. On k) (λ k. tt) (steps_in fs)),
-  (
-    (λ fs. mapped AskedGivable (λ cycles. Until cycles) (λ k. tt) (option_and_then count_in (sole fs))),
-    (
-      (λ fs. mapped AskedGivable (λ k. Over k) (λ k. tt) (steps_in fs)),
+asked_adds symbols name = All-lookup AskedAdds (same_name name) (extended_forms symbols)
+    (All-from_recursion (λ (e : List ℕ × ExtendedForm). AskedAdds e.1) (extended_forms symbols) (
+      (λ fs. mapped AskedGivable (λ k. On k) (λ k. tt) (steps_in fs)),
       (
-        (λ fs. mapped AskedGivable (λ k. Out k) (λ k. tt) (steps_in fs)),
+        (λ fs. mapped AskedGivable (λ cycles. Until cycles) (λ k. tt) (option_and_then count_in (sole fs))),
         (
-          why_adds symbols,
+          (λ fs. mapped AskedGivable (λ k. Over k) (λ k. tt) (steps_in fs)),
           (
-            (λ fs. chosen AskedGivable (word_alone (codes "all") (sole fs)) (Some AllRegisters) None tt tt),
+            (λ fs. mapped AskedGivable (λ k. Out k) (λ k. tt) (steps_in fs)),
             (
-              with_none_adds Breaks tt,
+              why_adds symbols,
               (
-                (λ fs. mapped AskedGivable (λ i. ClearOne i) (λ i. tt) (option_and_then count_in (sole fs))),
+                (λ fs. chosen AskedGivable (word_alone (codes "all") (sole fs)) (Some AllRegisters) None tt tt),
                 (
-                  with_field_or_adds Help help_in (λ text. Says text) tt (λ text. tt),
+                  with_none_adds Breaks tt,
                   (
-                    memory_adds symbols,
+                    (λ fs. mapped AskedGivable (λ i. ClearOne i) (λ i. tt) (option_and_then count_in (sole fs))),
                     (
-                      (λ fs. mapped AskedGivable (λ p. Common (Last p)) (λ p. tt) (option_and_then erasable_number (place_alone symbols fs))),
+                      with_field_or_adds Help help_in (λ text. Says text) tt (λ text. tt),
                       (
-                        break_adds symbols,
+                        memory_adds symbols,
                         (
-                          with_none_adds Inputs tt,
+                          (λ fs. mapped AskedGivable (λ p. Common (Last p)) (λ p. tt)
+                              (option_and_then erasable_number (place_alone symbols fs))),
                           (
-                            with_none_adds Where tt,
+                            break_adds symbols,
                             (
-                              (λ fs. mapped AskedGivable (λ text. Find text) (λ text. tt) (option_and_then (λ field. Some field) (sole fs))),
+                              with_none_adds Inputs tt,
                               (
-                                (λ fs. mapped AskedGivable (λ k. Trace k) (λ k. tt) (option_and_then count_in (sole fs))),
+                                with_none_adds Where tt,
                                 (
-                                  (λ fs. mapped AskedGivable (λ k. TailSteps k) (λ k. tt) (stepped_in fs)),
+                                  (λ fs. mapped AskedGivable (λ text. Find text) (λ text. tt)
+                                      (option_and_then (λ field. Some field) (sole fs))),
                                   (
-                                    (λ fs. mapped AskedGivable (λ (r : Linear × ℕ). Listed r.0 r.1) (λ r. tt) (counted_place symbols usual_links fs)),
+                                    (λ fs. mapped AskedGivable (λ k. Trace k) (λ k. tt) (option_and_then count_in (sole fs))),
                                     (
-                                      (λ fs. mapped AskedGivable (λ (r : Linear × ℕ). Values r.0 r.1) (λ r. tt) (counted_place symbols 1 fs)),
+                                      (λ fs. mapped AskedGivable (λ k. TailSteps k) (λ k. tt) (stepped_in fs)),
                                       (
-                                        with_none_adds Channels tt,
+                                        (λ fs. mapped AskedGivable (λ (r : Linear × ℕ). Listed r.0 r.1) (λ r. tt)
+                                            (counted_place symbols usual_links fs)),
                                         (
-                                          (λ fs. mapped AskedGivable (λ t. Differs t) (λ t. tt) (option_and_then count_in (sole fs))),
+                                          (λ fs. mapped AskedGivable (λ (r : Linear × ℕ). Values r.0 r.1) (λ r. tt)
+                                              (counted_place symbols 1 fs)),
                                           (
-                                            (λ fs. mapped AskedGivable (λ (asked : Surveyed). Survey asked) (λ asked. tt) (survey_in symbols fs)),
+                                            with_none_adds Channels tt,
                                             (
-                                              (λ fs. mapped AskedGivable (λ k. Say k) (λ k. tt) (option_and_then count_in (sole fs))),
+                                              (λ fs. mapped AskedGivable (λ t. Differs t) (λ t. tt) (option_and_then count_in (sole fs))),
                                               (
-                                                whatif_adds,
-                                                (with_none_adds Calls tt, tt),
+                                                (λ fs. mapped AskedGivable (λ (asked : Surveyed). Survey asked) (λ asked. tt)
+                                                    (survey_in symbols fs)),
+                                                (
+                                                  (λ fs. mapped AskedGivable (λ k. Say k) (λ k. tt) (option_and_then count_in (sole fs))),
+                                                  (
+                                                    whatif_adds,
+                                                    (with_none_adds Calls tt, tt),
+                                                  ),
+                                                ),
                                               ),
                                             ),
                                           ),
@@ -331,22 +364,23 @@ asked_adds symbols name = All-lookup AskedAdds (same_name name) (extended_forms 
           ),
         ),
       ),
-    ),
-  ),
-))
+    ))
 
-asked_found : (o : Option ExtendedForm) (fs : List (List ℕ)) → IfSome o AskedAdds → IfSome (option_and_then (λ form. form fs) o) AskedGivable
+asked_found : (o : Option ExtendedForm) (fs : List (List ℕ)) → IfSome o AskedAdds
+    → IfSome (option_and_then (λ form. form fs) o) AskedGivable
 asked_found None fs h = tt
 asked_found (Some form) fs h = h fs
 
-in_words_adds : (symbols : SymbolTable) (name : List ℕ) (fs : List (List ℕ)) (request : ParsedLine) → ParsedGivable request → AskedGivable (in_words symbols name fs request)
+in_words_adds : (symbols : SymbolTable) (name : List ℕ) (fs : List (List ℕ)) (request : ParsedLine) → ParsedGivable request
+    → AskedGivable (in_words symbols name fs request)
 in_words_adds symbols name fs Nothing h = tt
 in_words_adds symbols name fs TooLong h = tt
 in_words_adds symbols name fs Unknown h = tt
 in_words_adds symbols name fs WrongCounter h = tt
 in_words_adds symbols name fs (Known command) h = h
 
-or_plain_adds : (o : Option ExtendedLine) (request : ExtendedLine) → IfSome o AskedGivable → AskedGivable request → AskedGivable (or_plain o request)
+or_plain_adds : (o : Option ExtendedLine) (request : ExtendedLine) → IfSome o AskedGivable → AskedGivable request
+    → AskedGivable (or_plain o request)
 or_plain_adds None request h k = k
 or_plain_adds (Some extended) request h k = h
 

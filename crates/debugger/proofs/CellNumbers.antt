@@ -1,5 +1,6 @@
 -- The cells of a set, counted up.
-use Rattle.std.proofs.Common.{◌≡◌, ℕ, zero, suc, ◌+◌, ◌-◌, ◌<◌, ◌≤◌, Bool, true, false, cond, nat_lt, Some, None, List, [], ◌∷◌, ◌++◌, filter, refl, ap, ◌∙◌, sym, append_assoc, append-nil, arith}
+use Rattle.std.proofs.Common.{◌≡◌, ℕ, zero, suc, ◌+◌, ◌-◌, ◌<◌, ◌≤◌, Bool, true, false, cond, nat_lt, Some, None, List, [], ◌∷◌, ◌++◌}
+use Rattle.std.proofs.Common.{filter, refl, ap, ◌∙◌, sym, append_assoc, append-nil, arith}
 use Rattle.std.proofs.lemmas.Bool.Decides.{nat_tests}
 use Rattle.std.specs.List.{range_with_len}
 use Rattle.std.specs.FinSet as set
@@ -37,16 +38,20 @@ pub cells_start : (cells : CellSet) → counted (set.contains cells) 0 ≡ cells
 unfolding counted cells_of
 cells_start cells = all_of (set.contains cells) cell_count
 
-pub cell_passed : (p : ℕ → Bool) (k : ℕ) (xs whole : List ℕ) → p k ≡ false → k < cell_count → xs ++ counted p k ≡ whole → xs ++ counted p (k + 1) ≡ whole
+pub cell_passed : (p : ℕ → Bool) (k : ℕ) (xs whole : List ℕ) → p k ≡ false → k < cell_count → xs ++ counted p k ≡ whole
+    → xs ++ counted p (k + 1) ≡ whole
 unfolding counted
 cell_passed p k xs whole out below so_far =
-    ap (λ (ys : List ℕ). xs ++ ys) (sym (ap (filter p) (range_next k (cell_count - k) cell_count (omega arith) below) ∙ filter_by p k _ false out)) ∙ so_far
+    ap (λ (ys : List ℕ). xs ++ ys) (sym (ap (filter p) (range_next k (cell_count - k) cell_count (omega arith) below)
+    ∙ filter_by p k _ false out)) ∙ so_far
 
-pub cell_taken : (p : ℕ → Bool) (k : ℕ) (xs whole : List ℕ) → p k ≡ true → k < cell_count → xs ++ counted p k ≡ whole → (xs ++ k ∷ []) ++ counted p (k + 1) ≡ whole
+pub cell_taken : (p : ℕ → Bool) (k : ℕ) (xs whole : List ℕ) → p k ≡ true → k < cell_count → xs ++ counted p k ≡ whole
+    → (xs ++ k ∷ []) ++ counted p (k + 1) ≡ whole
 unfolding counted
 cell_taken p k xs whole in_set below so_far =
     append_assoc xs (k ∷ []) _
-    ∙ ap (λ (ys : List ℕ). xs ++ ys) (sym (ap (filter p) (range_next k (cell_count - k) cell_count (omega arith) below) ∙ filter_by p k _ true in_set)) ∙ so_far
+    ∙ ap (λ (ys : List ℕ). xs ++ ys) (sym (ap (filter p) (range_next k (cell_count - k) cell_count (omega arith) below)
+    ∙ filter_by p k _ true in_set)) ∙ so_far
 
 -- all of them were counted
 pub cells_end : (p : ℕ → Bool) (k : ℕ) (xs whole : List ℕ) → cell_count ≤ k → xs ++ counted p k ≡ whole → xs ≡ whole

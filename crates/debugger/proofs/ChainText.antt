@@ -1,5 +1,6 @@
 -- The cells that are followed before a step, and the text of a chain link by link.
-use Rattle.std.proofs.Common.{◌≡◌, ℕ, suc, ◌+◌, ◌==◌, Bool, true, false, not, ◌&&◌, ◌||◌, cond, List, [], ◌∷◌, ◌++◌, length, drop, get_or, ◌<◌, Some, None, Option, refl, sym, ap, ◌∙◌, arith, append_assoc, ◌⊎◌, inl, inr}
+use Rattle.std.proofs.Common.{◌≡◌, ℕ, suc, ◌+◌, ◌==◌, Bool, true, false, not, ◌&&◌, ◌||◌, cond, List, [], ◌∷◌, ◌++◌, length, drop, get_or}
+use Rattle.std.proofs.Common.{◌<◌, Some, None, Option, refl, sym, ap, ◌∙◌, arith, append_assoc, ◌⊎◌, inl, inr}
 use Rattle.std.proofs.lemmas.Bool.Decides.{nat_tests}
 use Rattle.std.proofs.lemmas.Bool.{cases_Bool}
 use Rattle.std.proofs.Math.Seq.{drop-cons}
@@ -16,7 +17,8 @@ use Rattle.cpu.specs.declared.spot.Spot.TheVariants.{Cell, InRope}
 use Rattle.cpu.proofs.Chaining.{own_source}
 use Rattle.replay.specs.Whys.{and_then, last_writer, why_steps}
 use Rattle.commands.specs.declared.extended.LinkLines.{LinkLines}
-use Rattle.debugger.specs.Whys.{CellSet, those_in, left_in, has_spot, with_spots, reads, with_cells, cells_before, link_lines, chain_text, end_from, chained_text, why_text}
+use Rattle.debugger.specs.Whys.{CellSet, those_in, left_in, has_spot, with_spots, reads, with_cells, cells_before, link_lines, chain_text}
+use Rattle.debugger.specs.Whys.{end_from, chained_text, why_text}
 
 -- whether a cell is among some spots
 has_cell : List Spot → ℕ → Bool
@@ -63,11 +65,13 @@ added_has cells (Cell c ∷ xs) q =
 added_has cells (InRope bank offset ∷ xs) q = added_has cells xs q
 
 -- a cell is taken out
-out_has : (cells : CellSet) (c q : ℕ) (b : Bool) → set.contains cells c ≡ b → set.contains (cond b (set.remove cells c) cells) q ≡ (not (q == c) && set.contains cells q)
+out_has : (cells : CellSet) (c q : ℕ) (b : Bool) → set.contains cells c ≡ b
+    → set.contains (cond b (set.remove cells c) cells) q ≡ (not (q == c) && set.contains cells q)
 out_has cells c q true h = let one = set.contains-remove nat_cmp_total cells c q in grind (arith, nat_tests)
 out_has cells c q false h =
     elim (cases_Bool (q == c)) [
-      | inl same ↦ let e : q ≡ c = grind (arith, nat_tests) in let none : set.contains cells q ≡ false = ap (set.contains cells) e ∙ h in rw (same, none) refl
+      | inl same ↦ let e : q ≡ c = grind (arith, nat_tests) in let none : set.contains cells q
+          ≡ false = ap (set.contains cells) e ∙ h in rw (same, none) refl
       | inr other ↦ rw other refl
     ]
 
@@ -85,13 +89,16 @@ taken_by c cs cells q true h later =
     let rest = later (set.remove cells c) in
     let one = set.contains-remove nat_cmp_total cells c q in
     elim (cases_Bool (q == c)) [
-      | inl same ↦ let e : q ≡ c = grind (arith, nat_tests) in let some : set.contains cells q ≡ true = ap (set.contains cells) e ∙ h in rw (same, some) refl
+      | inl same ↦ let e : q ≡ c = grind (arith, nat_tests) in let some : set.contains cells q
+          ≡ true = ap (set.contains cells) e ∙ h in rw (same, some) refl
       | inr other ↦ let gone : eq_by_cmp nat_cmp q c ≡ false = grind (arith, nat_tests) in rw (other, rest, one, gone) refl
     ]
 taken_by c cs cells q false h later =
     let rest = later cells in
     elim (cases_Bool (q == c)) [
-      | inl same ↦ let e : q ≡ c = grind (arith, nat_tests) in let none : set.contains cells q ≡ false = ap (set.contains cells) e ∙ h in rw (rest, none) (grind (arith, nat_tests))
+      | inl same ↦ let e : q ≡ c = grind (arith, nat_tests) in let none : set.contains cells q
+          ≡ false = ap (set.contains cells) e
+          ∙ h in rw (rest, none) (grind (arith, nat_tests))
       | inr other ↦ rw (rest, other) refl
     ]
 
@@ -136,17 +143,20 @@ told_by told x xs q true here more =
       ]
     ])
 told_by told x xs q false here more =
-    more (told ++ x ∷ []) ∙ ap (λ b. b || has_cell xs q) (has_append told (x ∷ []) q) ∙ or_assoc (has_cell told q) (has_cell (x ∷ []) q) (has_cell xs q)
+    more (told ++ x ∷ []) ∙ ap (λ b. b || has_cell xs q) (has_append told (x ∷ []) q)
+    ∙ or_assoc (has_cell told q) (has_cell (x ∷ []) q) (has_cell xs q)
 
 told_has : (told xs : List Spot) (q : ℕ) → has_cell (with_spots told xs) q ≡ (has_cell told q || has_cell xs q)
 unfolding has_cell
-told_has told [] q = same_truth _ _ (λ h. left_of _ _ h) (λ h. elim (either (has_cell told q) false h) [ inl old ↦ old | inr none ↦ absurd cc ])
+told_has told [] q = same_truth _ _ (λ h. left_of _ _ h)
+    (λ h. elim (either (has_cell told q) false h) [ inl old ↦ old | inr none ↦ absurd cc ])
 told_has told (x ∷ xs) q =
     told_by told x xs q (has_spot told x) refl (λ others. told_has others xs q)
     ∙ ap (λ b. has_cell told q || b) (sym (has_append (x ∷ []) xs q))
 
 -- the cells from which cells come
-through_cell : (k : Link) (xs : List Spot) (c q : ℕ) → has_cell xs c ≡ true → has_cell (sources k (Cell c)) q ≡ true → has_cell (flat_map (sources k) xs) q ≡ true
+through_cell : (k : Link) (xs : List Spot) (c q : ℕ) → has_cell xs c ≡ true → has_cell (sources k (Cell c)) q ≡ true
+    → has_cell (flat_map (sources k) xs) q ≡ true
 unfolding has_cell
 through_cell k [] c q here has = absurd cc
 through_cell k (Cell d ∷ xs) c q here has =
@@ -156,23 +166,29 @@ through_cell k (Cell d ∷ xs) c q here has =
       | inr later ↦ right_of (has_cell (sources k (Cell d)) q) _ (through_cell k xs c q later has)
     ]
 through_cell k (InRope bank offset ∷ xs) c q here has =
-    has_append (sources k (InRope bank offset)) (flat_map (sources k) xs) q ∙ right_of (has_cell (sources k (InRope bank offset)) q) _ (through_cell k xs c q here has)
+    has_append (sources k (InRope bank offset)) (flat_map (sources k) xs) q
+    ∙ right_of (has_cell (sources k (InRope bank offset)) q) _ (through_cell k xs c q here has)
 
-from_cell : (k : Link) (xs : List Spot) (q : ℕ) → has_cell (flat_map (sources k) xs) q ≡ true → (c : ℕ) × (has_cell xs c ≡ true) × (has_cell (sources k (Cell c)) q ≡ true)
+from_cell : (k : Link) (xs : List Spot) (q : ℕ) → has_cell (flat_map (sources k) xs) q ≡ true
+    → (c : ℕ) × (has_cell xs c ≡ true) × (has_cell (sources k (Cell c)) q ≡ true)
 unfolding has_cell
 from_cell k [] q has = absurd cc
 from_cell k (Cell d ∷ xs) q has =
-    elim (either (has_cell (sources k (Cell d)) q) (has_cell (flat_map (sources k) xs) q) (sym (has_append (sources k (Cell d)) (flat_map (sources k) xs) q) ∙ has)) [
+    elim (either (has_cell (sources k (Cell d)) q) (has_cell (flat_map (sources k) xs) q)
+    (sym (has_append (sources k (Cell d)) (flat_map (sources k) xs) q) ∙ has)) [
       | inl here ↦ (d, left_of (d == d) _ (grind (arith, nat_tests)), here)
       | inr later ↦ let f = from_cell k xs q later in (f.0, right_of (f.0 == d) _ f.1, f.2)
     ]
 from_cell k (InRope bank offset ∷ xs) q has =
-    elim (either (has_cell (sources k (InRope bank offset)) q) (has_cell (flat_map (sources k) xs) q) (sym (has_append (sources k (InRope bank offset)) (flat_map (sources k) xs) q) ∙ has)) [
-      | inl here ↦ let none : has_cell (sources k (InRope bank offset)) q ≡ false = ap (λ (ys : List Spot). has_cell ys q) (own_source k (InRope bank offset) refl) in absurd cc
+    elim (either (has_cell (sources k (InRope bank offset)) q) (has_cell (flat_map (sources k) xs) q)
+    (sym (has_append (sources k (InRope bank offset)) (flat_map (sources k) xs) q) ∙ has)) [
+      | inl here ↦ let none : has_cell (sources k (InRope bank offset)) q
+          ≡ false = ap (λ (ys : List Spot). has_cell ys q) (own_source k (InRope bank offset) refl) in absurd cc
       | inr later ↦ from_cell k xs q later
     ]
 
-through_target : (k : Link) (cs : List ℕ) (c q : ℕ) → is_in c cs ≡ true → has_cell (sources k (Cell c)) q ≡ true → has_cell (flat_map (λ d. sources k (Cell d)) cs) q ≡ true
+through_target : (k : Link) (cs : List ℕ) (c q : ℕ) → is_in c cs ≡ true → has_cell (sources k (Cell c)) q ≡ true
+    → has_cell (flat_map (λ d. sources k (Cell d)) cs) q ≡ true
 through_target k [] c q here has = absurd cc
 through_target k (d ∷ cs) c q here has =
     has_append (sources k (Cell d)) (flat_map (λ d. sources k (Cell d)) cs) q
@@ -181,11 +197,13 @@ through_target k (d ∷ cs) c q here has =
       | inr later ↦ right_of (has_cell (sources k (Cell d)) q) _ (through_target k cs c q later has)
     ]
 
-from_target : (k : Link) (cs : List ℕ) (q : ℕ) → has_cell (flat_map (λ d. sources k (Cell d)) cs) q ≡ true → (c : ℕ) × (is_in c cs ≡ true) × (has_cell (sources k (Cell c)) q ≡ true)
+from_target : (k : Link) (cs : List ℕ) (q : ℕ) → has_cell (flat_map (λ d. sources k (Cell d)) cs) q ≡ true
+    → (c : ℕ) × (is_in c cs ≡ true) × (has_cell (sources k (Cell c)) q ≡ true)
 unfolding has_cell
 from_target k [] q has = absurd cc
 from_target k (d ∷ cs) q has =
-    elim (either (has_cell (sources k (Cell d)) q) (has_cell (flat_map (λ d. sources k (Cell d)) cs) q) (sym (has_append (sources k (Cell d)) (flat_map (λ d. sources k (Cell d)) cs) q) ∙ has)) [
+    elim (either (has_cell (sources k (Cell d)) q) (has_cell (flat_map (λ d. sources k (Cell d)) cs) q)
+    (sym (has_append (sources k (Cell d)) (flat_map (λ d. sources k (Cell d)) cs) q) ∙ has)) [
       | inl here ↦ (d, left_of (d == d) _ (grind (arith, nat_tests)), here)
       | inr later ↦ let f = from_target k cs q later in (f.0, right_of (f.0 == d) _ f.1, f.2)
     ]
@@ -218,14 +236,20 @@ module _ (k : Link) (xs : List Spot) (q : ℕ) where
   told : List ℕ
   told = those_in (targets k) (cells_among xs)
 
-  before_is : set.contains (cells_before k (cells_among xs)) q ≡ ((not (is_in q (targets k)) && has_cell xs q) || has_cell (flat_map (λ c. sources k (Cell c)) (those_in (targets k) (cells_among xs))) q)
+  before_is : set.contains (cells_before k (cells_among xs)) q
+      ≡ ((not (is_in q (targets k)) && has_cell xs q)
+      || has_cell (flat_map (λ c. sources k (Cell c)) (those_in (targets k) (cells_among xs))) q)
   unfolding has_cell
   before_is =
       added_has (left_in (targets k) (cells_among xs)) (reads k (those_in (targets k) (cells_among xs))) q
-      ∙ ap (λ b. b || has_cell (reads k (those_in (targets k) (cells_among xs))) q) (left_has (targets k) (cells_among xs) q ∙ ap (λ b. not (is_in q (targets k)) && b) (among_has xs q))
-      ∙ ap (λ b. (not (is_in q (targets k)) && has_cell xs q) || b) (told_has [] (flat_map (λ c. sources k (Cell c)) (those_in (targets k) (cells_among xs))) q)
+      ∙ ap (λ b. b || has_cell (reads k (those_in (targets k) (cells_among xs))) q)
+      (left_has (targets k) (cells_among xs) q ∙ ap (λ b. not (is_in q (targets k)) && b) (among_has xs q))
+      ∙ ap (λ b. (not (is_in q (targets k)) && has_cell xs q) || b)
+      (told_has [] (flat_map (λ c. sources k (Cell c)) (those_in (targets k) (cells_among xs))) q)
 
-  to : ((not (is_in q (targets k)) && has_cell xs q) || has_cell (flat_map (λ c. sources k (Cell c)) (those_in (targets k) (cells_among xs))) q) ≡ true → has_cell (flat_map (sources k) xs) q ≡ true
+  to : ((not (is_in q (targets k)) && has_cell xs q)
+      || has_cell (flat_map (λ c. sources k (Cell c)) (those_in (targets k) (cells_among xs))) q) ≡ true
+      → has_cell (flat_map (sources k) xs) q ≡ true
   to h =
       elim (either (not (is_in q (targets k)) && has_cell xs q) _ h) [
         | inl stays ↦ let own = own_source k (Cell q) (negated (is_in q (targets k)) (both_first _ _ stays)) in
@@ -235,11 +259,14 @@ module _ (k : Link) (xs : List Spot) (q : ℕ) where
             through_cell k xs f.0 q (sym (among_has xs f.0) ∙ both_second (is_in f.0 (targets k)) _ here) f.2
       ]
 
-  from : has_cell (flat_map (sources k) xs) q ≡ true → ((not (is_in q (targets k)) && has_cell xs q) || has_cell (flat_map (λ c. sources k (Cell c)) (those_in (targets k) (cells_among xs))) q) ≡ true
+  from : has_cell (flat_map (sources k) xs) q ≡ true
+      → ((not (is_in q (targets k)) && has_cell xs q)
+      || has_cell (flat_map (λ c. sources k (Cell c)) (those_in (targets k) (cells_among xs))) q) ≡ true
   from h =
       let f = from_cell k xs q h in
       elim (cases_Bool (is_in f.0 (targets k))) [
-        | inl written ↦ right_of (not (is_in q (targets k)) && has_cell xs q) _ (through_target k (those_in (targets k) (cells_among xs)) f.0 q
+        | inl written ↦ right_of (not (is_in q (targets k)) && has_cell xs q) _
+            (through_target k (those_in (targets k) (cells_among xs)) f.0 q
             (taken_has (targets k) (cells_among xs) f.0 ∙ both _ _ written (among_has xs f.0 ∙ f.1)) f.2)
         | inr kept ↦
             let own = own_source k (Cell f.0) kept in
@@ -257,11 +284,14 @@ with_more here [] ys = refl
 with_more here (x ∷ xs) ys = with_more (cond (has_spot here x) here (here ++ x ∷ [])) xs ys
 
 -- what was read for the cells up to one, and for that cell
-pub read_more : (k : Link) (cs : List ℕ) (i c : ℕ) (old new whole : List Spot) → i < length cs → c ≡ get_or cs i c → new ≡ with_spots old (sources k (Cell c))
-    → with_spots old (flat_map (λ d. sources k (Cell d)) (drop i cs)) ≡ whole → with_spots new (flat_map (λ d. sources k (Cell d)) (drop (i + 1) cs)) ≡ whole
+pub read_more : (k : Link) (cs : List ℕ) (i c : ℕ) (old new whole : List Spot) → i < length cs → c ≡ get_or cs i c
+    → new ≡ with_spots old (sources k (Cell c))
+    → with_spots old (flat_map (λ d. sources k (Cell d)) (drop i cs)) ≡ whole
+    → with_spots new (flat_map (λ d. sources k (Cell d)) (drop (i + 1) cs)) ≡ whole
 read_more k cs i c old new whole within is read so_far =
     let next : suc i ≡ i + 1 = omega arith in
-    let here : drop i cs ≡ c ∷ drop (i + 1) cs = drop-cons cs i c within ∙ ap (λ d. d ∷ drop (suc i) cs) (sym is) ∙ ap (λ n. c ∷ drop n cs) next in
+    let here : drop i cs ≡ c ∷ drop (i + 1) cs = drop-cons cs i c within ∙ ap (λ d. d ∷ drop (suc i) cs) (sym is)
+    ∙ ap (λ n. c ∷ drop n cs) next in
     ap (λ (xs : List Spot). with_spots xs (flat_map (λ d. sources k (Cell d)) (drop (i + 1) cs))) read
     ∙ sym (with_more old (sources k (Cell c)) (flat_map (λ d. sources k (Cell d)) (drop (i + 1) cs)))
     ∙ ap (λ (ds : List ℕ). with_spots old (flat_map (λ d. sources k (Cell d)) ds)) (sym here)
@@ -277,12 +307,16 @@ module _ (symbols : SymbolTable) (scenario : Scenario) (lines : LinkLines) (p : 
   unfolding why_text why_steps
   why_none k none =
       let short : (0 == suc k) ≡ false = grind (arith, nat_tests) in
-      ap (λ (o : Option ℕ). chained_text symbols scenario lines (suc k) xs (and_then o (λ t. why_steps scenario k t (before_step scenario t xs)))) none
+      ap (λ (o : Option ℕ). chained_text symbols scenario lines (suc k) xs
+      (and_then o (λ t. why_steps scenario k t (before_step scenario t xs)))) none
       ∙ ap (λ b. end_from symbols b xs) short
 
-  pub why_some : (k t : ℕ) → last_writer scenario xs p ≡ Some t → why_text symbols scenario lines (suc k) p xs ≡ link_lines symbols scenario lines t xs ++ why_text symbols scenario lines k t (before_step scenario t xs)
+  pub why_some : (k t : ℕ) → last_writer scenario xs p ≡ Some t
+      → why_text symbols scenario lines (suc k) p xs
+      ≡ link_lines symbols scenario lines t xs ++ why_text symbols scenario lines k t (before_step scenario t xs)
   unfolding why_text why_steps
   why_some k t some =
       let ts = why_steps scenario k t (before_step scenario t xs) in
       let one : (suc (length ts) == suc k) ≡ (length ts == k) = grind (arith, nat_tests) in
-      rw (some, one) (append_assoc (link_lines symbols scenario lines t xs) (chain_text symbols scenario lines (before_step scenario t xs) ts) _)
+      rw (some, one) (append_assoc (link_lines symbols scenario lines t xs)
+      (chain_text symbols scenario lines (before_step scenario t xs) ts) _)

@@ -43,15 +43,23 @@ abbrev desk : List Entry → ℕ → ℕ → Desk
 desk more steps position =
     record { scenario = loop more; steps = steps; position = position; breakpoints = []; answers = []; additions = [] }
 
-added_inputs : transcript [] (first_desk (loop []) [] []) (ended (codes "run 12" ∷ codes "add 11 TIME1 PINC" ∷ codes "add 12 TIME1 PINC" ∷ codes "run 2" ∷ codes "mem 25" ∷ codes "goto 12" ∷ codes "mem 25" ∷ []))
-    ≡ ended (codes "AT 12 11 4000" ∷ codes "E42 TOO EARLY" ∷ codes "ADDED" ∷ codes "AT 14 13 4000" ∷ codes "MEM 00005" ∷ codes "AT 12 11 4000" ∷ codes "MEM 00004" ∷ [])
-unfolding transcript parsed_line forms runs command_lines lines answer reply grow lowest_hit at_line digits octal_text place parsed counters sequences channel_lines with_added inserted is_before
+added_inputs : transcript [] (first_desk (loop []) [] [])
+    (ended (codes "run 12" ∷ codes "add 11 TIME1 PINC" ∷ codes "add 12 TIME1 PINC" ∷ codes "run 2" ∷ codes "mem 25" ∷ codes "goto 12"
+    ∷ codes "mem 25" ∷ []))
+    ≡ ended (codes "AT 12 11 4000" ∷ codes "E42 TOO EARLY" ∷ codes "ADDED" ∷ codes "AT 14 13 4000" ∷ codes "MEM 00005"
+    ∷ codes "AT 12 11 4000" ∷ codes "MEM 00004" ∷ [])
+unfolding transcript parsed_line forms runs command_lines lines answer reply grow lowest_hit at_line digits octal_text place parsed counters
+    sequences channel_lines with_added inserted is_before
 added_inputs =
-    replies-line [] before (desk [] 0 0) (codes "run 12") (codes "add 11 TIME1 PINC" ∷ codes "add 12 TIME1 PINC" ∷ codes "run 2" ∷ codes "mem 25" ∷ codes "goto 12" ∷ codes "mem 25" ∷ []) history-before
+    replies-line [] before (desk [] 0 0) (codes "run 12")
+    (codes "add 11 TIME1 PINC" ∷ codes "add 12 TIME1 PINC" ∷ codes "run 2" ∷ codes "mem 25" ∷ codes "goto 12" ∷ codes "mem 25" ∷ [])
+    history-before
     ∙ ap (λ t. ended (codes "AT 12 11 4000" ∷ []) ++ t) (
-    replies-line [] before (desk [] 12 12) (codes "add 11 TIME1 PINC") (codes "add 12 TIME1 PINC" ∷ codes "run 2" ∷ codes "mem 25" ∷ codes "goto 12" ∷ codes "mem 25" ∷ []) history-before
+    replies-line [] before (desk [] 12 12) (codes "add 11 TIME1 PINC")
+    (codes "add 12 TIME1 PINC" ∷ codes "run 2" ∷ codes "mem 25" ∷ codes "goto 12" ∷ codes "mem 25" ∷ []) history-before
     ∙ ap (λ t. ended (codes "E42 TOO EARLY" ∷ []) ++ t) (
-    replies-line [] before (desk [] 12 12) (codes "add 12 TIME1 PINC") (codes "run 2" ∷ codes "mem 25" ∷ codes "goto 12" ∷ codes "mem 25" ∷ []) history-before
+    replies-line [] before (desk [] 12 12) (codes "add 12 TIME1 PINC")
+    (codes "run 2" ∷ codes "mem 25" ∷ codes "goto 12" ∷ codes "mem 25" ∷ []) history-before
     ∙ ap (λ t. ended (codes "ADDED" ∷ []) ++ t) (
     replies-line [] then (desk (added ∷ []) 12 12) (codes "run 2") (codes "mem 25" ∷ codes "goto 12" ∷ codes "mem 25" ∷ []) history-then
     ∙ ap (λ t. ended (codes "AT 14 13 4000" ∷ []) ++ t) (
@@ -65,20 +73,24 @@ added_inputs =
 abbrev holds_after : History → Breakpoint → List Bool
 holds_after h breakpoint = map (λ t. is_some (hit_at h (breakpoint ∷ []) t)) (range_with_len 0 13)
 
-next_at_the_loop : holds_after (history (loop [])) (Place (Fixed 2 0)) ≡ true ∷ true ∷ true ∷ true ∷ true ∷ true ∷ true ∷ true ∷ true ∷ true ∷ true ∷ true ∷ true ∷ []
+next_at_the_loop : holds_after (history (loop [])) (Place (Fixed 2 0))
+    ≡ true ∷ true ∷ true ∷ true ∷ true ∷ true ∷ true ∷ true ∷ true ∷ true ∷ true ∷ true ∷ true ∷ []
 unfolding lowest_hit place
 next_at_the_loop = ap (λ h. holds_after h (Place (Fixed 2 0))) history-before ∙ refl
 
-executed_in_the_loop : holds_after (history (loop [])) (Executed (Fixed 2 0)) ≡ false ∷ true ∷ true ∷ true ∷ false ∷ true ∷ false ∷ false ∷ true ∷ true ∷ false ∷ true ∷ false ∷ []
+executed_in_the_loop : holds_after (history (loop [])) (Executed (Fixed 2 0))
+    ≡ false ∷ true ∷ true ∷ true ∷ false ∷ true ∷ false ∷ false ∷ true ∷ true ∷ false ∷ true ∷ false ∷ []
 unfolding lowest_hit place due
 executed_in_the_loop = ap (λ h. holds_after h (Executed (Fixed 2 0))) history-before ∙ refl
 
 -- a pulse changes the counter, and a key the word of its channel; the jump leaves Z what it is
-counted_in_the_loop : holds_after (history (loop [])) (Changed (subject.Place 0o25)) ≡ false ∷ false ∷ false ∷ false ∷ true ∷ false ∷ true ∷ false ∷ false ∷ false ∷ true ∷ false ∷ true ∷ []
+counted_in_the_loop : holds_after (history (loop [])) (Changed (subject.Place 0o25))
+    ≡ false ∷ false ∷ false ∷ false ∷ true ∷ false ∷ true ∷ false ∷ false ∷ false ∷ true ∷ false ∷ true ∷ []
 unfolding lowest_hit place due
 counted_in_the_loop = ap (λ h. holds_after h (Changed (subject.Place 0o25))) history-before ∙ refl
 
-key_in_the_loop : holds_after (history (loop [])) (Changed (subject.Channel 0o15)) ≡ false ∷ false ∷ false ∷ false ∷ false ∷ false ∷ false ∷ true ∷ false ∷ false ∷ false ∷ false ∷ false ∷ []
+key_in_the_loop : holds_after (history (loop [])) (Changed (subject.Channel 0o15))
+    ≡ false ∷ false ∷ false ∷ false ∷ false ∷ false ∷ false ∷ true ∷ false ∷ false ∷ false ∷ false ∷ false ∷ []
 unfolding lowest_hit place due
 key_in_the_loop = ap (λ h. holds_after h (Changed (subject.Channel 0o15))) history-before ∙ refl
 

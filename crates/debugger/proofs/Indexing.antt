@@ -21,7 +21,8 @@ is_told (Takes input) = false
 is_told (Enters k) = false
 is_told (Executes f) = true
 
-same_by : (rope : Words) (s : State) (given : Option (Input × Option ℕ)) (k : Option ℕ) → is_told (next_step_by rope s given k) ≡ is_instruction (link_by rope s given k)
+same_by : (rope : Words) (s : State) (given : Option (Input × Option ℕ)) (k : Option ℕ)
+    → is_told (next_step_by rope s given k) ≡ is_instruction (link_by rope s given k)
 same_by rope s (Some given) k = refl
 same_by rope s None (Some k) = refl
 same_by rope s None None = refl
@@ -36,6 +37,7 @@ found_at : (t : ℕ) (b : Bool) (last : Option (ℕ × ℕ)) (rest : Option ℕ)
 found_at t true last rest e = refl
 found_at t false last rest e = e
 
-pub found_executed : (step : ℕ → Link) (p : ℕ) → option_map (λ (r : ℕ × ℕ). r.0) (last_found (λ t. instruction_found (step t)) p) ≡ last_hit (λ t. is_instruction (step t)) p
+pub found_executed : (step : ℕ → Link) (p : ℕ)
+    → option_map (λ (r : ℕ × ℕ). r.0) (last_found (λ t. instruction_found (step t)) p) ≡ last_hit (λ t. is_instruction (step t)) p
 found_executed step zero = refl
 found_executed step (suc t) = found_at t (is_instruction (step t)) _ _ (found_executed step t)

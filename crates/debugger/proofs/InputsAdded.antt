@@ -1,5 +1,6 @@
 -- Inputs that are added.
-use Rattle.std.proofs.Common.{◌≡◌, ℕ, ◌<◌, ◌≤◌, true, false, ltb, leb, max, inl, inr, ⊎_elim, List, [], ◌∷◌, Some, None, refl, sym, ap, ◌∙◌, arith}
+use Rattle.std.proofs.Common.{◌≡◌, ℕ, ◌<◌, ◌≤◌, true, false, ltb, leb, max, inl, inr, ⊎_elim, List, [], ◌∷◌, Some, None, refl, sym, ap, ◌∙◌}
+use Rattle.std.proofs.Common.{arith}
 use Rattle.std.proofs.lemmas.Bool.{cases_lt}
 use Rattle.std.proofs.lemmas.Bool.Decides.{nat_tests}
 use Rattle.feed.specs.Added.{LinesBelow, AddsLast, plain_on}
@@ -27,11 +28,13 @@ greater : (a b : ℕ) → b ≤ a → max a b ≡ a
 greater a b h = omega arith
 
 -- what runs once an input was added
-added_is : (old new : Scenario) (cycle : ℕ) (input : Input) → new.rope ≡ old.rope → (a : AddsLast old.inputs cycle input new.inputs) → new ≡ with_added a.line cycle input old
+added_is : (old new : Scenario) (cycle : ℕ) (input : Input) → new.rope ≡ old.rope → (a : AddsLast old.inputs cycle input new.inputs)
+    → new ≡ with_added a.line cycle input old
 unfolding with_added
 added_is old new cycle input rope a =
     let place : new.inputs ≡ inserted (plain_on (max a.line (line_after old.inputs)) cycle input) old.inputs =
-    a.new_is ∙ sym (ap (λ (l : ℕ). inserted (plain_on l cycle input) old.inputs) (greater a.line (line_after old.inputs) (after-all old.inputs a.line a.after))) in
+    a.new_is ∙ sym (ap (λ (l : ℕ). inserted (plain_on l cycle input) old.inputs)
+    (greater a.line (line_after old.inputs) (after-all old.inputs a.line a.after))) in
     λ i. record { rope = rope i; inputs = place i }
 
 below : (a b : ℕ) → b ≤ a → ltb a b ≡ false
@@ -53,46 +56,84 @@ not_early cycle cycles h = ⊎_elim (λ lt. lt) (λ le. absurd (h le)) (cases_lt
 -- the present before an input was added
 pub present-before : (s t : SessionView) (cycle : ℕ) (input : Input) → HasAdded s cycle input t → s.present ≡ run s.scenario s.n
 present-before s t cycle input a =
-    sym (ap (λ (v : SessionView). v.present) a.same) ∙ a.stands.present ∙ ap (λ (n : ℕ). run t.scenario n) (ap (λ (v : SessionView). v.n) a.same) ∙ (a.alike s.n (omega arith)).state
+    sym (ap (λ (v : SessionView). v.present) a.same) ∙ a.stands.present
+    ∙ ap (λ (n : ℕ). run t.scenario n) (ap (λ (v : SessionView). v.n) a.same) ∙ (a.alike s.n (omega arith)).state
 
 module _ (s : SessionView) (p : ℕ) (bs : List Breakpoint) (cycle : ℕ) (input : Input) (text : List ℕ) where
   -- the cycle has too many digits
-  pub adding-long : greatest_cycle < cycle → text ≡ line (69 ∷ 53 ∷ 48 ∷ 32 ∷ 67 ∷ 79 ∷ 77 ∷ 77 ∷ 65 ∷ 78 ∷ 68 ∷ []) → BringsAdding (desk s p bs) (Known (Add cycle input)) text (desk s p bs)
+  pub adding-long : greatest_cycle < cycle → text ≡ line (69 ∷ 53 ∷ 48 ∷ 32 ∷ 67 ∷ 79 ∷ 77 ∷ 77 ∷ 65 ∷ 78 ∷ 68 ∷ [])
+      → BringsAdding (desk s p bs) (Known (Add cycle input)) text (desk s p bs)
   unfolding answer reply
   adding-long far e = record { additions = []; brings = λ m answers later. rw (above greatest_cycle cycle far, e) refl }
 
   -- it isn't above those of the present
-  pub adding-early : cycle ≤ greatest_cycle → s.present ≡ run s.scenario s.n → cycle ≤ s.present.cycles → text ≡ line (69 ∷ 52 ∷ 50 ∷ 32 ∷ 84 ∷ 79 ∷ 79 ∷ 32 ∷ 69 ∷ 65 ∷ 82 ∷ 76 ∷ 89 ∷ []) → BringsAdding (desk s p bs) (Known (Add cycle input)) text (desk s p bs)
+  pub adding-early : cycle ≤ greatest_cycle → s.present ≡ run s.scenario s.n → cycle ≤ s.present.cycles
+      → text ≡ line (69 ∷ 52 ∷ 50 ∷ 32 ∷ 84 ∷ 79 ∷ 79 ∷ 32 ∷ 69 ∷ 65 ∷ 82 ∷ 76 ∷ 89 ∷ [])
+      → BringsAdding (desk s p bs) (Known (Add cycle input)) text (desk s p bs)
   unfolding answer reply history
   adding-early short present early e =
       let past : cycle ≤ (run s.scenario s.n).cycles = (let q = ap (λ (m : State). m.cycles) present in omega arith) in
-      record { additions = []; brings = λ m answers later. rw (below greatest_cycle cycle short, within cycle (run s.scenario s.n).cycles past, e) refl }
+      record {
+        additions = [];
+        brings = λ m answers later. rw
+            (below greatest_cycle cycle short, within cycle (run s.scenario s.n).cycles past, e) refl;
+      }
 
   -- too many stand
-  pub adding-many : cycle ≤ greatest_cycle → s.present ≡ run s.scenario s.n → s.present.cycles < cycle → most_plain_inputs ≤ plain_inputs s.scenario → text ≡ line (69 ∷ 51 ∷ 50 ∷ 32 ∷ 84 ∷ 79 ∷ 79 ∷ 32 ∷ 77 ∷ 65 ∷ 78 ∷ 89 ∷ [])
+  pub adding-many : cycle ≤ greatest_cycle → s.present ≡ run s.scenario s.n → s.present.cycles < cycle
+      → most_plain_inputs ≤ plain_inputs s.scenario → text ≡ line (69 ∷ 51 ∷ 50 ∷ 32 ∷ 84 ∷ 79 ∷ 79 ∷ 32 ∷ 77 ∷ 65 ∷ 78 ∷ 89 ∷ [])
       → BringsAdding (desk s p bs) (Known (Add cycle input)) text (desk s p bs)
   unfolding answer reply history
   adding-many short present late full e =
       let future : (run s.scenario s.n).cycles < cycle = (let q = ap (λ (m : State). m.cycles) present in omega arith) in
-      record { additions = []; brings = λ m answers later. rw (below greatest_cycle cycle short, beyond cycle (run s.scenario s.n).cycles future, within most_plain_inputs (plain_inputs s.scenario) full, e) refl }
+      record {
+        additions = [];
+        brings = λ m answers later. rw (
+          below greatest_cycle cycle short,
+          beyond cycle (run s.scenario s.n).cycles future,
+          within most_plain_inputs
+              (plain_inputs s.scenario) full,
+          e,
+        ) refl;
+      }
 
   -- memory runs out
-  pub adding-refused : cycle ≤ greatest_cycle → s.present ≡ run s.scenario s.n → s.present.cycles < cycle → plain_inputs s.scenario < most_plain_inputs → text ≡ line (69 ∷ 50 ∷ 32 ∷ 77 ∷ 69 ∷ 77 ∷ 79 ∷ 82 ∷ 89 ∷ [])
+  pub adding-refused : cycle ≤ greatest_cycle → s.present ≡ run s.scenario s.n → s.present.cycles < cycle
+      → plain_inputs s.scenario < most_plain_inputs → text ≡ line (69 ∷ 50 ∷ 32 ∷ 77 ∷ 69 ∷ 77 ∷ 79 ∷ 82 ∷ 89 ∷ [])
       → BringsAdding (desk s p bs) (Known (Add cycle input)) text (desk s p bs)
   unfolding answer reply history
   adding-refused short present late room e =
       let future : (run s.scenario s.n).cycles < cycle = (let q = ap (λ (m : State). m.cycles) present in omega arith) in
-      record { additions = None ∷ []; brings = λ m answers later. rw (below greatest_cycle cycle short, beyond cycle (run s.scenario s.n).cycles future, beyond most_plain_inputs (plain_inputs s.scenario) room, e) refl }
+      record {
+        additions = None ∷ [];
+        brings = λ m answers later. rw (
+          below greatest_cycle cycle short,
+          beyond cycle (run s.scenario s.n).cycles future,
+          beyond most_plain_inputs
+              (plain_inputs s.scenario) room,
+          e,
+        ) refl;
+      }
 
   -- it is added
-  pub adding-added : (t : SessionView) → cycle ≤ greatest_cycle → (run s.scenario s.n).cycles < cycle → plain_inputs s.scenario < most_plain_inputs → HasAdded s cycle input t → text ≡ line (65 ∷ 68 ∷ 68 ∷ 69 ∷ 68 ∷ [])
+  pub adding-added : (t : SessionView) → cycle ≤ greatest_cycle → (run s.scenario s.n).cycles < cycle
+      → plain_inputs s.scenario < most_plain_inputs → HasAdded s cycle input t → text ≡ line (65 ∷ 68 ∷ 68 ∷ 69 ∷ 68 ∷ [])
       → BringsAdding (desk s p bs) (Known (Add cycle input)) text (desk t p bs)
   unfolding answer reply history
   adding-added t short future room added e =
-      let scene : t.scenario ≡ with_added added.inputs.line cycle input s.scenario = added_is s.scenario t.scenario cycle input added.rope added.inputs in
+      let scene : t.scenario ≡ with_added added.inputs.line cycle input s.scenario = added_is s.scenario t.scenario cycle input added.rope
+      added.inputs in
       let steps : t.n ≡ s.n = ap (λ (v : SessionView). v.n) added.same in
       record {
         additions = Some added.inputs.line ∷ [];
         brings = λ m answers later.
-            rw (below greatest_cycle cycle short, beyond cycle (run s.scenario s.n).cycles future, beyond most_plain_inputs (plain_inputs s.scenario) room, e, steps, scene) refl;
+            rw (
+              below greatest_cycle cycle short,
+              beyond cycle (run s.scenario s.n).cycles future,
+              beyond most_plain_inputs
+                  (plain_inputs s.scenario) room,
+              e,
+              steps,
+              scene,
+            ) refl;
       }

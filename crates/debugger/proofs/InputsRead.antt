@@ -1,5 +1,7 @@
 -- The lines that `inputs` tells, read as a feed.
-use Rattle.std.proofs.Common.{◌≡◌, ◌<◌, ◌≤◌, ◌+◌, ◌/◌, ◌%◌, ◌^◌, ◌&&◌, not, eqb, nat_le, ℕ, List, [], ◌∷◌, ◌++◌, length, take, drop, get_or, map, filter, All, Some, Ok, Bool, true, false, refl, arith, ◌∙◌, ap, sym, inl, inr, append_assoc, length-append}
+use Rattle.std.proofs.Common.{◌≡◌, ◌<◌, ◌≤◌, ◌+◌, ◌/◌, ◌%◌, ◌^◌, ◌&&◌, not, eqb, nat_le, ℕ, List, [], ◌∷◌, ◌++◌, length, take, drop, get_or}
+use Rattle.std.proofs.Common.{map, filter, All, Some, Ok, Bool, true, false, refl, arith, ◌∙◌, ap, sym, inl, inr, append_assoc}
+use Rattle.std.proofs.Common.{length-append}
 use Rattle.std.specs.Prelude.{codes, decimal}
 use Rattle.std.specs.List.{list_all, position_or_len}
 use Rattle.std.specs.Int.Digits.{number_from_digits}
@@ -26,7 +28,8 @@ use Rattle.feed.specs.Names.{counters, sequences}
 use Rattle.feed.specs.Statements.{input_in, statement_in, statement_of}
 use Rattle.feed.specs.declared.entry.Entry.{Entry}
 use Rattle.feed.specs.declared.input.Counter.{Counter}
-use Rattle.feed.specs.declared.input.Counter.TheVariants.{Time1, Time2, Time3, Time4, Time5, Time6, CduX, CduY, CduZ, OptY, OptX, PipaX, PipaY, PipaZ, Inlink}
+use Rattle.feed.specs.declared.input.Counter.TheVariants.{Time1, Time2, Time3, Time4, Time5, Time6, CduX, CduY, CduZ, OptY, OptX, PipaX}
+use Rattle.feed.specs.declared.input.Counter.TheVariants.{PipaY, PipaZ, Inlink}
 use Rattle.feed.specs.declared.input.Input.{Input}
 use Rattle.feed.specs.declared.input.Input.TheVariants.{Count, Word, Interrupt}
 use Rattle.feed.specs.declared.input.Sequence.{Sequence}
@@ -81,7 +84,8 @@ all_append p xs ys all others = list_all-append p xs ys ∙ rw (all, others) ref
 
 -- ## Fields
 -- where the first byte that passes a test stands, after bytes that do not
-past : (p : ℕ → Bool) (xs ys : List ℕ) → list_all (λ b. not (p b)) xs ≡ true → position_or_len p (xs ++ ys) ≡ length xs + position_or_len p ys
+past : (p : ℕ → Bool) (xs ys : List ℕ) → list_all (λ b. not (p b)) xs ≡ true
+    → position_or_len p (xs ++ ys) ≡ length xs + position_or_len p ys
 past p [] ys all = omega arith
 past p (x ∷ xs) ys all = elim (cases_Bool (p x)) [
   | inl passes ↦ absurd (let never : false ≡ true = rw passes at all in cc)
@@ -127,9 +131,11 @@ after_blank : (rest : List ℕ) → 0 < length rest → is_blank (get_or rest 0 
 after_blank [] some first = absurd (omega (arith, some))
 after_blank (r ∷ rest) some first = texts-skip (0o40 ∷ r ∷ rest) 1 (one_blank r rest first)
 
-field_more : (w rest : List ℕ) → IsField w → 0 < length rest → is_blank (get_or rest 0 0) ≡ false → texts (runs (w ++ 0o40 ∷ rest)) ≡ w ∷ texts (runs rest)
+field_more : (w rest : List ℕ) → IsField w → 0 < length rest → is_blank (get_or rest 0 0) ≡ false
+    → texts (runs (w ++ 0o40 ∷ rest)) ≡ w ∷ texts (runs rest)
 field_more w rest f some first =
-    let at : position_or_len is_blank (w ++ 0o40 ∷ rest) ≡ length w = past is_blank w (0o40 ∷ rest) (all_weaker is_plain (λ b. not (is_blank b)) unblank_of w f.1) ∙ omega arith in
+    let at : position_or_len is_blank (w ++ 0o40 ∷ rest)
+    ≡ length w = past is_blank w (0o40 ∷ rest) (all_weaker is_plain (λ b. not (is_blank b)) unblank_of w f.1) ∙ omega arith in
     let long = length-append w (0o40 ∷ rest) in
     let head : is_blank (get_or (w ++ 0o40 ∷ rest) 0 0) ≡ false = rw (get_or_append_left w (0o40 ∷ rest) 0 0 f.0) (stands_first w f) in
     texts-take (w ++ 0o40 ∷ rest) (length w) (omega (arith, long, f.0)) head (sym at)
@@ -158,10 +164,12 @@ fields_joined w (next ∷ more) f fs =
 
 joined_open : (w : List ℕ) (ws : List (List ℕ)) → IsField w → AreFields ws → list_all is_open (joined w ws) ≡ true
 joined_open w [] f fs = all_weaker is_plain is_open open_of w f.1
-joined_open w (next ∷ more) f fs = all_append is_open w (0o40 ∷ joined next more) (all_weaker is_plain is_open open_of w f.1) (joined_open next more fs.0 fs.1)
+joined_open w (next ∷ more) f fs = all_append is_open w (0o40 ∷ joined next more) (all_weaker is_plain is_open open_of w f.1)
+    (joined_open next more fs.0 fs.1)
 
 -- what a line of such fields says
-says_joined : (w : List ℕ) (ws : List (List ℕ)) → IsField w → AreFields ws → length (joined w ws) ≤ 120 → statement_of (joined w ws) ≡ statement_in (w ∷ ws)
+says_joined : (w : List ℕ) (ws : List (List ℕ)) → IsField w → AreFields ws → length (joined w ws) ≤ 120
+    → statement_of (joined w ws) ≡ statement_in (w ∷ ws)
 unfolding statement_of
 says_joined w ws f fs short =
     let opened = joined_open w ws f fs in
@@ -179,7 +187,8 @@ is_decimal d lt = grind (arith, nat_tests)
 
 decimal_all : (p : ℕ → Bool) → ((d : ℕ) → d < 10 → p (48 + d) ≡ true) → (n : ℕ) → n < 2 ^ 64 → list_all p (decimal n) ≡ true
 decimal_all p each n small = decimal_by_steps (λ m ds. list_all p ds ≡ true) (λ m lt. rw (each m lt) refl)
-    (λ m ds le so_far. (let low : m % 10 < 10 = omega arith in all_append p ds ((48 + m % 10) ∷ []) so_far (rw (each (m % 10) low) refl))) n small
+    (λ m ds le so_far. (let low : m % 10 < 10 = omega arith in all_append p ds ((48 + m % 10) ∷ []) so_far (rw (each (m % 10) low) refl))) n
+    small
 
 decimal_number : (n : ℕ) → n < 2 ^ 64 → number_from_digits 10 (map digit_value (decimal n)) ≡ n
 decimal_number n small = decimal_by_steps (λ m ds. number_from_digits 10 (map digit_value ds) ≡ m) one more n small
@@ -187,7 +196,8 @@ decimal_number n small = decimal_by_steps (λ m ds. number_from_digits 10 (map d
     one : (m : ℕ) → m < 10 → number_from_digits 10 (map digit_value ((48 + m) ∷ [])) ≡ m
     one m lt = omega arith
 
-    more : (m : ℕ) (ds : List ℕ) → 10 ≤ m → number_from_digits 10 (map digit_value ds) ≡ m / 10 → number_from_digits 10 (map digit_value (ds ++ ((48 + m % 10) ∷ []))) ≡ m
+    more : (m : ℕ) (ds : List ℕ) → 10 ≤ m → number_from_digits 10 (map digit_value ds) ≡ m / 10
+        → number_from_digits 10 (map digit_value (ds ++ ((48 + m % 10) ∷ []))) ≡ m
     more m ds le so_far =
         let digit : digit_value (48 + m % 10) ≡ m % 10 = omega arith in
         ap (number_from_digits 10) (map-append digit_value ds ((48 + m % 10) ∷ []))
@@ -195,7 +205,8 @@ decimal_number n small = decimal_by_steps (λ m ds. number_from_digits 10 (map d
         ∙ rw (so_far, digit) (omega arith)
 
 decimal_long : (n : ℕ) → n < 2 ^ 64 → 1 ≤ length (decimal n)
-decimal_long n small = decimal_by_steps (λ m ds. 1 ≤ length ds) (λ m lt. omega arith) (λ m ds le so_far. omega (arith, length-append ds ((48 + m % 10) ∷ []))) n small
+decimal_long n small = decimal_by_steps (λ m ds. 1 ≤ length ds) (λ m lt. omega arith)
+    (λ m ds le so_far. omega (arith, length-append ds ((48 + m % 10) ∷ []))) n small
 
 decimal_field : (n : ℕ) → n < 2 ^ 64 → IsField (decimal n)
 decimal_field n small = (decimal_long n small, decimal_all is_plain plain_digit n small)
@@ -241,7 +252,8 @@ counter_field PipaZ = (omega arith, refl)
 counter_field Inlink = (omega arith, refl)
 
 -- a counter's name is short, names this counter, and is not that of what is no counter
-counter_back : (c : Counter) → (length (row_of c).name ≤ 6) × (value_in counters (row_of c).name ≡ Some c) × (same_name (row_of c).name (codes "RUPT") ≡ false)
+counter_back : (c : Counter) → (length (row_of c).name ≤ 6) × (value_in counters (row_of c).name ≡ Some c)
+    × (same_name (row_of c).name (codes "RUPT") ≡ false)
 unfolding counters
 counter_back Time1 = (omega arith, refl, refl)
 counter_back Time2 = (omega arith, refl, refl)
@@ -309,9 +321,11 @@ blank_between : (a b : List ℕ) → a ++ codes " " ++ b ≡ a ++ 0o40 ∷ b
 blank_between a b = append_assoc a (codes " ") b
 
 is_joined : (cycle : ℕ) (i : Input) → decimal cycle ++ codes " " ++ input_text i ≡ joined (decimal cycle) (input_fields i)
-is_joined cycle (Count c s) = blank_between (decimal cycle) (input_text (Count c s)) ∙ ap (λ t. decimal cycle ++ 0o40 ∷ t) (blank_between (row_of c).name (sequence_name s))
+is_joined cycle (Count c s) = blank_between (decimal cycle) (input_text (Count c s))
+    ∙ ap (λ t. decimal cycle ++ 0o40 ∷ t) (blank_between (row_of c).name (sequence_name s))
 is_joined cycle (Word n w) =
-    blank_between (decimal cycle) (input_text (Word n w)) ∙ ap (λ t. decimal cycle ++ 0o40 ∷ t) (blank_between (codes "CHAN " ++ octal_text 3 n) (octal_text 5 w))
+    blank_between (decimal cycle) (input_text (Word n w))
+    ∙ ap (λ t. decimal cycle ++ 0o40 ∷ t) (blank_between (codes "CHAN " ++ octal_text 3 n) (octal_text 5 w))
 is_joined cycle (Interrupt k) = blank_between (decimal cycle) (input_text (Interrupt k))
 
 short_input_text : (i : Input) → CanBeGiven i → length (input_text i) ≤ 30
@@ -323,7 +337,14 @@ short_input_text (Count c s) given =
 short_input_text (Word n w) given =
     let name = length-append (codes "CHAN ") (octal_text 3 n) in
     let front = length-append (codes "CHAN " ++ octal_text 3 n) (codes " ") in
-    omega (arith, length-append (codes "CHAN " ++ octal_text 3 n ++ codes " ") (octal_text 5 w), name, front, length-octal_text 3 n, length-octal_text 5 w)
+    omega (
+      arith,
+      length-append (codes "CHAN " ++ octal_text 3 n ++ codes " ") (octal_text 5 w),
+      name,
+      front,
+      length-octal_text 3 n,
+      length-octal_text 5 w,
+    )
 short_input_text (Interrupt k) given =
     let short : length (decimal k) ≤ 2 = length-decimal-le 2 k (omega arith) (omega (arith, given.1)) (omega (arith, given.1)) in
     omega (arith, length-append (codes "RUPT ") (decimal k), short)
@@ -342,10 +363,23 @@ line_says e stands =
     let few : length (decimal e.cycle) ≤ 15 = length-decimal-le 15 e.cycle (omega arith) stands.0 small in
     let joins = is_joined e.cycle e.input in
     let long : length (joined (decimal e.cycle) (input_fields e.input)) ≤ 120 =
-    (let same = ap length joins in omega (arith, same, few, short_input_text e.input stands.1, length-append (decimal e.cycle ++ codes " ") (input_text e.input), length-append (decimal e.cycle) (codes " "))) in
+    (let same = ap length joins in omega (
+      arith,
+      same,
+      few,
+      short_input_text e.input stands.1,
+      length-append (decimal e.cycle ++ codes " ")
+          (input_text e.input),
+      length-append (decimal e.cycle) (codes " "),
+    )) in
     ap statement_of joins
     ∙ says_joined (decimal e.cycle) (input_fields e.input) (decimal_field e.cycle small) (are_fields e.input stands.1) long
-    ∙ rw (no_every (decimal e.cycle) (decimal_all (is_digit 10) is_decimal e.cycle small), decimal_value e.cycle 15 small few, told_as e.input stands.1) refl
+    ∙ rw (
+      no_every (decimal e.cycle) (decimal_all (is_digit 10) is_decimal e.cycle small),
+      decimal_value e.cycle 15 small few,
+      told_as
+          e.input stands.1,
+    ) refl
 
 -- ## The whole text
 no_feed : (xs : List ℕ) → list_all is_text_byte xs ≡ true → HasNoFeed xs
@@ -361,11 +395,14 @@ line_then text rest all = ap lines (append_assoc text (codes "\n") rest) ∙ lin
 
 text_bytes : (e : Entry) → IsGivable e → list_all is_text_byte (text_of_input e) ≡ true
 text_bytes e stands =
-    rw (is_joined e.cycle e.input) (all_weaker is_open is_text_byte text_of (joined (decimal e.cycle) (input_fields e.input)) (joined_open (decimal e.cycle) (input_fields e.input) (decimal_field e.cycle (omega (arith, stands.0))) (are_fields e.input stands.1)))
+    rw (is_joined e.cycle e.input) (all_weaker is_open is_text_byte text_of (joined (decimal e.cycle) (input_fields e.input))
+    (joined_open (decimal e.cycle) (input_fields e.input) (decimal_field e.cycle (omega (arith, stands.0)))
+    (are_fields e.input stands.1)))
 
 -- the comment at the end says nothing
 comment_bytes : (n : ℕ) → n < 2 ^ 64 → list_all is_text_byte (codes "# COUNT " ++ decimal n) ≡ true
-comment_bytes n small = all_weaker is_plain is_text_byte (λ b h. text_of b (open_of b h)) (decimal n) (decimal_all is_plain plain_digit n small)
+comment_bytes n small = all_weaker is_plain is_text_byte (λ b h. text_of b (open_of b h)) (decimal n)
+    (decimal_all is_plain plain_digit n small)
 
 comment_says : (n : ℕ) → n < 2 ^ 64 → statement_of (codes "# COUNT " ++ decimal n) ≡ Nothing
 unfolding statement_of
@@ -377,7 +414,8 @@ comment_says n small =
 abbrev pub told_first : ℕ → Entry → Bool
 told_first first e = nat_le first e.line
 
-read_lines : (first n : ℕ) (es : List Entry) → n + length (filter (told_first first) es) < 2 ^ 64 → All IsGivable (filter (told_first first) es)
+read_lines : (first n : ℕ) (es : List Entry) → n + length (filter (told_first first) es) < 2 ^ 64
+    → All IsGivable (filter (told_first first) es)
     → map statement_of (lines (lines_from first n es)) ≡ map giving (filter (told_first first) es) ++ Nothing ∷ []
 read_lines first n [] few all =
     let small : n < 2 ^ 64 = omega (arith, few) in
@@ -399,7 +437,8 @@ read_lines first n (e ∷ more) few all = elim (cases_Bool (nat_le first e.line)
       rw passed (read_lines first n more room rest))
 ]
 
-pub reads_back : (first : ℕ) (scenario : Scenario) → length (standing_from first scenario) < 2 ^ 64 → All IsGivable (standing_from first scenario)
+pub reads_back : (first : ℕ) (scenario : Scenario) → length (standing_from first scenario) < 2 ^ 64
+    → All IsGivable (standing_from first scenario)
     → ReadsBack first scenario (inputs_text first scenario)
 unfolding inputs_text
 reads_back first scenario few all = read_lines first 0 (plain_inputs scenario) (omega (arith, few)) all

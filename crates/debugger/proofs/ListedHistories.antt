@@ -13,7 +13,8 @@ use Rattle.cpu.specs.Profiles.{account_by}
 use Rattle.cpu.specs.State.{State, start}
 use Rattle.cpu.specs.declared.output.Output.{Output}
 use Rattle.cpu.specs.Run.{run, out, outs}
-use Rattle.cpu.proofs.Holding.{word_placed, held, get_held, channel_held, superbank_held, at-holding, get-holding, get_channel-holding, superbank-holding}
+use Rattle.cpu.proofs.Holding.{word_placed, held, get_held, channel_held, superbank_held, at-holding, get-holding, get_channel-holding}
+use Rattle.cpu.proofs.Holding.{superbank-holding}
 use Rattle.cpu.proofs.Held.{Held, state, scenario, rope, word_at-rope, place_held, place_in-held, z_held, word_held, instruction_word-held}
 use Rattle.cpu.proofs.HeldRuns.{Move, Goes, Agrees, states, told, sent, run-agrees, out-agrees, outs-agree}
 use Rattle.commands.specs.declared.subject.Subject.{Subject}
@@ -81,16 +82,22 @@ executed_by h (Some given) = None
 executed_by h None = Some (place_held h (z_held h))
 
 abbrev step_seen : List Entry → Held → Held → StepSight
-step_seen inputs h to = record { executed = executed_by h (due inputs h.taken h.cycles); changed = λ s. not (held_word h s == held_word to s) }
+step_seen inputs h to = record {
+  executed = executed_by h (due inputs h.taken h.cycles);
+  changed = λ s. not
+      (held_word h s == held_word to s);
+}
 
 executed-held : (h : Held) (given : Option (Input × Option ℕ)) → place_executed (account_by (state h) given None) ≡ executed_by h given
 executed-held h (Some given) = refl
 executed-held h None = ap (λ (p : Linear). Some p) (place-held h)
 
-differs-held : (h to : Held) (after : State) → after ≡ state to → (s : Subject) → differs (state h) after s ≡ not (held_word h s == held_word to s)
+differs-held : (h to : Held) (after : State) → after ≡ state to → (s : Subject)
+    → differs (state h) after s ≡ not (held_word h s == held_word to s)
 differs-held h to after there s = λ i. not (word-held h s i == (ap (λ (m : State). word_of m s) there ∙ word-held to s) i)
 
-step-held : (ps : List Placed) (inputs : List Entry) (h to : Held) → (next (scenario ps inputs) (state h)).0 ≡ state to → step_from (scenario ps inputs) (state h) ≡ step_seen inputs h to
+step-held : (ps : List Placed) (inputs : List Entry) (h to : Held) → (next (scenario ps inputs) (state h)).0 ≡ state to
+    → step_from (scenario ps inputs) (state h) ≡ step_seen inputs h to
 unfolding entry
 step-held ps inputs h to there =
     λ i. record {
@@ -103,7 +110,8 @@ abbrev steps_seen : List Entry → Held → List Move → List StepSight
 steps_seen inputs h [] = []
 steps_seen inputs h (m ∷ more) = step_seen inputs h m.0 ∷ steps_seen inputs m.0 more
 
-agree-steps : (ps : List Placed) (inputs : List Entry) (h : Held) (moves : List Move) (f : ℕ → State) → Goes (scenario ps inputs) h moves → Agrees (states h moves) f
+agree-steps : (ps : List Placed) (inputs : List Entry) (h : Held) (moves : List Move) (f : ℕ → State) → Goes (scenario ps inputs) h moves
+    → Agrees (states h moves) f
     → Agrees (steps_seen inputs h moves) (λ k. step_from (scenario ps inputs) (f k))
 agree-steps ps inputs h [] f g a = tt
 agree-steps ps inputs h (m ∷ more) f g a = (
@@ -134,12 +142,14 @@ listed ps inputs h moves =
       manner = manner.Plain;
     }
 
-pub history-listed : (ps : List Placed) (inputs : List Entry) (h : Held) (moves : List Move) → start ≡ state h → Goes (scenario ps inputs) h moves
+pub history-listed : (ps : List Placed) (inputs : List Entry) (h : Held) (moves : List Move) → start ≡ state h
+    → Goes (scenario ps inputs) h moves
     → history (scenario ps inputs) ≡ listed ps inputs h moves
 unfolding history
 history-listed ps inputs h moves e g =
     let a = agree-sights ps h moves (run (scenario ps inputs)) (run-agrees (scenario ps inputs) h moves e g) in
-    let d : Agrees (no_step ∷ steps_seen inputs h moves) (step_to (scenario ps inputs)) = (refl, agree-steps ps inputs h moves (run (scenario ps inputs)) g (run-agrees (scenario ps inputs) h moves e g)) in
+    let d : Agrees (no_step ∷ steps_seen inputs h moves) (step_to (scenario ps inputs))
+    = (refl, agree-steps ps inputs h moves (run (scenario ps inputs)) g (run-agrees (scenario ps inputs) h moves e g)) in
     let b = out-agrees (scenario ps inputs) h moves e g in
     let c = outs-agree (scenario ps inputs) h moves e g in
     λ i. record {

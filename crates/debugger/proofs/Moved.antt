@@ -25,7 +25,8 @@ record IsFound (scenario : Scenario) (p x : ℕ) : Type 0 where
   index : IsIndexBefore scenario p x i
   no_word : (run scenario p).waiting_word ≡ None
 
-by_index : (scenario : Scenario) (p x : ℕ) → (run scenario (suc p)).waiting_sum ≡ Some x → LeftByIndex scenario (run scenario p) (run scenario (suc p)) (link_at scenario p) x → IsFound scenario (suc p) x
+by_index : (scenario : Scenario) (p x : ℕ) → (run scenario (suc p)).waiting_sum ≡ Some x
+    → LeftByIndex scenario (run scenario p) (run scenario (suc p)) (link_at scenario p) x → IsFound scenario (suc p) x
 by_index scenario p x e l = record {
   i = p;
   is = rw l.instruction refl;
@@ -35,13 +36,16 @@ by_index scenario p x e l = record {
     executes = l.executes;
     reads = l.reads;
     inputs = λ u after before. absurd (omega (arith, after, before));
-    waits = λ u after before. (let here : suc p ≡ u = omega (arith, after, before) in subst (λ v. (run scenario v).waiting_sum ≡ Some x) here e);
+    waits = λ u after before. (let here : suc p ≡ u = omega (arith, after, before) in subst (λ v. (run scenario v).waiting_sum ≡ Some x)
+        here e);
     extra = l.extra;
   };
   no_word = l.no_word;
 }
 
-by_input : (scenario : Scenario) (p x : ℕ) → (run scenario (suc p)).waiting_sum ≡ Some x → LeftByInput scenario (run scenario p) (run scenario (suc p)) (link_at scenario p) x → IsFound scenario p x → IsFound scenario (suc p) x
+by_input : (scenario : Scenario) (p x : ℕ) → (run scenario (suc p)).waiting_sum ≡ Some x
+    → LeftByInput scenario (run scenario p) (run scenario (suc p)) (link_at scenario p) x → IsFound scenario p x
+    → IsFound scenario (suc p) x
 by_input scenario p x e l f = record {
   i = f.i;
   is = rw l.instruction f.is;
@@ -73,19 +77,26 @@ found scenario (suc p) x e = elim (left_by scenario (run scenario p) x e) [
 ]
 
 -- what was added to an instruction had waited
-had_waited : (rope : Words) (s : State) (given : Option (Input × Option ℕ)) (k : Option ℕ) (x : ℕ) → added_by (next_step_by rope s given k) ≡ Some x → s.waiting_sum ≡ Some x
+had_waited : (rope : Words) (s : State) (given : Option (Input × Option ℕ)) (k : Option ℕ) (x : ℕ)
+    → added_by (next_step_by rope s given k) ≡ Some x → s.waiting_sum ≡ Some x
 had_waited rope s (Some given) k x e = absurd (cc)
 had_waited rope s None (Some k) x e = absurd (cc)
 had_waited rope s None None x e = e
 
-moves_word : (scenario : Scenario) (s : State) (x : ℕ) → x < 2 ^ 15 → s.waiting_sum ≡ Some (extend x) → s.waiting_word ≡ None → MovesWord scenario s x
+moves_word : (scenario : Scenario) (s : State) (x : ℕ) → x < 2 ^ 15 → s.waiting_sum ≡ Some (extend x) → s.waiting_word ≡ None
+    → MovesWord scenario s x
 moves_word scenario s x lt waits no_word few =
     let own = word_at_z scenario.rope s in
     let own_lt : own < 2 ^ 15 = corrected_below (operand scenario.rope s (next_address s)) in
     let is : instruction_word scenario.rope s ≡ correct (sum (extend own) (extend x)) = word_of scenario.rope s (extend x) waits no_word in
-    let moved_lt : instruction_word scenario.rope s < 2 ^ 15 = subst (λ w. w < 2 ^ 15) (sym is) (corrected_below (sum (extend own) (extend x))) in
+    let moved_lt : instruction_word scenario.rope s
+    < 2 ^ 15 = subst (λ w. w < 2 ^ 15) (sym is) (corrected_below (sum (extend own) (extend x))) in
     let by_value = ap value is ∙ indexed own x own_lt lt few in
-    record { sum = by_value; operand = λ same. moved_operand s.extra own x (instruction_word scenario.rope s) own_lt moved_lt by_value same }
+    record {
+      sum = by_value;
+      operand = λ same. moved_operand s.extra own x (instruction_word scenario.rope s) own_lt moved_lt by_value
+          same;
+    }
 
 tells : (scenario : Scenario) (t x : ℕ) → (run scenario t).waiting_sum ≡ Some x → IsFound scenario t x → TellsIndex scenario t x
 tells scenario t x waits f = record {

@@ -1,5 +1,6 @@
 -- A session tells each output once while it makes steps.
-use Rattle.std.proofs.Common.{◌≡◌, ◌<◌, ◌≤◌, ◌+◌, ◌-◌, ◌==◌, ◌&&◌, ℕ, zero, suc, Bool, true, false, cond, Option, Some, None, List, [], ◌∷◌, ◌++◌, refl, sym, ap, ◌∙◌, subst, arith, max, min, append_assoc, append-nil}
+use Rattle.std.proofs.Common.{◌≡◌, ◌<◌, ◌≤◌, ◌+◌, ◌-◌, ◌==◌, ◌&&◌, ℕ, zero, suc, Bool, true, false, cond, Option, Some, None, List, [], ◌∷◌}
+use Rattle.std.proofs.Common.{◌++◌, refl, sym, ap, ◌∙◌, subst, arith, max, min, append_assoc, append-nil}
 use Rattle.std.specs.Prelude.{codes, decimal, length, nat_le, nat_lt}
 use Rattle.std.specs.List.{flat_map, range_with_len, remove}
 use Rattle.std.specs.Option.{option_to_list}
@@ -24,11 +25,13 @@ use Rattle.replay.specs.Memory.{step_limit}
 use Rattle.replay.specs.View.{greatest_cycle}
 use Rattle.commands.specs.declared.command.Breakpoint.{Breakpoint}
 use Rattle.commands.specs.declared.command.Command.{Command}
-use Rattle.commands.specs.declared.command.Command.TheVariants.{Step, Run, Back, Goto, Seek, Break, Clear, Registers, Memory, Channel, Last, Symbol, Changed, Tail, Add, Quit}
+use Rattle.commands.specs.declared.command.Command.TheVariants.{Step, Run, Back, Goto, Seek, Break, Clear, Registers, Memory, Channel, Last}
+use Rattle.commands.specs.declared.command.Command.TheVariants.{Symbol, Changed, Tail, Add, Quit}
 use Rattle.commands.specs.declared.command.ParsedLine.{ParsedLine}
 use Rattle.commands.specs.declared.command.ParsedLine.TheVariants.{Nothing, TooLong, Unknown, WrongCounter, Known}
 use Rattle.commands.specs.declared.extended.ExtendedLine.{ExtendedLine}
-use Rattle.commands.specs.declared.extended.ExtendedLine.TheVariants.{Plain, Common, ClearOne, On, Until, Over, Out, Words, Listed, Values, WhatIf}
+use Rattle.commands.specs.declared.extended.ExtendedLine.TheVariants.{Plain, Common, ClearOne, On, Until, Over, Out, Words, Listed, Values}
+use Rattle.commands.specs.declared.extended.ExtendedLine.TheVariants.{WhatIf}
 use Rattle.commands.specs.declared.command.Breakpoint.TheVariants.{Cycles}
 use Rattle.commands.specs.Extended.{most_count}
 use Rattle.debugger.specs.Additions.{line_after, with_added}
@@ -53,7 +56,8 @@ use Rattle.std.specs.Option.{option_map_or}
 use Rattle.debugger.specs.OutputsOnce.{OutputsAreToldOnce, Part, outs_after, part_of, part_text, parts, silent}
 use Rattle.debugger.specs.WhatIfs.{tries}
 use Rattle.debugger.proofs.TriedReplies.{keeps_scenario, keeps_steps}
-use Rattle.debugger.specs.Replies.{Desk, Reply, added_on, addition_to_come, adds, after_growth, after_text, answer, ending_line, here, last_stop, line, memory_word, refuses, reply, says, sought, stands}
+use Rattle.debugger.specs.Replies.{Desk, Reply, added_on, addition_to_come, adds, after_growth, after_text, answer, ending_line, here}
+use Rattle.debugger.specs.Replies.{last_stop, line, memory_word, refuses, reply, says, sought, stands}
 use Rattle.debugger.specs.Routines.{arrival_text, goes_on, goes_out_to, next_end, took}
 use Rattle.debugger.specs.Terms.{Terms, terms_of}
 use Rattle.debugger.specs.Transcript.{first_desk}
@@ -88,10 +92,12 @@ record Silenced (scenario : Scenario) (n : ℕ) (g s : Growth) : Type 0 where
   text : g.text ≡ channel_lines (outs_after scenario n (g.steps - n))
   same : s ≡ record g { text = [] }
 
-ended : (scenario : Scenario) (n : ℕ) (answers : List Bool) (ending : Ending) → Silenced scenario n (grown n answers ending) (grown n answers ending)
+ended : (scenario : Scenario) (n : ℕ) (answers : List Bool) (ending : Ending)
+    → Silenced scenario n (grown n answers ending) (grown n answers ending)
 ended scenario n answers ending = record { on = omega arith; text = sym (no_lines scenario n n refl); same = refl }
 
-unless : (scenario : Scenario) (n : ℕ) (hit : Option ℕ) (answers : List Bool) (g s : Growth) → Silenced scenario n g s → Silenced scenario n (unless_hit hit n answers g) (unless_hit hit n answers s)
+unless : (scenario : Scenario) (n : ℕ) (hit : Option ℕ) (answers : List Bool) (g s : Growth) → Silenced scenario n g s
+    → Silenced scenario n (unless_hit hit n answers g) (unless_hit hit n answers s)
 unless scenario n None answers g s h = h
 unless scenario n (Some i) answers g s h = ended scenario n answers (Hit i)
 
@@ -109,22 +115,28 @@ with_one scenario n o g s e h =
       same = ap (with_line []) h.same;
     }
 
-grows_by : (scenario : Scenario) (h : History) (breakpoints : List Breakpoint) (n : ℕ) (answers : List Bool) (limit refused : Bool) (g s : Growth) → h.output (n + 1) ≡ out scenario (n + 1) → Silenced scenario (n + 1) g s
+grows_by : (scenario : Scenario) (h : History) (breakpoints : List Breakpoint) (n : ℕ) (answers : List Bool) (limit refused : Bool)
+    (g s : Growth) → h.output (n + 1) ≡ out scenario (n + 1) → Silenced scenario (n + 1) g s
     → Silenced scenario n
-    (cond limit (grown n answers Limit) (cond refused (grown n (later answers) NoMemory) (with_line (output_line (h.output (n + 1))) (unless_hit (hit_at h breakpoints (n + 1)) (n + 1) (later answers) g))))
-    (cond limit (grown n answers Limit) (cond refused (grown n (later answers) NoMemory) (with_line [] (unless_hit (hit_at h breakpoints (n + 1)) (n + 1) (later answers) s))))
+    (cond limit (grown n answers Limit) (cond refused (grown n (later answers) NoMemory)
+    (with_line (output_line (h.output (n + 1))) (unless_hit (hit_at h breakpoints (n + 1)) (n + 1) (later answers) g))))
+    (cond limit (grown n answers Limit) (cond refused (grown n (later answers) NoMemory)
+    (with_line [] (unless_hit (hit_at h breakpoints (n + 1)) (n + 1) (later answers) s))))
 grows_by scenario h breakpoints n answers true refused g s e more = ended scenario n answers Limit
 grows_by scenario h breakpoints n answers false true g s e more = ended scenario n (later answers) NoMemory
 grows_by scenario h breakpoints n answers false false g s e more =
     let hit = hit_at h breakpoints (n + 1) in
-    with_one scenario n (h.output (n + 1)) (unless_hit hit (n + 1) (later answers) g) (unless_hit hit (n + 1) (later answers) s) e (unless scenario (n + 1) hit (later answers) g s more)
+    with_one scenario n (h.output (n + 1)) (unless_hit hit (n + 1) (later answers) g) (unless_hit hit (n + 1) (later answers) s) e
+    (unless scenario (n + 1) hit (later answers) g s more)
 
-grows : (scenario : Scenario) (h : History) → ((t : ℕ) → h.output t ≡ out scenario t) → (breakpoints : List Breakpoint) (k n : ℕ) (answers : List Bool)
+grows : (scenario : Scenario) (h : History) → ((t : ℕ) → h.output t ≡ out scenario t)
+    → (breakpoints : List Breakpoint) (k n : ℕ) (answers : List Bool)
     → Silenced scenario n (grow h breakpoints k n answers) (grow (silent h) breakpoints k n answers)
 unfolding grow
 grows scenario h e breakpoints zero n answers = ended scenario n answers _
 grows scenario h e breakpoints (suc k) n answers =
-    grows_by scenario h breakpoints n answers (n == step_limit) (is_refused answers) (grow h breakpoints k (n + 1) (later answers)) (grow (silent h) breakpoints k (n + 1) (later answers)) (e (n + 1))
+    grows_by scenario h breakpoints n answers (n == step_limit) (is_refused answers) (grow h breakpoints k (n + 1) (later answers))
+    (grow (silent h) breakpoints k (n + 1) (later answers)) (e (n + 1))
     (grows scenario h e breakpoints k (n + 1) (later answers))
 
 -- ## Replies
@@ -140,45 +152,55 @@ quiet d r same steps =
     let none : r.desk.steps - d.steps ≡ 0 = omega (arith, steps) in
     record {
       text = sym (ap (λ (t : List ℕ). t ++ r.text) (no_lines d.scenario d.steps r.desk.steps steps));
-      run = ap (λ (q : Scenario). outs q r.desk.steps) same ∙ ap (outs d.scenario) steps ∙ sym (append-nil (outs d.scenario d.steps)) ∙ ap (λ k. outs d.scenario d.steps ++ outs_after d.scenario d.steps k) (sym none);
+      run = ap (λ (q : Scenario). outs q r.desk.steps) same ∙ ap (outs d.scenario) steps ∙ sym (append-nil (outs d.scenario d.steps))
+          ∙ ap (λ k. outs d.scenario d.steps ++ outs_after d.scenario d.steps k) (sym none);
       order = λ o. subst (λ (q : Scenario). IsInOrder q.inputs) (sym same) o;
     }
 
 -- steps are made, and then the rest is told
-made : (d : Desk) (g s : Growth) (rest : Growth → Reply) → ((x : Growth) → rest (record x { text = [] }) ≡ rest x) → ((x : Growth) → (rest x).desk.steps ≡ x.steps) → ((x : Growth) → (rest x).desk.scenario ≡ d.scenario)
+made : (d : Desk) (g s : Growth) (rest : Growth → Reply) → ((x : Growth) → rest (record x { text = [] }) ≡ rest x)
+    → ((x : Growth) → (rest x).desk.steps ≡ x.steps) → ((x : Growth) → (rest x).desk.scenario ≡ d.scenario)
     → Silenced d.scenario d.steps g s → Brings d (after_text g.text (rest g)) (after_text s.text (rest s))
 made d g s rest alike steps same h =
     let there : (rest g).desk.steps - d.steps ≡ g.steps - d.steps = ap (λ k. k - d.steps) (steps g) in
     let sum : d.steps + (g.steps - d.steps) ≡ g.steps = omega (arith, h.on) in
-    let silent_text : s.text ++ (rest s).text ≡ (rest g).text = ap (λ (x : Growth). x.text ++ (rest x).text) h.same ∙ ap (λ (r : Reply). r.text) (alike g) in
+    let silent_text : s.text ++ (rest s).text ≡ (rest g).text = ap (λ (x : Growth). x.text ++ (rest x).text) h.same
+    ∙ ap (λ (r : Reply). r.text) (alike g) in
     record {
-      text = ap (λ (t : List ℕ). t ++ (rest g).text) h.text ∙ ap (λ k. channel_lines (outs_after d.scenario d.steps k) ++ (rest g).text) (sym there)
+      text = ap (λ (t : List ℕ). t ++ (rest g).text) h.text
+          ∙ ap (λ k. channel_lines (outs_after d.scenario d.steps k) ++ (rest g).text) (sym there)
           ∙ ap (λ (t : List ℕ). channel_lines (outs_after d.scenario d.steps ((rest g).desk.steps - d.steps)) ++ t) (sym silent_text);
       run = ap (λ (q : Scenario). outs q (rest g).desk.steps) (same g) ∙ ap (outs d.scenario) (steps g ∙ sym sum)
-          ∙ sym (outs_both d.scenario d.steps (g.steps - d.steps)) ∙ ap (λ k. outs d.scenario d.steps ++ outs_after d.scenario d.steps k) (sym there);
+          ∙ sym (outs_both d.scenario d.steps (g.steps - d.steps))
+          ∙ ap (λ k. outs d.scenario d.steps ++ outs_after d.scenario d.steps k) (sym there);
       order = λ o. subst (λ (q : Scenario). IsInOrder q.inputs) (sym (same g)) o;
     }
 
 -- an input is added above the cycles that have passed
-added : (d : Desk) (text : List ℕ) (additions : List (Option ℕ)) (line cycle : ℕ) (input : Input) → IsInOrder d.scenario.inputs → (run d.scenario d.steps).cycles < cycle
-    → Brings d (record { text = text; desk = record d { scenario = with_added line cycle input d.scenario; additions = additions } }) (record { text = text; desk = record d { scenario = with_added line cycle input d.scenario; additions = additions } })
+added : (d : Desk) (text : List ℕ) (additions : List (Option ℕ)) (line cycle : ℕ) (input : Input) → IsInOrder d.scenario.inputs
+    → (run d.scenario d.steps).cycles < cycle
+    → Brings d (record { text = text; desk = record d { scenario = with_added line cycle input d.scenario; additions = additions } })
+    (record { text = text; desk = record d { scenario = with_added line cycle input d.scenario; additions = additions } })
 unfolding with_added
 added d text additions line cycle input order late =
     let q = d.scenario in
     let x = plain_on (max line (line_after q.inputs)) cycle input in
     let none : d.steps - d.steps ≡ 0 = omega arith in
-    let alike = runs-alike q (inserted x q.inputs) cycle d.steps (λ k cycles below. due-inserted x q.inputs k cycles order below) late d.steps (omega arith) in
+    let alike = runs-alike q (inserted x q.inputs) cycle d.steps (λ k cycles below. due-inserted x q.inputs k cycles order below) late
+    d.steps (omega arith) in
     record {
       text = sym (ap (λ (t : List ℕ). t ++ text) (no_lines q d.steps d.steps refl));
       run = alike.outputs ∙ sym (append-nil (outs q d.steps)) ∙ ap (λ k. outs q d.steps ++ outs_after q d.steps k) (sym none);
       order = λ o. in_order-inserted x q.inputs o;
     }
 
-after_addition : (d : Desk) (o : Option ℕ) (cycle : ℕ) (input : Input) → IsInOrder d.scenario.inputs → (run d.scenario d.steps).cycles < cycle → Brings d (added_on o d cycle input) (added_on o d cycle input)
+after_addition : (d : Desk) (o : Option ℕ) (cycle : ℕ) (input : Input) → IsInOrder d.scenario.inputs
+    → (run d.scenario d.steps).cycles < cycle → Brings d (added_on o d cycle input) (added_on o d cycle input)
 after_addition d None cycle input order late = quiet d (added_on None d cycle input) refl refl
 after_addition d (Some line) cycle input order late = added d _ _ line cycle input order late
 
-after_adds : (h : History) (d : Desk) (cycle : ℕ) (input : Input) → IsInOrder d.scenario.inputs → (h.after d.steps).cycles ≡ (run d.scenario d.steps).cycles → Brings d (adds h d cycle input) (adds (silent h) d cycle input)
+after_adds : (h : History) (d : Desk) (cycle : ℕ) (input : Input) → IsInOrder d.scenario.inputs
+    → (h.after d.steps).cycles ≡ (run d.scenario d.steps).cycles → Brings d (adds h d cycle input) (adds (silent h) d cycle input)
 after_adds h d cycle input order seen =
     on (nat_lt greatest_cycle cycle) (nat_le cycle (h.after d.steps).cycles) (nat_le most_plain_inputs (plain_inputs d.scenario)) refl
   where
@@ -190,8 +212,12 @@ after_adds h d cycle input order seen =
 
     on : (long early many : Bool) → nat_le cycle (h.after d.steps).cycles ≡ early
         → Brings d
-        (cond long (refuses d (codes "E50 COMMAND")) (cond early (refuses d (codes "E42 TOO EARLY")) (cond many (refuses d (codes "E32 TOO MANY")) (added_on (addition_to_come d.additions) d cycle input))))
-        (cond long (refuses d (codes "E50 COMMAND")) (cond early (refuses d (codes "E42 TOO EARLY")) (cond many (refuses d (codes "E32 TOO MANY")) (added_on (addition_to_come d.additions) d cycle input))))
+        (cond long (refuses d (codes "E50 COMMAND"))
+        (cond early (refuses d (codes "E42 TOO EARLY"))
+        (cond many (refuses d (codes "E32 TOO MANY")) (added_on (addition_to_come d.additions) d cycle input))))
+        (cond long (refuses d (codes "E50 COMMAND"))
+        (cond early (refuses d (codes "E42 TOO EARLY"))
+        (cond many (refuses d (codes "E32 TOO MANY")) (added_on (addition_to_come d.additions) d cycle input))))
     on true early many e = quiet d (refuses d (codes "E50 COMMAND")) refl refl
     on false true many e = quiet d (refuses d (codes "E42 TOO EARLY")) refl refl
     on false false true e = quiet d (refuses d (codes "E32 TOO MANY")) refl refl
@@ -207,10 +233,13 @@ record Shows (h : History) (scenario : Scenario) : Type 0 where
   cycles : (t : ℕ) → (h.after t).cycles ≡ (run scenario t).cycles
 
 module _ (h : History) (d : Desk) (shows : Shows h d.scenario) (order : IsInOrder d.scenario.inputs) where
-  grown_on : (breakpoints : List Breakpoint) (k : ℕ) (rest : Growth → Reply) → ((x : Growth) → rest (record x { text = [] }) ≡ rest x) → ((x : Growth) → (rest x).desk.steps ≡ x.steps) → ((x : Growth) → (rest x).desk.scenario ≡ d.scenario)
-      → Brings d (after_text (grow h breakpoints k d.steps d.answers).text (rest (grow h breakpoints k d.steps d.answers))) (after_text (grow (silent h) breakpoints k d.steps d.answers).text (rest (grow (silent h) breakpoints k d.steps d.answers)))
+  grown_on : (breakpoints : List Breakpoint) (k : ℕ) (rest : Growth → Reply) → ((x : Growth) → rest (record x { text = [] }) ≡ rest x)
+      → ((x : Growth) → (rest x).desk.steps ≡ x.steps) → ((x : Growth) → (rest x).desk.scenario ≡ d.scenario)
+      → Brings d (after_text (grow h breakpoints k d.steps d.answers).text (rest (grow h breakpoints k d.steps d.answers)))
+      (after_text (grow (silent h) breakpoints k d.steps d.answers).text (rest (grow (silent h) breakpoints k d.steps d.answers)))
   grown_on breakpoints k rest alike steps same =
-      made d (grow h breakpoints k d.steps d.answers) (grow (silent h) breakpoints k d.steps d.answers) rest alike steps same (grows d.scenario h shows.output breakpoints k d.steps d.answers)
+      made d (grow h breakpoints k d.steps d.answers) (grow (silent h) breakpoints k d.steps d.answers) rest alike steps same
+      (grows d.scenario h shows.output breakpoints k d.steps d.answers)
 
   after_sought : (o : Option ℕ) → Brings d (sought h d o) (sought (silent h) d o)
   after_sought None = quiet d (sought h d None) refl refl
@@ -218,8 +247,10 @@ module _ (h : History) (d : Desk) (shows : Shows h d.scenario) (order : IsInOrde
 
   after_reply : (command : Command) → Brings d (reply h d command) (reply (silent h) d command)
   unfolding reply
-  after_reply (Step k) = grown_on [] ((d.position + k) - d.steps) (λ g. stands h (ending_line g.ending) (after_growth d g (min (d.position + k) g.steps))) (λ x. refl) (λ x. refl) (λ x. refl)
-  after_reply (Run k) = grown_on d.breakpoints k (λ g. stands h (ending_line g.ending) (after_growth d g g.steps)) (λ x. refl) (λ x. refl) (λ x. refl)
+  after_reply (Step k) = grown_on [] ((d.position + k) - d.steps)
+      (λ g. stands h (ending_line g.ending) (after_growth d g (min (d.position + k) g.steps))) (λ x. refl) (λ x. refl) (λ x. refl)
+  after_reply (Run k) = grown_on d.breakpoints k (λ g. stands h (ending_line g.ending) (after_growth d g g.steps)) (λ x. refl) (λ x. refl)
+      (λ x. refl)
   after_reply (Back k) = quiet d (reply h d (Back k)) refl refl
   after_reply (Goto t) = either d (nat_lt d.steps t) _ _ (quiet d _ refl refl) (quiet d _ refl refl)
   after_reply Seek = after_sought (last_stop h d)
@@ -244,16 +275,20 @@ module _ (h : History) (d : Desk) (shows : Shows h d.scenario) (order : IsInOrde
   after_answer (Known command) = after_reply command
 
   after_stop : (k : ℕ) (o : Option ℕ) → Brings d (stops_on h d k o) (stops_on (silent h) d k o)
-  after_stop k None = grown_on d.breakpoints ((d.position + k) - d.steps) (λ g. stands h (ending_line g.ending) (after_growth d g (min (d.position + k) g.steps))) (λ x. refl) (λ x. refl) (λ x. refl)
+  after_stop k None = grown_on d.breakpoints ((d.position + k) - d.steps)
+      (λ g. stands h (ending_line g.ending) (after_growth d g (min (d.position + k) g.steps))) (λ x. refl) (λ x. refl) (λ x. refl)
   after_stop k (Some t) = quiet d (stops_on h d k (Some t)) refl refl
 
   after_until : (cycles : ℕ) (o : Option ℕ) → Brings d (goes_until h d cycles o) (goes_until (silent h) d cycles o)
-  after_until cycles None = grown_on (Cycles cycles ∷ []) most_count (λ g. stands h (ending_line (unhit g.ending)) (after_growth d g g.steps)) (λ x. refl) (λ x. refl) (λ x. refl)
+  after_until cycles None = grown_on (Cycles cycles ∷ []) most_count
+      (λ g. stands h (ending_line (unhit g.ending)) (after_growth d g g.steps)) (λ x. refl) (λ x. refl) (λ x. refl)
   after_until cycles (Some t) = quiet d (goes_until h d cycles (Some t)) refl refl
 
   after_going : (end : Breakpoint) (k : ℕ) (o : Option ℕ) → Brings d (goes_on h d end k o) (goes_on (silent h) d end k o)
   after_going end k None =
-      grown_on (end ∷ []) ((d.position + k) - d.steps) (λ g. stands h (arrival_text g.ending (took h d (min (d.position + k) g.steps))) (after_growth d g (min (d.position + k) g.steps))) (λ x. refl) (λ x. refl) (λ x. refl)
+      grown_on (end ∷ []) ((d.position + k) - d.steps)
+      (λ g. stands h (arrival_text g.ending (took h d (min (d.position + k) g.steps)))
+      (after_growth d g (min (d.position + k) g.steps))) (λ x. refl) (λ x. refl) (λ x. refl)
   after_going end k (Some t) = quiet d (goes_on h d end k (Some t)) refl refl
 
   after_out : (k : ℕ) (o : Option Breakpoint) → Brings d (goes_out_to h d k o) (goes_out_to (silent h) d k o)
@@ -267,19 +302,25 @@ same_word h seen (Fixed bank offset) = refl
 
 same_from : (h : History) (seen : Sight) (place : Linear) (k n : ℕ) → words_from h seen place k n ≡ words_from (silent h) seen place k n
 same_from h seen place k zero = refl
-same_from h seen place k (suc n) = λ i. line (codes "MEM " ++ place_text (place_after place k) ++ codes " " ++ octal_text 5 (same_word h seen (place_after place k) i)) ++ same_from h seen place (k + 1) n i
+same_from h seen place k (suc n) = λ i. line (codes "MEM " ++ place_text (place_after place k) ++ codes " "
+    ++ octal_text 5 (same_word h seen (place_after place k) i)) ++ same_from h seen place (k + 1) n i
 
 same_words : (h : History) (seen : Sight) (place : Linear) (k : ℕ) → words_text h seen place k ≡ words_text (silent h) seen place k
 unfolding words_text
 same_words h seen place k = same_from h seen place 0 (min k (places_from place))
 
-same_row : (kind : RowKind) (symbols : SymbolTable) (source : Source) (rope : Words') (h : History) (seen : Sight) (place : Linear) → row_text kind symbols source rope h seen place ≡ row_text kind symbols source rope (silent h) seen place
-same_row Instruction symbols source rope h seen place = λ i. option_map_or (λ l. codes "LIST " ++ place_row rope (same_word h seen place i) place l) (line_of source place) (plain_row symbols rope seen place)
-same_row Number symbols source rope h seen place = λ i. line (codes "VALUE " ++ place_text place ++ codes " " ++ numbers_text (same_word h seen place i))
+same_row : (kind : RowKind) (symbols : SymbolTable) (source : Source) (rope : Words') (h : History) (seen : Sight) (place : Linear)
+    → row_text kind symbols source rope h seen place ≡ row_text kind symbols source rope (silent h) seen place
+same_row Instruction symbols source rope h seen place = λ i. option_map_or
+    (λ l. codes "LIST " ++ place_row rope (same_word h seen place i) place l) (line_of source place) (plain_row symbols rope seen place)
+same_row Number symbols source rope h seen place = λ i. line
+    (codes "VALUE " ++ place_text place ++ codes " " ++ numbers_text (same_word h seen place i))
 
-same_rows : (kind : RowKind) (symbols : SymbolTable) (source : Source) (rope : Words') (h : History) (seen : Sight) (place : Linear) (k : ℕ) → rows_text kind symbols source rope h seen place k ≡ rows_text kind symbols source rope (silent h) seen place k
+same_rows : (kind : RowKind) (symbols : SymbolTable) (source : Source) (rope : Words') (h : History) (seen : Sight) (place : Linear) (k : ℕ)
+    → rows_text kind symbols source rope h seen place k ≡ rows_text kind symbols source rope (silent h) seen place k
 unfolding rows_text
-same_rows kind symbols source rope h seen place k = λ i. flat_map (λ j. same_row kind symbols source rope h seen (place_after place j) i) (range_with_len 0 (min k (places_from place)))
+same_rows kind symbols source rope h seen place k = λ i. flat_map (λ j. same_row kind symbols source rope h seen (place_after place j) i)
+    (range_with_len 0 (min k (places_from place)))
 
 says_same : (d : Desk) (a b : List ℕ) → a ≡ b → Brings d (says a d) (says b d)
 says_same d a b same = subst (λ (t : List ℕ). Brings d (says a d) (says t d)) same (quiet d (says a d) refl refl)
@@ -287,23 +328,29 @@ says_same d a b same = subst (λ (t : List ℕ). Brings d (says a d) (says t d))
 further_shows : (h : History) (scenario : Scenario) → Shows h scenario → Shows (further h) scenario
 further_shows h scenario s = record { output = s.output; cycles = s.cycles }
 
-after_asked : (terms : Terms) (h : History) (d : Desk) → Shows h d.scenario → IsInOrder d.scenario.inputs → (request : ExtendedLine) → Brings d (extended_reply terms h d request) (extended_reply terms (silent h) d request)
+after_asked : (terms : Terms) (h : History) (d : Desk) → Shows h d.scenario → IsInOrder d.scenario.inputs → (request : ExtendedLine)
+    → Brings d (extended_reply terms h d request) (extended_reply terms (silent h) d request)
 unfolding extended_reply
 after_asked terms h d s o (Plain request) = after_answer h d s o request
 after_asked terms h d s o (Common command) = after_reply (further h) d (further_shows h d.scenario s) o command
 after_asked terms h d s o (ClearOne i) =
-    either d (nat_lt 0 i && nat_le i (length d.breakpoints)) (says (line (codes "CLEAR " ++ decimal i)) (record d { breakpoints = remove d.breakpoints (i - 1) })) (refuses d (codes "NONE"))
-    (quiet d (says (line (codes "CLEAR " ++ decimal i)) (record d { breakpoints = remove d.breakpoints (i - 1) })) refl refl) (quiet d (refuses d (codes "NONE")) refl refl)
+    either d (nat_lt 0 i && nat_le i (length d.breakpoints))
+    (says (line (codes "CLEAR " ++ decimal i)) (record d { breakpoints = remove d.breakpoints (i - 1) })) (refuses d (codes "NONE"))
+    (quiet d (says (line (codes "CLEAR " ++ decimal i)) (record d { breakpoints = remove d.breakpoints (i - 1) })) refl refl)
+    (quiet d (refuses d (codes "NONE")) refl refl)
 after_asked terms h d s o (On k) = after_stop (further h) d (further_shows h d.scenario s) o k (next_stop h d k)
 after_asked terms h d s o (Until cycles) = after_until (further h) d (further_shows h d.scenario s) o cycles (first_at h d.steps cycles)
 after_asked terms h d s o (Over k) = after_going (further h) d (further_shows h d.scenario s) o _ k _
 after_asked terms h d s o (Out k) = after_out (further h) d (further_shows h d.scenario s) o k _
-after_asked terms h d s o (Words place k) = says_same d (words_text h (here h d) place k) (words_text (silent h) (here h d) place k) (same_words h (here h d) place k)
+after_asked terms h d s o (Words place k) = says_same d (words_text h (here h d) place k) (words_text (silent h) (here h d) place k)
+    (same_words h (here h d) place k)
 after_asked terms h d s o (Listed place k) =
-    says_same d (rows_text Instruction terms.symbols terms.source d.scenario.rope h (here h d) place k) (rows_text Instruction terms.symbols terms.source d.scenario.rope (silent h) (here h d) place k)
+    says_same d (rows_text Instruction terms.symbols terms.source d.scenario.rope h (here h d) place k)
+    (rows_text Instruction terms.symbols terms.source d.scenario.rope (silent h) (here h d) place k)
     (same_rows Instruction terms.symbols terms.source d.scenario.rope h (here h d) place k)
 after_asked terms h d s o (Values place k) =
-    says_same d (rows_text Number terms.symbols terms.source d.scenario.rope h (here h d) place k) (rows_text Number terms.symbols terms.source d.scenario.rope (silent h) (here h d) place k)
+    says_same d (rows_text Number terms.symbols terms.source d.scenario.rope h (here h d) place k)
+    (rows_text Number terms.symbols terms.source d.scenario.rope (silent h) (here h d) place k)
     (same_rows Number terms.symbols terms.source d.scenario.rope h (here h d) place k)
 after_asked terms h d s o (WhatIf input k) = quiet d (tries input k d) (keeps_scenario input k d) (keeps_steps input k d)
 after_asked terms h d s o request = quiet d (extended_reply terms h d request) refl refl
@@ -315,7 +362,8 @@ history_shows scenario = record { output = λ t. refl; cycles = λ t. refl }
 -- ## Lines
 record Told (terms : Terms) (read : Reading) (d : Desk) (lines : List (List ℕ)) : Type 0 where
   text : conversation terms read d lines ≡ flat_map part_text (parts terms read d lines)
-  once : outs d.scenario d.steps ++ flat_map (λ (p : Part). p.outputs) (parts terms read d lines) ≡ outs (last_desk terms read d lines).scenario (last_desk terms read d lines).steps
+  once : outs d.scenario d.steps ++ flat_map (λ (p : Part). p.outputs) (parts terms read d lines)
+      ≡ outs (last_desk terms read d lines).scenario (last_desk terms read d lines).steps
 
 line_text : (r : Reply) (p : Part) (later : List Part) (rest : List ℕ) (b : Bool) → r.text ≡ part_text p → rest ≡ flat_map part_text later
     → cond b [] (r.text ++ rest) ≡ flat_map part_text (cond b [] (p ∷ later))
@@ -324,7 +372,8 @@ line_text r p later rest false one more = ap (λ (t : List ℕ). t ++ rest) one 
 
 line_outputs : (d e last : Desk) (p : Part) (later : List Part) (b : Bool) → outs e.scenario e.steps ≡ outs d.scenario d.steps ++ p.outputs
     → outs e.scenario e.steps ++ flat_map (λ (q : Part). q.outputs) later ≡ outs last.scenario last.steps
-    → outs d.scenario d.steps ++ flat_map (λ (q : Part). q.outputs) (cond b [] (p ∷ later)) ≡ outs (cond b d last).scenario (cond b d last).steps
+    → outs d.scenario d.steps ++ flat_map (λ (q : Part). q.outputs) (cond b [] (p ∷ later))
+    ≡ outs (cond b d last).scenario (cond b d last).steps
 line_outputs d e last p later true one more = append-nil (outs d.scenario d.steps)
 line_outputs d e last p later false one more =
     sym (append_assoc (outs d.scenario d.steps) p.outputs (flat_map (λ (q : Part). q.outputs) later))
@@ -337,11 +386,14 @@ told terms read d (line ∷ more) order =
     let one = after_asked terms (history d.scenario) d (history_shows d.scenario) order (read line) in
     let rest = told terms read r.desk more (one.order order) in
     record {
-      text = line_text r (part_of terms (read line) d) (parts terms read r.desk more) (conversation terms read r.desk more) (is_end (read line)) one.text rest.text;
-      once = line_outputs d r.desk (last_desk terms read r.desk more) (part_of terms (read line) d) (parts terms read r.desk more) (is_end (read line)) one.run rest.once;
+      text = line_text r (part_of terms (read line) d) (parts terms read r.desk more) (conversation terms read r.desk more)
+          (is_end (read line)) one.text rest.text;
+      once = line_outputs d r.desk (last_desk terms read r.desk more) (part_of terms (read line) d) (parts terms read r.desk more)
+          (is_end (read line)) one.run rest.once;
     }
 
-pub outputs_are_told_once : (manner : Manner) (symbols : SymbolTable) (source : Source) (scenario : Scenario) (answers : List Bool) (additions : List (Option ℕ)) (lines : List (List ℕ))
+pub outputs_are_told_once : (manner : Manner) (symbols : SymbolTable) (source : Source) (scenario : Scenario) (answers : List Bool)
+    (additions : List (Option ℕ)) (lines : List (List ℕ))
     → OutputsAreToldOnce manner symbols source scenario answers additions lines
 unfolding outs
 outputs_are_told_once manner symbols source scenario answers additions lines order =

@@ -9,7 +9,8 @@ pub left_all : (whole old : List ℕ) → LeftToWrite whole old old whole
 left_all whole old = record { text = []; split = refl; written = sym (append-nil old) }
 
 -- one part more
-pub left_less : (whole old now new part rest left : List ℕ) → LeftToWrite whole old now left → left ≡ part ++ rest → new ≡ now ++ part → LeftToWrite whole old new rest
+pub left_less : (whole old now new part rest left : List ℕ) → LeftToWrite whole old now left → left ≡ part ++ rest → new ≡ now ++ part
+    → LeftToWrite whole old new rest
 left_less whole old now new part rest left l is w = record {
   text = l.text ++ part;
   split = l.split ∙ ap (λ (y : List ℕ). l.text ++ y) is ∙ sym (append_assoc l.text part rest);
@@ -17,10 +18,14 @@ left_less whole old now new part rest left l is w = record {
 }
 
 -- the last part
-pub left_none : (whole old now new part left : List ℕ) (result : Result (Unit {0}) WriteFailed) → LeftToWrite whole old now left → left ≡ part → Writes now new part result → Writes old new whole result
-left_none whole old now new part left (Ok x) l is w = append-then old now new l.text part l.written w ∙ ap (λ (y : List ℕ). old ++ y) (sym (l.split ∙ ap (λ (y : List ℕ). l.text ++ y) is))
+pub left_none : (whole old now new part left : List ℕ) (result : Result (Unit {0}) WriteFailed) → LeftToWrite whole old now left
+    → left ≡ part → Writes now new part result → Writes old new whole result
+left_none whole old now new part left (Ok x) l is w = append-then old now new l.text part l.written w
+    ∙ ap (λ (y : List ℕ). old ++ y) (sym (l.split ∙ ap (λ (y : List ℕ). l.text ++ y) is))
 left_none whole old now new part left (Err failed) l is w = rw (l.split, is) (beginning-after old now new l.text part l.written w)
 
 -- a part that could not be written whole
-pub left_broken : (whole old now new part rest left : List ℕ) → LeftToWrite whole old now left → left ≡ part ++ rest → WritesBeginning now new part → WritesBeginning old new whole
-left_broken whole old now new part rest left l is w = rw (l.split, is) (beginning-after old now new l.text _ l.written (beginning-longer now new part rest w))
+pub left_broken : (whole old now new part rest left : List ℕ) → LeftToWrite whole old now left → left ≡ part ++ rest
+    → WritesBeginning now new part → WritesBeginning old new whole
+left_broken whole old now new part rest left l is w = rw (l.split, is)
+    (beginning-after old now new l.text _ l.written (beginning-longer now new part rest w))

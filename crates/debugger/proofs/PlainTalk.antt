@@ -16,14 +16,16 @@ use Rattle.debugger.specs.Conversation.{reading, conversation, last_desk, effort
 use Rattle.debugger.specs.declared.fault.DebugFault.{DebugFault}
 use Rattle.debugger.specs.declared.fault.DebugFault.TheVariants.{NoMemory, ReadFailed, WriteFailed}
 
-same-replies : (terms : Terms) (symbols : SymbolTable) (d : Desk) (lines : List (List ℕ)) → conversation terms (reading manner.Plain symbols) d lines ≡ replies symbols d lines
+same-replies : (terms : Terms) (symbols : SymbolTable) (d : Desk) (lines : List (List ℕ))
+    → conversation terms (reading manner.Plain symbols) d lines ≡ replies symbols d lines
 unfolding reading extended_reply line_reply
 same-replies terms symbols d [] = refl
 same-replies terms symbols d (line ∷ more) =
     let r = line_reply symbols d line in
     ap (λ (t : List ℕ). cond (ends (parsed_line symbols line)) [] (r.text ++ t)) (same-replies terms symbols r.desk more)
 
-same-desk : (terms : Terms) (symbols : SymbolTable) (d : Desk) (lines : List (List ℕ)) → last_desk terms (reading manner.Plain symbols) d lines ≡ desk_at_end symbols d lines
+same-desk : (terms : Terms) (symbols : SymbolTable) (d : Desk) (lines : List (List ℕ))
+    → last_desk terms (reading manner.Plain symbols) d lines ≡ desk_at_end symbols d lines
 unfolding reading extended_reply line_reply
 same-desk terms symbols d [] = refl
 same-desk terms symbols d (line ∷ more) =
@@ -34,18 +36,30 @@ unfolding reading
 thrice symbols [] = refl
 thrice symbols (line ∷ more) = let rest = thrice symbols more in omega arith
 
-pub same-lines : (symbols : SymbolTable) (lines : List (List ℕ)) → lines_heard (reading manner.Plain symbols) lines ≡ lines_read symbols lines
+pub same-lines : (symbols : SymbolTable) (lines : List (List ℕ))
+    → lines_heard (reading manner.Plain symbols) lines ≡ lines_read symbols lines
 unfolding reading lines_heard lines_read
 same-lines symbols [] = refl
-same-lines symbols (line ∷ more) = ap (λ (ls : List (List ℕ)). line ∷ cond (ends (parsed_line symbols line)) [] ls) (same-lines symbols more)
+same-lines symbols (line ∷ more) = ap (λ (ls : List (List ℕ)). line ∷ cond (ends (parsed_line symbols line)) [] ls)
+    (same-lines symbols more)
 
 -- each of them costs as much
-pub plain-efforts : (symbols : SymbolTable) (lines : List (List ℕ)) → efforts (reading manner.Plain symbols) (lines_heard (reading manner.Plain symbols) lines) ≡ 3 * length (lines_read symbols lines)
-plain-efforts symbols lines = ap (efforts (reading manner.Plain symbols)) (same-lines symbols lines) ∙ thrice symbols (lines_read symbols lines)
+pub plain-efforts : (symbols : SymbolTable) (lines : List (List ℕ))
+    → efforts (reading manner.Plain symbols) (lines_heard (reading manner.Plain symbols) lines) ≡ 3 * length (lines_read symbols lines)
+plain-efforts symbols lines = ap (efforts (reading manner.Plain symbols)) (same-lines symbols lines)
+    ∙ thrice symbols (lines_read symbols lines)
 
 -- the setting of a session, as what a conversation is over
 abbrev plain : Setting → Talk
-plain s = record { may_refuse = s.may_refuse; symbols = s.symbols; source = no_source; read = reading manner.Plain s.symbols; most = most_command_bytes; scenario = s.scenario }
+plain s = record {
+  may_refuse = s.may_refuse;
+  symbols = s.symbols;
+  source = no_source;
+  read = reading manner.Plain s.symbols;
+  most
+      = most_command_bytes;
+  scenario = s.scenario;
+}
 
 writes : (s : Setting) (lines : List (List ℕ)) (old new : List ℕ) (left : SessionView) → WritesTo (plain s) lines old new left
     → (w : WritesReplies s lines old new) × StandsAt (replies_lead_to s w.answers w.additions lines) left
@@ -60,7 +74,8 @@ writes s lines old new left (w, at) =
       rw (← same-desk (terms_of s.symbols no_source s.scenario) s.symbols first lines) at,
     )
 
-pub debugs : (s : Setting) (commands : Commands) (old new : List ℕ) (result : Result (Unit {0}) DebugFault) (left : SessionView) → TalksTo (plain s) commands old new result left → DebugsTo s commands old new result left
+pub debugs : (s : Setting) (commands : Commands) (old new : List ℕ) (result : Result (Unit {0}) DebugFault) (left : SessionView)
+    → TalksTo (plain s) commands old new result left → DebugsTo s commands old new result left
 unfolding command_lines lines_within
 debugs s commands old new (Ok x) left w = writes s (command_lines commands.before) old new left w
 debugs s commands old new (Err NoMemory) left same = same
@@ -72,7 +87,8 @@ debugs s commands old new (Err WriteFailed) left (b, at) = (
     answers = b.answers;
     additions = b.additions;
     granted = b.granted;
-    part = rw (← same-replies (terms_of s.symbols no_source s.scenario) s.symbols (first_desk s.scenario b.answers b.additions) (command_lines commands.before)) b.part;
+    part = rw (← same-replies (terms_of s.symbols no_source s.scenario) s.symbols (first_desk s.scenario b.answers b.additions)
+        (command_lines commands.before)) b.part;
   },
   tt,
 )

@@ -16,13 +16,15 @@ late : (first number : ℕ) → first ≤ number → leb first number ≡ true
 late first number h = grind (arith, nat_tests)
 
 -- before the first of them there is no line
-none_before : (f : LineForm) (symbols : SymbolTable) (scenario : Scenario) (first n : ℕ) → n < first → told_lines f symbols scenario first n ≡ []
+none_before : (f : LineForm) (symbols : SymbolTable) (scenario : Scenario) (first n : ℕ) → n < first
+    → told_lines f symbols scenario first n ≡ []
 unfolding told_lines
 none_before f symbols scenario first zero h = refl
 none_before f symbols scenario first (suc n) h = rw (none_before f symbols scenario first n (omega (arith, h)), early first (suc n) h) refl
 
 -- the lines of m steps after step low
-lines_after : (f : LineForm) (symbols : SymbolTable) (scenario : Scenario) (low m : ℕ) → texts_after (λ number s. told_line f symbols scenario number s) scenario low m ≡ told_lines f symbols scenario (low + 1) (low + m)
+lines_after : (f : LineForm) (symbols : SymbolTable) (scenario : Scenario) (low m : ℕ)
+    → texts_after (λ number s. told_line f symbols scenario number s) scenario low m ≡ told_lines f symbols scenario (low + 1) (low + m)
 lines_after f symbols scenario low zero =
     let here : low + 0 ≡ low = omega arith in
     rw here (sym (none_before f symbols scenario (low + 1) low (omega arith)))
@@ -31,7 +33,8 @@ lines_after f symbols scenario low (suc m) =
     let shown : leb (low + 1) (low + m + 1) ≡ true = late (low + 1) (low + m + 1) (omega arith) in
     rw (next, lines_more f symbols scenario (low + 1) (low + m), shown, lines_after f symbols scenario low m) refl
 
-pub traced : (f : LineForm) (symbols : SymbolTable) (scenario : Scenario) (p k count low : ℕ) → count ≡ min k p → low ≡ p - count → texts_after (λ number s. told_line f symbols scenario number s) scenario low count ≡ traced_text f symbols scenario p k
+pub traced : (f : LineForm) (symbols : SymbolTable) (scenario : Scenario) (p k count low : ℕ) → count ≡ min k p → low ≡ p - count
+    → texts_after (λ number s. told_line f symbols scenario number s) scenario low count ≡ traced_text f symbols scenario p k
 traced f symbols scenario p k count low is at =
     let end : low + count ≡ p = omega (arith, is, at) in
     let first : low + 1 ≡ p - k + 1 = omega (arith, is, at) in

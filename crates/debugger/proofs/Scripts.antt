@@ -4,11 +4,13 @@ use Rattle.std.specs.Prelude.{◌+◌, nat_lt, nat_le, length, codes, decimal}
 use Rattle.symbols.specs.Values.{SymbolTable}
 use Rattle.commands.specs.Commands.{parsed_line}
 use Rattle.commands.specs.declared.command.Breakpoint.{Breakpoint}
-use Rattle.commands.specs.declared.command.Command.TheVariants.{Step, Run, Back, Goto, Seek, Break, Clear, Registers, Memory, Channel, Last, Symbol, Changed, Tail, Add, Quit}
+use Rattle.commands.specs.declared.command.Command.TheVariants.{Step, Run, Back, Goto, Seek, Break, Clear, Registers, Memory, Channel, Last}
+use Rattle.commands.specs.declared.command.Command.TheVariants.{Symbol, Changed, Tail, Add, Quit}
 use Rattle.commands.specs.declared.command.ParsedLine.{ParsedLine}
 use Rattle.commands.specs.declared.command.ParsedLine.TheVariants.{Nothing, TooLong, Unknown, WrongCounter, Known}
 use Rattle.debugger.specs.History.{History, history}
-use Rattle.debugger.specs.Replies.{Desk, Reply, answer, reply, says, line, refuses, not_yet, moves, sought, last_stop, most_breakpoints, changed_text, places_changed}
+use Rattle.debugger.specs.Replies.{Desk, Reply, answer, reply, says, line, refuses, not_yet, moves, sought, last_stop, most_breakpoints}
+use Rattle.debugger.specs.Replies.{changed_text, places_changed}
 use Rattle.debugger.specs.Transcript.{line_reply, replies, ends}
 
 -- some lines, each ended
@@ -54,7 +56,9 @@ keeps-seek h d = elim (last_stop h d) as (λ o. Keeps d (sought h d o)) [
 keeps-break : (h : History) (d : Desk) (b : Breakpoint) → Keeps d (reply h d (Break b))
 unfolding reply
 keeps-break h d b =
-    elim (nat_le most_breakpoints (length d.breakpoints)) as (λ full. Keeps d (cond full (refuses d (codes "E52 FULL")) (says (line (codes "BREAK " ++ decimal (length d.breakpoints + 1))) (record d { breakpoints = d.breakpoints ++ b ∷ [] })))) [
+    elim (nat_le most_breakpoints (length d.breakpoints)) as
+    (λ full. Keeps d (cond full (refuses d (codes "E52 FULL"))
+    (says (line (codes "BREAK " ++ decimal (length d.breakpoints + 1))) (record d { breakpoints = d.breakpoints ++ b ∷ [] })))) [
       | true ↦ refl
       | false ↦ refl
     ]
@@ -101,13 +105,16 @@ nor_later false c e = e
 -- what a line brings, where the history of what runs now is known
 pub replies-line : (symbols : SymbolTable) (h : History) (d : Desk) (line : List ℕ) (more : List (List ℕ)) → history d.scenario ≡ h
     → replies symbols d (line ∷ more)
-    ≡ (if ends (parsed_line symbols line) then [] else (let r = answer h d (parsed_line symbols line) in r.text ++ replies symbols r.desk more))
+    ≡ (if ends (parsed_line symbols line) then [] else
+    (let r = answer h d (parsed_line symbols line) in r.text ++ replies symbols r.desk more))
 unfolding line_reply
 replies-line symbols h d line more e =
-    ap (λ (g : History). cond (ends (parsed_line symbols line)) [] (let r = answer g d (parsed_line symbols line) in r.text ++ replies symbols r.desk more)) e
+    ap (λ (g : History). cond (ends (parsed_line symbols line)) []
+    (let r = answer g d (parsed_line symbols line) in r.text ++ replies symbols r.desk more)) e
 
 -- the replies to lines that add no input are those over the history that is known
-pub same-replies : (symbols : SymbolTable) (h : History) (d : Desk) (ls : List (List ℕ)) → history d.scenario ≡ h → adds_none symbols ls ≡ true
+pub same-replies : (symbols : SymbolTable) (h : History) (d : Desk) (ls : List (List ℕ)) → history d.scenario ≡ h
+    → adds_none symbols ls ≡ true
     → replies symbols d ls ≡ replies_over h symbols d ls
 same-replies symbols h d [] e n = refl
 same-replies symbols h d (line ∷ more) e n =

@@ -1,5 +1,6 @@
 -- The step that is told to have entered an interrupt has entered it.
-use Rattle.std.proofs.Common.{◌≡◌, ◌<◌, ◌≤◌, ◌+◌, ℕ, zero, suc, Bool, true, false, cond, not, Option, Some, None, [], ◌++◌, refl, sym, ap, ◌∙◌, subst, arith, inl, inr}
+use Rattle.std.proofs.Common.{◌≡◌, ◌<◌, ◌≤◌, ◌+◌, ℕ, zero, suc, Bool, true, false, cond, not, Option, Some, None, [], ◌++◌, refl, sym, ap}
+use Rattle.std.proofs.Common.{◌∙◌, subst, arith, inl, inr}
 use Rattle.std.specs.Prelude.{codes, decimal}
 use Rattle.std.proofs.lemmas.Bool.{cases_eq}
 use Rattle.symbols.specs.Values.{SymbolTable}
@@ -35,16 +36,22 @@ by_word rope s out =
     let code = code_of s.extra (instruction_word rope s) in
     (leaves_flags rope (fetched s) code.instruction code.operand).1.1.0 ∙ stays_outside (fetched s) code out
 
-by_step : (scenario : Scenario) (s : State) (d : Option (Input × Option ℕ)) (k : Option ℕ) → due scenario.inputs s.taken s.cycles ≡ d → entry s ≡ k → s.inside ≡ false → (next scenario s).0.inside ≡ true
+by_step : (scenario : Scenario) (s : State) (d : Option (Input × Option ℕ)) (k : Option ℕ) → due scenario.inputs s.taken s.cycles ≡ d
+    → entry s ≡ k → s.inside ≡ false → (next scenario s).0.inside ≡ true
     → Entered scenario s
 unfolding next next_step
 by_step scenario s (Some given) k is_due is_entry out within = absurd (let kept = (inputs_keep_rest scenario s given is_due).inside in cc)
 by_step scenario s None (Some k) is_due is_entry out within =
-    record { interrupt = k; enters = ap (λ d. next_step_by scenario.rope s d (entry s)) is_due ∙ ap (next_step_by scenario.rope s None) is_entry }
+    record {
+      interrupt = k;
+      enters = ap (λ d. next_step_by scenario.rope s d (entry s)) is_due
+          ∙ ap (next_step_by scenario.rope s None) is_entry;
+    }
 by_step scenario s None None is_due is_entry out within =
     absurd (
     let still : (next scenario s).0.inside ≡ false =
-    ap (λ d. (next_by scenario.rope s d (entry s)).0.inside) is_due ∙ ap (λ k. (next_by scenario.rope s None k).0.inside) is_entry ∙ by_word scenario.rope s out in
+    ap (λ d. (next_by scenario.rope s d (entry s)).0.inside) is_due ∙ ap (λ k. (next_by scenario.rope s None k).0.inside) is_entry
+    ∙ by_word scenario.rope s out in
     cc)
 
 -- the last step that no interrupt is served after
@@ -66,7 +73,8 @@ serves scenario p t within h =
       | inl last ↦ subst (λ v. (run scenario v).inside ≡ true) (sym last) within
       | inr other ↦ is_served (run scenario u).inside (h.3 u after (omega (arith, before, other)))
     ]) in
-    let e = by_step scenario (run scenario t) (due scenario.inputs (run scenario t).taken (run scenario t).cycles) (entry (run scenario t)) refl refl out (inside (suc t) (omega arith) (omega (arith, h.1))) in
+    let e = by_step scenario (run scenario t) (due scenario.inputs (run scenario t).taken (run scenario t).cycles) (entry (run scenario t))
+    refl refl out (inside (suc t) (omega arith) (omega (arith, h.1))) in
     (e.interrupt, record { earlier = h.1; outside = out; enters = e.enters; inside = inside })
 
 -- the start is outside
@@ -75,12 +83,14 @@ unfolding run start
 outside_at_start scenario = refl
 
 module _ (symbols : SymbolTable) (scenario : Scenario) (p : ℕ) where
-  tells : (o : Option ℕ) → last_outside scenario p ≡ o → (run scenario p).inside ≡ true → IsLastHit (λ u. not (run scenario u).inside) 0 p o → TellsEntry symbols scenario p
+  tells : (o : Option ℕ) → last_outside scenario p ≡ o → (run scenario p).inside ≡ true → IsLastHit (λ u. not (run scenario u).inside) 0 p o
+      → TellsEntry symbols scenario p
   tells None e within h = absurd (at_start p within h)
     where
       at_start : (p : ℕ) → (run scenario p).inside ≡ true → IsLastHit (λ u. not (run scenario u).inside) 0 p None → ⊥
       at_start zero within h = absurd (let out = outside_at_start scenario in cc)
-      at_start (suc q) within h = absurd (let out = outside_at_start scenario in let served = is_served (run scenario 0).inside (h 0 (omega arith) (omega arith)) in cc)
+      at_start (suc q) within h = absurd (let out = outside_at_start scenario in let served = is_served (run scenario 0).inside
+          (h 0 (omega arith) (omega arith)) in cc)
   tells (Some t) e within h =
       let s = serves scenario p t within h in
       record {
@@ -88,8 +98,10 @@ module _ (symbols : SymbolTable) (scenario : Scenario) (p : ℕ) where
         interrupt = s.0;
         serves = s.1;
         mark = ap (λ (b : Bool). cond b (entered_mark (last_outside scenario p)) []) within ∙ ap entered_mark e;
-        told = ap (λ (b : Bool). cond b (entered_text symbols scenario (last_outside scenario p)) []) within ∙ ap (entered_text symbols scenario) e
-            ∙ ap (λ k. line (codes "IN " ++ kind_text symbols scenario.rope (run scenario t) k ++ codes " BY " ++ decimal (t + 1))) s.1.enters;
+        told = ap (λ (b : Bool). cond b (entered_text symbols scenario (last_outside scenario p)) []) within
+            ∙ ap (entered_text symbols scenario) e
+            ∙ ap (λ k. line (codes "IN " ++ kind_text symbols scenario.rope (run scenario t) k ++ codes " BY " ++ decimal (t + 1)))
+            s.1.enters;
       }
 
   entry_by : (b : Bool) → (run scenario p).inside ≡ b → EntryIsToldBy symbols scenario p b

@@ -1,5 +1,6 @@
 -- Where the next instruction stands, symbols by their beginnings, and words one after another, step by step.
-use Rattle.std.proofs.Common.{◌≡◌, ℕ, zero, suc, ◌+◌, ◌-◌, ◌<◌, ◌≤◌, List, [], ◌∷◌, ◌++◌, length, drop, Option, None, Some, true, false, refl, ap, arith, ◌∙◌, sym, append_assoc}
+use Rattle.std.proofs.Common.{◌≡◌, ℕ, zero, suc, ◌+◌, ◌-◌, ◌<◌, ◌≤◌, List, [], ◌∷◌, ◌++◌, length, drop, Option, None, Some, true, false}
+use Rattle.std.proofs.Common.{refl, ap, arith, ◌∙◌, sym, append_assoc}
 use Rattle.std.specs.Prelude.{codes, decimal, slice_get}
 use Rattle.std.specs.Option.{option_map, option_map_or, option_or}
 use Rattle.std.proofs.lemmas.List.{drop_more, drop_all}
@@ -22,32 +23,40 @@ use Rattle.debugger.specs.Standing.{place_before, nearest, begins_with, found_li
 
 -- one place further before
 nearest_more : (symbols : SymbolTable) (place : Linear) (d more : ℕ) → 0 < more
-    → nearest symbols place d more ≡ option_or (option_map (λ name. (name, d)) (symbol_at symbols (place_before place d))) (nearest symbols place (d + 1) (more - 1))
+    → nearest symbols place d more ≡ option_or (option_map (λ name. (name, d)) (symbol_at symbols (place_before place d)))
+    (nearest symbols place (d + 1) (more - 1))
 nearest_more symbols place d zero h = absurd (omega (arith, h))
 nearest_more symbols place d (suc more) h = let e : suc more - 1 ≡ more = omega arith in rw e refl
 
 -- no symbol stands so many places before
-pub nearest_passed : (symbols : SymbolTable) (place : Linear) (d n : ℕ) (whole : Option (List ℕ × ℕ)) → d < n → nearest symbols place d (n - d) ≡ whole
+pub nearest_passed : (symbols : SymbolTable) (place : Linear) (d n : ℕ) (whole : Option (List ℕ × ℕ)) → d < n
+    → nearest symbols place d (n - d) ≡ whole
     → None ≡ symbol_at symbols (place_before place d) → nearest symbols place (d + 1) (n - (d + 1)) ≡ whole
 nearest_passed symbols place d n whole below so_far none =
     let less : n - (d + 1) ≡ n - d - 1 = omega arith in
-    let one : nearest symbols place d (n - d) ≡ nearest symbols place (d + 1) (n - d - 1) = nearest_more symbols place d (n - d) (omega (arith, below)) ∙ rw (← none) refl in
+    let one : nearest symbols place d (n - d) ≡ nearest symbols place (d + 1) (n - d - 1) = nearest_more symbols place d (n - d)
+    (omega (arith, below)) ∙ rw (← none) refl in
     rw less (sym one ∙ so_far)
 
 -- the symbols from one on
-dropped : (symbols : SymbolTable) (i : ℕ) (symbol : List ℕ × Value) → Some symbol ≡ slice_get symbols i → drop i symbols ≡ symbol ∷ drop (i + 1) symbols
+dropped : (symbols : SymbolTable) (i : ℕ) (symbol : List ℕ × Value) → Some symbol ≡ slice_get symbols i
+    → drop i symbols ≡ symbol ∷ drop (i + 1) symbols
 dropped symbols i symbol is =
-    drop_more symbols i symbol (slice_get_within symbols i symbol (sym is)) ∙ ap (λ (e : List ℕ × Value). e ∷ drop (i + 1) symbols) (get_or_from_slice_get symbols i symbol symbol (sym is))
+    drop_more symbols i symbol (slice_get_within symbols i symbol (sym is))
+    ∙ ap (λ (e : List ℕ × Value). e ∷ drop (i + 1) symbols) (get_or_from_slice_get symbols i symbol symbol (sym is))
 
-pub found_yes : (text : List ℕ) (symbols : SymbolTable) (n i : ℕ) (symbol : List ℕ × Value) → Some symbol ≡ slice_get symbols i → begins_with text symbol.0 ≡ true
+pub found_yes : (text : List ℕ) (symbols : SymbolTable) (n i : ℕ) (symbol : List ℕ × Value) → Some symbol ≡ slice_get symbols i
+    → begins_with text symbol.0 ≡ true
     → found_from n text (drop i symbols) ≡ found_line symbol ++ found_from (n + 1) text (drop (i + 1) symbols)
 found_yes text symbols n i symbol is begins = ap (found_from n text) (dropped symbols i symbol is) ∙ rw begins refl
 
-pub found_no : (text : List ℕ) (symbols : SymbolTable) (n i : ℕ) (symbol : List ℕ × Value) → Some symbol ≡ slice_get symbols i → begins_with text symbol.0 ≡ false
+pub found_no : (text : List ℕ) (symbols : SymbolTable) (n i : ℕ) (symbol : List ℕ × Value) → Some symbol ≡ slice_get symbols i
+    → begins_with text symbol.0 ≡ false
     → found_from n text (drop i symbols) ≡ found_from n text (drop (i + 1) symbols)
 found_no text symbols n i symbol is begins = ap (found_from n text) (dropped symbols i symbol is) ∙ rw begins refl
 
-pub found_end : (text : List ℕ) (symbols : SymbolTable) (n i : ℕ) → length symbols ≤ i → found_from n text (drop i symbols) ≡ line (codes "COUNT " ++ decimal n)
+pub found_end : (text : List ℕ) (symbols : SymbolTable) (n i : ℕ) → length symbols ≤ i
+    → found_from n text (drop i symbols) ≡ line (codes "COUNT " ++ decimal n)
 found_end text symbols n i past = ap (found_from n text) (drop_all i symbols past)
 
 -- one word further on
@@ -56,7 +65,8 @@ words_more : (h : History) (seen : Sight) (place : Linear) (k more : ℕ) → 0 
 words_more h seen place k zero some = absurd (omega (arith, some))
 words_more h seen place k (suc more) some = let e : suc more - 1 ≡ more = omega arith in rw e refl
 
-pub words_pushed : (h : History) (seen : Sight) (place : Linear) (k count : ℕ) (text new whole : List ℕ) → k < count → text ++ words_from h seen place k (count - k) ≡ whole
+pub words_pushed : (h : History) (seen : Sight) (place : Linear) (k count : ℕ) (text new whole : List ℕ) → k < count
+    → text ++ words_from h seen place k (count - k) ≡ whole
     → new ≡ text ++ word_there h seen (place_after place k) → new ++ words_from h seen place (k + 1) (count - (k + 1)) ≡ whole
 words_pushed h seen place k count text new whole below so_far is =
     let row = word_there h seen (place_after place k) in
@@ -67,14 +77,18 @@ words_pushed h seen place k count text new whole below so_far is =
 
 -- the row so many places after a place
 abbrev pub row_at : RowKind → SymbolTable → Source → Scenario → State → Linear → ℕ → List ℕ
-row_at kind symbols source scenario s place i = row_text kind symbols source scenario.rope (history scenario) (sight scenario.rope s) (place_after place i)
+row_at kind symbols source scenario s place i = row_text kind symbols source scenario.rope (history scenario) (sight scenario.rope s)
+    (place_after place i)
 
 -- the row of a place was begun
 pub row_begun : (symbols : SymbolTable) (source : Source) (rope : Words) (h : History) (seen : Sight) (place : Linear) (old new : List ℕ)
-    → WritesBeginning old new (row_after (codes "LIST ") source rope (memory_word h seen place) place) → WritesBeginning old new (list_row symbols source rope h seen place)
+    → WritesBeginning old new (row_after (codes "LIST ") source rope (memory_word h seen place) place)
+    → WritesBeginning old new (list_row symbols source rope h seen place)
 row_begun symbols source rope h seen place old new begun = by (line_of source place) begun
   where
-    by : (line : Option ListedLine) → WritesBeginning old new (option_map_or (λ l. codes "LIST " ++ place_row rope (memory_word h seen place) place l) line [])
-        → WritesBeginning old new (option_map_or (λ l. codes "LIST " ++ place_row rope (memory_word h seen place) place l) line (plain_row symbols rope seen place))
+    by : (line : Option ListedLine) → WritesBeginning old new
+        (option_map_or (λ l. codes "LIST " ++ place_row rope (memory_word h seen place) place l) line [])
+        → WritesBeginning old new (option_map_or (λ l. codes "LIST " ++ place_row rope (memory_word h seen place) place l) line
+        (plain_row symbols rope seen place))
     by (Some l) w = w
     by None w = beginning-longer old new [] (plain_row symbols rope seen place) w

@@ -38,6 +38,7 @@ five_told_none = ap (λ (xs : List (ℕ × Output)). stepped_text (last_of 0 xs)
 abbrev later : ℕ → Output
 later cycles = record { cycles = cycles; channel = 8; word = 11 }
 
-last_two : stepped_text (last_of 2 ((4, ten) ∷ (9, later 15) ∷ (14, later 23) ∷ [])) ≡ codes "STEP 9 15 CH 010 00013\nSTEP 14 23 CH 010 00013\nTAIL 2\n"
+last_two : stepped_text (last_of 2 ((4, ten) ∷ (9, later 15) ∷ (14, later 23) ∷ []))
+    ≡ codes "STEP 9 15 CH 010 00013\nSTEP 14 23 CH 010 00013\nTAIL 2\n"
 unfolding digits octal_text
 last_two = refl

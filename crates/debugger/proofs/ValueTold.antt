@@ -1,5 +1,6 @@
 -- The fraction that `value` tells is the word's value.
-use Rattle.std.proofs.Common.{◌≡◌, ◌<◌, ◌≤◌, ℕ, zero, suc, ◌+◌, ◌-◌, ◌*◌, ◌/◌, ◌%◌, ◌^◌, true, false, cond, List, [], ◌∷◌, ◌++◌, length, nat_lt, refl, ap, ◌∙◌, arith, length-append}
+use Rattle.std.proofs.Common.{◌≡◌, ◌<◌, ◌≤◌, ℕ, zero, suc, ◌+◌, ◌-◌, ◌*◌, ◌/◌, ◌%◌, ◌^◌, true, false, cond, List, [], ◌∷◌, ◌++◌, length}
+use Rattle.std.proofs.Common.{nat_lt, refl, ap, ◌∙◌, arith, length-append}
 use Rattle.std.specs.Prelude.{codes, decimal, unsigned_abs}
 use Rattle.std.proofs.lemmas.Bool.Decides.{nat_tests}
 use Rattle.std.proofs.lemmas.Int.{ints}
@@ -58,5 +59,6 @@ value_is_told w = λ lt.
       bits = based_text 2 15 w;
       all_bits = digits 2 15 w;
       binary = bits_are 15 w lt;
-      text = ap (λ k. octal_text 5 w ++ codes " " ++ (sign_text w ++ decimal k) ++ codes " " ++ fraction_text w ++ codes " " ++ based_text 2 15 w) m;
+      text = ap (λ k. octal_text 5 w ++ codes " " ++ (sign_text w ++ decimal k) ++ codes " " ++ fraction_text w ++ codes " "
+          ++ based_text 2 15 w) m;
     }

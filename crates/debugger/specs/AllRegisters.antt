@@ -4,7 +4,8 @@ use Rattle.std.specs.List.{flat_map, range_with_len}
 use Rattle.std.specs.FinSet.{contains}
 use Rattle.words.specs.Numbers.{correct}
 use Rattle.words.specs.Numerals.{octal_text}
-use Rattle.space.specs.Cells.{Cells, get, at, superbank, accumulator, lower_accumulator, return_address, program_counter, erasable_bank, fixed_bank, both_banks}
+use Rattle.space.specs.Cells.{Cells, get, at, superbank, accumulator, lower_accumulator, return_address, program_counter, erasable_bank}
+use Rattle.space.specs.Cells.{fixed_bank, both_banks}
 use Rattle.cpu.specs.State.{State}
 use Rattle.debugger.specs.Replies.{line, flag_text}
 

@@ -15,7 +15,8 @@ spot_text symbols place = place_text place ++ nearest_text (nearest_symbol symbo
 
 -- the line of a call: its step, where it stands, and the routine
 abbrev pub call_line : SymbolTable → Call → List ℕ
-call_line symbols c = line (codes "CALL " ++ decimal c.step ++ codes " " ++ spot_text symbols c.from ++ codes " TO " ++ spot_text symbols c.routine)
+call_line symbols c = line (codes "CALL " ++ decimal c.step ++ codes " " ++ spot_text symbols c.from ++ codes " TO "
+    ++ spot_text symbols c.routine)
 
 -- a line for each of some calls, the last of them first
 abbrev pub call_lines : SymbolTable → List Call → List ℕ
@@ -28,4 +29,5 @@ count_line scenario p = line (codes "COUNT " ++ decimal (length (routines_inside
 -- those after p steps: of the interrupt that is served, with its line, and of what it came into; and how many they are
 unfoldable pub calls_text : SymbolTable → Scenario → ℕ → List ℕ
 calls_text symbols scenario p =
-    call_lines symbols (routines_inside scenario p) ++ inside_text symbols scenario p ++ call_lines symbols (routines scenario p) ++ count_line scenario p
+    call_lines symbols (routines_inside scenario p) ++ inside_text symbols scenario p ++ call_lines symbols (routines scenario p)
+    ++ count_line scenario p

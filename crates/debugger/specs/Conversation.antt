@@ -11,7 +11,10 @@ use Rattle.commands.specs.declared.extended.IndexLines.{IndexLines}
 use Rattle.commands.specs.declared.extended.IndexLines.TheVariants.{Omitted, Told}
 use Rattle.commands.specs.declared.extended.LinkLines.{LinkLines}
 use Rattle.commands.specs.declared.extended.ExtendedLine.{ExtendedLine}
-use Rattle.commands.specs.declared.extended.ExtendedLine.TheVariants.{Plain, Common, Says, Help, Breaks, ClearOne, On, AllRegisters, Until, WhyStep, Why, Words, Where, Find, Trace, Inputs, Over, Out, Listed, Values, Channels, Differs, WhySince, TailSteps, Survey, Say, WhatIf, Calls}
+use Rattle.commands.specs.declared.extended.ExtendedLine.TheVariants.{Plain, Common, Says, Help, Breaks, ClearOne, On, AllRegisters, Until}
+use Rattle.commands.specs.declared.extended.ExtendedLine.TheVariants.{WhyStep, Why, Words, Where, Find, Trace, Inputs, Over, Out, Listed}
+use Rattle.commands.specs.declared.extended.ExtendedLine.TheVariants.{Values, Channels, Differs, WhySince, TailSteps, Survey, Say, WhatIf}
+use Rattle.commands.specs.declared.extended.ExtendedLine.TheVariants.{Calls}
 use Rattle.commands.specs.declared.command.ParsedLine.TheVariants.{Known}
 use Rattle.debugger.specs.declared.manner.Manner.{Manner}
 use Rattle.debugger.specs.declared.manner.Manner.TheVariants as manner
@@ -113,7 +116,8 @@ index_effort Told = 9
 abbrev pub link_effort : LinkLines → ℕ
 link_effort lines = index_effort lines.index
 
--- how many times a request does, besides new ones: of `why` each link, and its last search once, or twice where it ends at a step; of the last outputs each, and all steps twice; of `where` and `out` four times, of `calls` five
+-- how many times a request does, besides new ones: of `why` each link, and its last search once, or twice where it ends at a step; of the
+-- last outputs each, and all steps twice; of `where` and `out` four times, of `calls` five
 abbrev pub effort : ExtendedLine → ℕ
 effort (WhyStep lines) = link_effort lines
 effort (Why subject k lines) = link_effort lines * k + 1
@@ -140,11 +144,13 @@ pub record Talk : Type 0 where
 
 -- the replies to lines, where the calls that make steps and those that add inputs are answered so
 abbrev pub talk_in : Talk → List Bool → List (Option ℕ) → List (List ℕ) → List ℕ
-talk_in s answers additions lines = conversation (terms_of s.symbols s.source s.scenario) s.read (first_desk s.scenario answers additions) lines
+talk_in s answers additions lines = conversation (terms_of s.symbols s.source s.scenario) s.read (first_desk s.scenario answers additions)
+    lines
 
 -- and where they lead to
 abbrev pub talk_leads_to : Talk → List Bool → List (Option ℕ) → List (List ℕ) → Desk
-talk_leads_to s answers additions lines = last_desk (terms_of s.symbols s.source s.scenario) s.read (first_desk s.scenario answers additions) lines
+talk_leads_to s answers additions lines = last_desk (terms_of s.symbols s.source s.scenario) s.read
+    (first_desk s.scenario answers additions) lines
 
 -- the replies to lines were written, under some answers; where the keeper may not refuse, no call that makes a step was
 -- refused for memory
@@ -177,10 +183,12 @@ Talks s commands old new (Err WriteFailed) = BeginsTalk s (lines_within s.most c
 
 -- the session that is left, under the answers by which the replies were written: it stands where its lines lead to; at the start
 -- where memory ran out; after a failed read where the whole lines before lead to. After a failed write nothing is said of it here
-abbrev pub LeavesTalk : (s : Talk) (commands : Commands) (old new : List ℕ) (result : Result (Unit {0}) DebugFault) → SessionView → Talks s commands old new result → Type 0
+abbrev pub LeavesTalk : (s : Talk) (commands : Commands) (old new : List ℕ) (result : Result (Unit {0}) DebugFault) → SessionView
+    → Talks s commands old new result → Type 0
 LeavesTalk s commands old new (Ok x) left w = StandsAt (talk_leads_to s w.answers w.additions (lines_within s.most commands.before)) left
 LeavesTalk s commands old new (Err NoMemory) left same = StandsAt (first_desk s.scenario [] []) left
-LeavesTalk s commands old new (Err ReadFailed) left e = StandsAt (talk_leads_to s e.replied.answers e.replied.additions (ended_lines e.bytes)) left
+LeavesTalk s commands old new (Err ReadFailed) left e = StandsAt
+    (talk_leads_to s e.replied.answers e.replied.additions (ended_lines e.bytes)) left
 LeavesTalk s commands old new (Err WriteFailed) left b = Unit {0}
 
 -- both

@@ -3,7 +3,8 @@ use Rattle.std.specs.Prelude.{ℕ, ◌+◌, ◌==◌, nat_lt, not, Bool, List, �
 use Rattle.std.specs.List.{flat_map, range_with_len}
 use Rattle.words.specs.Numbers.{correct}
 use Rattle.words.specs.Numerals.{octal_text}
-use Rattle.space.specs.Cells.{Cells, get, at, accumulator, lower_accumulator, return_address, erasable_bank, fixed_bank, program_counter, both_banks, channel_count, changed_places}
+use Rattle.space.specs.Cells.{Cells, get, at, accumulator, lower_accumulator, return_address, erasable_bank, fixed_bank, program_counter}
+use Rattle.space.specs.Cells.{both_banks, channel_count, changed_places}
 use Rattle.space.specs.declared.place.Linear.TheVariants.{Erasable}
 use Rattle.yayul.specs.Listing.{place_text}
 use Rattle.cpu.specs.State.{Scenario}

@@ -19,11 +19,13 @@ use Rattle.debugger.specs.Routines.{goes_to, grows_there}
 use Rattle.debugger.specs.declared.ending.Ending.{Ending}
 
 -- steps were made, up to an ending, and the lines of their outputs written
-pub record Grown (may_refuse : Bool) (h : History) (breakpoints : List Breakpoint) (more n : ℕ) (ending : Ending) (steps : ℕ) (old new : List ℕ) : Type 0 where
+pub record Grown (may_refuse : Bool) (h : History) (breakpoints : List Breakpoint) (more n : ℕ) (ending : Ending) (steps : ℕ)
+    (old new : List ℕ) : Type 0 where
   pub answers : List Bool
   pub granted : may_refuse ≡ false → AllGranted answers
   pub text : List ℕ
-  pub goes_on : (rest : List Bool) → grow h breakpoints more n (answers ++ rest) ≡ record { text = text; steps = steps; answers = rest; ending = ending }
+  pub goes_on : (rest : List Bool) → grow h breakpoints more n (answers ++ rest)
+      ≡ record { text = text; steps = steps; answers = rest; ending = ending }
   pub written : new ≡ old ++ text
 
 -- a line of an output could not be written whole
@@ -55,11 +57,13 @@ answered m d request answers additions = to_request m request (awaiting d answer
 
 -- something that is asked for has this text as its reply, and leads from one place to the other
 abbrev pub BringsAsked : Desk → ExtendedLine → List ℕ → Desk → Type 0
-BringsAsked from request text to = (terms : Terms) (answers : List Bool) (additions : List (Option ℕ)) → to_asked terms request (awaiting from answers additions) ≡ says text (awaiting to answers additions)
+BringsAsked from request text to = (terms : Terms) (answers : List Bool) (additions : List (Option ℕ))
+    → to_asked terms request (awaiting from answers additions) ≡ says text (awaiting to answers additions)
 
 -- a request has this text as its reply in a manner, and leads from one place to the other
 abbrev pub BringsIn : Manner → Desk → ParsedLine → List ℕ → Desk → Type 0
-BringsIn m from request text to = (answers : List Bool) (additions : List (Option ℕ)) → answered m from request answers additions ≡ says text (awaiting to answers additions)
+BringsIn m from request text to = (answers : List Bool) (additions : List (Option ℕ))
+    → answered m from request answers additions ≡ says text (awaiting to answers additions)
 
 -- the same, in any manner
 abbrev pub Brings : Desk → ParsedLine → List ℕ → Desk → Type 0
@@ -68,7 +72,8 @@ Brings from request text to = (m : Manner) → BringsIn m from request text to
 -- a request that may add an input has this text as its reply, under some answers of the calls that add
 pub record BringsAdding (from : Desk) (request : ParsedLine) (text : List ℕ) (to : Desk) : Type 0 where
   pub additions : List (Option ℕ)
-  pub brings : (m : Manner) (answers : List Bool) (later : List (Option ℕ)) → answered m from request answers (additions ++ later) ≡ says text (awaiting to answers later)
+  pub brings : (m : Manner) (answers : List Bool) (later : List (Option ℕ))
+      → answered m from request answers (additions ++ later) ≡ says text (awaiting to answers later)
 
 -- something was answered: its reply was written
 pub record Replied (may_refuse : Bool) (reply : Desk → Reply) (from to : Desk) (old new : List ℕ) : Type 0 where
@@ -76,7 +81,8 @@ pub record Replied (may_refuse : Bool) (reply : Desk → Reply) (from to : Desk)
   pub additions : List (Option ℕ)
   pub granted : may_refuse ≡ false → AllGranted answers
   pub text : List ℕ
-  pub brings : (rest : List Bool) (later : List (Option ℕ)) → reply (awaiting from (answers ++ rest) (additions ++ later)) ≡ says text (awaiting to rest later)
+  pub brings : (rest : List Bool) (later : List (Option ℕ))
+      → reply (awaiting from (answers ++ rest) (additions ++ later)) ≡ says text (awaiting to rest later)
   pub written : new ≡ old ++ text
 
 -- its reply could not be written whole

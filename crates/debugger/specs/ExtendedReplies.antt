@@ -1,5 +1,6 @@
 -- What each line of an extended session brings.
-use Rattle.std.specs.Prelude.{ℕ, ◌+◌, ◌-◌, nat_lt, nat_le, ◌&&◌, min, Option, None, Some, is_some, List, [], ◌∷◌, ◌++◌, length, codes, decimal, if◌then◌else◌}
+use Rattle.std.specs.Prelude.{ℕ, ◌+◌, ◌-◌, nat_lt, nat_le, ◌&&◌, min, Option, None, Some, is_some, List, [], ◌∷◌, ◌++◌, length, codes}
+use Rattle.std.specs.Prelude.{decimal, if◌then◌else◌}
 use Rattle.std.specs.List.{remove}
 use Rattle.words.specs.Numerals.{octal_text}
 use Rattle.space.specs.declared.place.Linear.TheVariants.{Erasable}
@@ -10,7 +11,10 @@ use Rattle.commands.specs.declared.command.Breakpoint.TheVariants.{Place, Word, 
 use Rattle.commands.specs.declared.subject.Subject.{Subject}
 use Rattle.commands.specs.declared.subject.Subject.TheVariants as subject
 use Rattle.commands.specs.declared.extended.ExtendedLine.{ExtendedLine}
-use Rattle.commands.specs.declared.extended.ExtendedLine.TheVariants.{Plain, Common, Says, Help, Breaks, ClearOne, On, AllRegisters, Until, WhyStep, Why, Words, Where, Find, Trace, Inputs, Over, Out, Listed, Values, Channels, Differs, WhySince, TailSteps, Survey, Say, WhatIf, Calls}
+use Rattle.commands.specs.declared.extended.ExtendedLine.TheVariants.{Plain, Common, Says, Help, Breaks, ClearOne, On, AllRegisters, Until}
+use Rattle.commands.specs.declared.extended.ExtendedLine.TheVariants.{WhyStep, Why, Words, Where, Find, Trace, Inputs, Over, Out, Listed}
+use Rattle.commands.specs.declared.extended.ExtendedLine.TheVariants.{Values, Channels, Differs, WhySince, TailSteps, Survey, Say, WhatIf}
+use Rattle.commands.specs.declared.extended.ExtendedLine.TheVariants.{Calls}
 use Rattle.cpu.specs.Run.{run}
 use Rattle.debugger.specs.History.{History, in_manner}
 use Rattle.debugger.specs.declared.manner.Manner.TheVariants as manner
@@ -35,7 +39,8 @@ use Rattle.debugger.specs.Growth.{grow, hit_at}
 use Rattle.debugger.specs.declared.ending.Ending.{Ending}
 use Rattle.debugger.specs.declared.ending.Ending.TheVariants.{Reached, Hit, NoMemory, Limit}
 use Rattle.commands.specs.Extended.{most_count}
-use Rattle.debugger.specs.Replies.{Desk, Reply, says, here, line, refuses, answer, reply, sought, moves, stands, ending_line, after_text, after_growth, after_steps}
+use Rattle.debugger.specs.Replies.{Desk, Reply, says, here, line, refuses, answer, reply, sought, moves, stands, ending_line, after_text}
+use Rattle.debugger.specs.Replies.{after_growth, after_steps}
 
 -- an erasable place as a listing has it, or a channel
 abbrev pub subject_text : Subject → List ℕ
@@ -62,7 +67,8 @@ breaks_from i (b ∷ more) = line (codes "BREAK " ++ decimal (i + 1) ++ codes " 
 -- one breakpoint is taken away, by its number; those after it are numbered anew
 abbrev pub clears_one : Desk → ℕ → Reply
 clears_one d i =
-    if nat_lt 0 i && nat_le i (length d.breakpoints) then says (line (codes "CLEAR " ++ decimal i)) (record d { breakpoints = remove d.breakpoints (i - 1) })
+    if nat_lt 0 i && nat_le i (length d.breakpoints) then says (line (codes "CLEAR " ++ decimal i))
+    (record d { breakpoints = remove d.breakpoints (i - 1) })
     else refuses d (codes "NONE")
 
 -- the first step after the position, of so many that stand, at which a breakpoint holds
@@ -116,7 +122,8 @@ extended_reply terms h d (Until cycles) = goes_until (further h) d cycles (first
 extended_reply terms h d AllRegisters = says (all_registers (run d.scenario d.position)) d
 extended_reply terms h d (WhyStep lines) = says (last_text terms.symbols d.scenario lines d.position) d
 extended_reply terms h d (Why subject k lines) = says (why_text terms.symbols d.scenario lines k d.position (subject_spots subject)) d
-extended_reply terms h d (WhySince subject k lines since) = says (since_text terms.symbols d.scenario lines since k d.position (subject_spots subject)) d
+extended_reply terms h d (WhySince subject k lines since) = says
+    (since_text terms.symbols d.scenario lines since k d.position (subject_spots subject)) d
 extended_reply terms h d (Words place k) = says (words_text h (here h d) place k) d
 extended_reply terms h d Where = says (where_text terms.symbols terms.source d.scenario d.position) d
 extended_reply terms h d (Find text) = says (found_text terms.symbols text) d

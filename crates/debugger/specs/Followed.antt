@@ -4,7 +4,8 @@ use Rattle.cpu.specs.State.{State, Scenario}
 use Rattle.debugger.specs.Routines.{stepped, stepped_inside}
 use Rattle.debugger.specs.declared.routines.Call.{Call}
 
--- how many steps were looked at, and the calls before the next one: those that no interrupt entered, and those that the one entered that is served
+-- how many steps were looked at, and the calls before the next one: those that no interrupt entered, and those that the one entered that is
+-- served
 pub record Follower : Type 0 where
   pub steps : ℕ
   pub outer : List Call

@@ -50,13 +50,15 @@ parts terms read d (line ∷ more) =
 abbrev pub part_text : Part → List ℕ
 part_text p = channel_lines p.outputs ++ p.rest
 
--- The replies to lines are their parts, one after another; and the outputs of these are those of the run up to the last step that was made, each once, however one
--- went back and forth.
+-- The replies to lines are their parts, one after another; and the outputs of these are those of the run up to the last step that was made,
+-- each once, however one went back and forth.
 pub record TellsOnce (terms : Terms) (read : Reading) (first : Desk) (lines : List (List ℕ)) : Type 0 where
   pub text : conversation terms read first lines ≡ flat_map part_text (parts terms read first lines)
-  pub once : flat_map (λ p. p.outputs) (parts terms read first lines) ≡ outs (last_desk terms read first lines).scenario (last_desk terms read first lines).steps
+  pub once : flat_map (λ p. p.outputs) (parts terms read first lines)
+      ≡ outs (last_desk terms read first lines).scenario (last_desk terms read first lines).steps
 
 -- So it is of any session over inputs in their order, in each manner, whatever its calls that take memory are answered.
 abbrev pub OutputsAreToldOnce : Manner → SymbolTable → Source → Scenario → List Bool → List (Option ℕ) → List (List ℕ) → Type 0
 OutputsAreToldOnce manner symbols source scenario answers additions lines =
-    IsInOrder scenario.inputs → TellsOnce (terms_of symbols source scenario) (reading manner symbols) (first_desk scenario answers additions) lines
+    IsInOrder scenario.inputs → TellsOnce (terms_of symbols source scenario) (reading manner symbols)
+    (first_desk scenario answers additions) lines

@@ -1,5 +1,6 @@
 -- What each command replies, and the state after it.
-use Rattle.std.specs.Prelude.{ℕ, ◌+◌, ◌-◌, ◌==◌, nat_lt, nat_le, min, not, Bool, true, false, List, [], ◌∷◌, ◌++◌, length, drop, filter, Option, None, Some, is_some, codes, decimal, if◌then◌else◌}
+use Rattle.std.specs.Prelude.{ℕ, ◌+◌, ◌-◌, ◌==◌, nat_lt, nat_le, min, not, Bool, true, false, List, [], ◌∷◌, ◌++◌, length, drop, filter}
+use Rattle.std.specs.Prelude.{Option, None, Some, is_some, codes, decimal, if◌then◌else◌}
 use Rattle.std.specs.List.{flat_map, range_with_len}
 use Rattle.words.specs.Numerals.{octal_text}
 use Rattle.feed.specs.declared.input.Input.{Input}
@@ -23,7 +24,8 @@ use Rattle.debugger.specs.History.{Sight, History}
 use Rattle.debugger.specs.Growth.{Growth, grow, later, word_seen, channel_seen, hit_at}
 use Rattle.commands.specs.declared.command.Breakpoint.{Breakpoint}
 use Rattle.commands.specs.declared.command.Command.{Command}
-use Rattle.commands.specs.declared.command.Command.TheVariants.{Step, Run, Back, Goto, Seek, Break, Clear, Registers, Memory, Channel, Last, Symbol, Changed, Tail, Add, Quit}
+use Rattle.commands.specs.declared.command.Command.TheVariants.{Step, Run, Back, Goto, Seek, Break, Clear, Registers, Memory, Channel, Last}
+use Rattle.commands.specs.declared.command.Command.TheVariants.{Symbol, Changed, Tail, Add, Quit}
 use Rattle.debugger.specs.declared.ending.Ending.{Ending}
 use Rattle.debugger.specs.declared.ending.Ending.TheVariants.{Reached, Hit, NoMemory, Limit}
 use Rattle.commands.specs.declared.command.ParsedLine.{ParsedLine}
@@ -161,7 +163,8 @@ flag_text true = codes "1"
 -- four flags, each after its name
 abbrev pub flags_text : Bool → Bool → Bool → Bool → List ℕ
 flags_text sup extra inhibit inside =
-    codes " SUP " ++ flag_text sup ++ codes " EXT " ++ flag_text extra ++ codes " INH " ++ flag_text inhibit ++ codes " INT " ++ flag_text inside
+    codes " SUP " ++ flag_text sup ++ codes " EXT " ++ flag_text extra ++ codes " INH " ++ flag_text inhibit ++ codes " INT "
+    ++ flag_text inside
 
 -- the line of the registers
 unfoldable pub registers_line : Sight → List ℕ

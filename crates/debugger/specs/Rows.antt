@@ -1,4 +1,5 @@
--- The row of a place: as the listing has it, or its word as the instruction that it is; or as a number in octal, in decimal, as a fraction and in binary.
+-- The row of a place: as the listing has it, or its word as the instruction that it is; or as a number in octal, in decimal, as a fraction
+-- and in binary.
 use Rattle.std.specs.Prelude.{ℕ, zero, suc, ◌*◌, ◌/◌, ◌%◌, ◌+◌, ◌^◌, nat_lt, List, [], ◌∷◌, ◌++◌, codes, decimal, if◌then◌else◌}
 use Rattle.std.specs.Option.{option_map_or}
 use Rattle.words.specs.Numbers.{neg}
@@ -25,7 +26,8 @@ plain_row symbols rope seen (Fixed bank offset) = codes "LIST " ++ named_line sy
 -- the row of a place: that of the listing, with the word that stands there, where a line of the source shows the place
 abbrev pub list_row : SymbolTable → Source → Words → History → Sight → Linear → List ℕ
 list_row symbols source rope h seen place =
-    option_map_or (λ l. codes "LIST " ++ place_row rope (memory_word h seen place) place l) (line_of source place) (plain_row symbols rope seen place)
+    option_map_or (λ l. codes "LIST " ++ place_row rope (memory_word h seen place) place l) (line_of source place)
+    (plain_row symbols rope seen place)
 
 -- the last k digits of n in a base
 unfoldable pub based_text : ℕ → ℕ → ℕ → List ℕ

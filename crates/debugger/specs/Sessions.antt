@@ -70,10 +70,12 @@ Debugs s commands old new (Err WriteFailed) = BeginsReplies s (command_lines com
 
 -- the session that is left, under the answers by which the replies were written: it stands where its lines lead to; at the start
 -- where memory ran out; after a failed read where the whole lines before lead to. After a failed write nothing is said of it here
-abbrev pub Leaves : (s : Setting) (commands : Commands) (old new : List ℕ) (result : Result (Unit {0}) DebugFault) → SessionView → Debugs s commands old new result → Type 0
+abbrev pub Leaves : (s : Setting) (commands : Commands) (old new : List ℕ) (result : Result (Unit {0}) DebugFault) → SessionView
+    → Debugs s commands old new result → Type 0
 Leaves s commands old new (Ok x) left w = StandsAt (replies_lead_to s w.answers w.additions (command_lines commands.before)) left
 Leaves s commands old new (Err NoMemory) left same = StandsAt (first_desk s.scenario [] []) left
-Leaves s commands old new (Err ReadFailed) left e = StandsAt (replies_lead_to s e.replied.answers e.replied.additions (ended_lines e.bytes)) left
+Leaves s commands old new (Err ReadFailed) left e = StandsAt (replies_lead_to s e.replied.answers e.replied.additions (ended_lines e.bytes))
+    left
 Leaves s commands old new (Err WriteFailed) left b = Unit {0}
 
 -- both

@@ -1,5 +1,6 @@
 -- Where the next instruction stands; symbols by the beginnings of their names; and words one after another.
-use Rattle.std.specs.Prelude.{ℕ, zero, suc, ◌+◌, ◌-◌, Bool, List, [], ◌∷◌, ◌++◌, length, take, min, Option, None, Some, is_some, codes, decimal, if◌then◌else◌}
+use Rattle.std.specs.Prelude.{ℕ, zero, suc, ◌+◌, ◌-◌, Bool, List, [], ◌∷◌, ◌++◌, length, take, min, Option, None, Some, is_some, codes}
+use Rattle.std.specs.Prelude.{decimal, if◌then◌else◌}
 use Rattle.std.specs.List.{flat_map, range_with_len}
 use Rattle.std.specs.Option.{option_map, option_or}
 use Rattle.agc_text.specs.Tables.{same_name}
@@ -34,7 +35,8 @@ place_before (Fixed bank offset) d = Fixed bank (offset - d)
 -- the first symbol that stands nearest before a place, sought from so many places before on; and how far before it stands
 abbrev pub nearest : SymbolTable → Linear → ℕ → ℕ → Option (List ℕ × ℕ)
 nearest symbols place d zero = None
-nearest symbols place d (suc more) = option_or (option_map (λ name. (name, d)) (symbol_at symbols (place_before place d))) (nearest symbols place (d + 1) more)
+nearest symbols place d (suc more) = option_or (option_map (λ name. (name, d)) (symbol_at symbols (place_before place d)))
+    (nearest symbols place (d + 1) more)
 
 abbrev pub nearest_symbol : SymbolTable → Linear → Option (List ℕ × ℕ)
 nearest_symbol symbols place = nearest symbols place 0 (places_before place + 1)

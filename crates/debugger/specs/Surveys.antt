@@ -1,5 +1,6 @@
 -- What happened in some steps, bucket by bucket.
-use Rattle.std.specs.Prelude.{ℕ, zero, suc, ◌+◌, ◌-◌, ◌/◌, nat_lt, min, Bool, true, false, List, ◌++◌, map, codes, decimal, is_some, if◌then◌else◌}
+use Rattle.std.specs.Prelude.{ℕ, zero, suc, ◌+◌, ◌-◌, ◌/◌, nat_lt, min, Bool, true, false, List, ◌++◌, map, codes, decimal, is_some}
+use Rattle.std.specs.Prelude.{if◌then◌else◌}
 use Rattle.std.specs.List.{flat_map}
 use Rattle.words.specs.Numerals.{octal_text}
 use Rattle.commands.specs.declared.subject.Subject.{Subject}
@@ -83,7 +84,8 @@ bucket scenario subjects low m =
 
 -- the least, the greatest and the last word
 abbrev pub watch_text : Watch → List ℕ
-watch_text watch = codes " : " ++ octal_text 5 watch.least ++ codes " " ++ octal_text 5 watch.greatest ++ codes " " ++ octal_text 5 watch.last
+watch_text watch = codes " : " ++ octal_text 5 watch.least ++ codes " " ++ octal_text 5 watch.greatest ++ codes " "
+    ++ octal_text 5 watch.last
 
 -- the line of a bucket that ends with a step
 unfoldable pub bucket_line : ℕ → Bucket → List ℕ
@@ -111,4 +113,5 @@ width_of steps buckets = (steps - 1) / buckets
 abbrev pub survey_text : Scenario → ℕ → Surveyed → List ℕ
 survey_text scenario n asked =
     if nat_lt n asked.last then line (codes "E41 NOT YET")
-    else bucket_lines scenario asked.subjects (width_of (asked.last - (asked.first - 1)) asked.buckets) asked.last asked.buckets 0 (asked.first - 1)
+    else bucket_lines scenario asked.subjects (width_of (asked.last - (asked.first - 1)) asked.buckets) asked.last asked.buckets 0
+    (asked.first - 1)

@@ -34,9 +34,10 @@ TellsBy told lowest output true (Some number) old new = TellsWhole told lowest o
 TellsBy told lowest output true None old new = TellsPart told output old new
 
 -- a step is told, with its output and the lowest breakpoint that holds after it
-pub record Tells (told : Bool) (lowest : Option ℕ) (output : Option Output) (ended : Bool) (hit : Option ℕ) (old new : Telling) : Type 0 where
-  pub tail : MatchOption output (new.tail ≡ old.tail) (λ o. new.tail ≡ last_of tail_length (old.tail ++ o ∷ []))
-  pub by : TellsBy told lowest output ended hit old new
+pub record Tells (told : Bool) (lowest : Option ℕ) (output : Option Output) (ended : Bool) (hit : Option ℕ) (old new : Telling) : Type 0
+  where
+    pub tail : MatchOption output (new.tail ≡ old.tail) (λ o. new.tail ≡ last_of tail_length (old.tail ++ o ∷ []))
+    pub by : TellsBy told lowest output ended hit old new
 
 -- how steps end that were told
 abbrev pub EndsAs : Stop → Option ℕ → Result Ending WriteFailed → Type 0

@@ -8,7 +8,8 @@ use Rattle.cpu.specs.Chains.{cells_among}
 use Rattle.cpu.specs.declared.spot.Spot.{Spot}
 use Rattle.debugger.specs.Whys.{CellSet, why_text}
 
-pub record ToldLinks (symbols : SymbolTable) (scenario : Scenario) (lines : LinkLines) (whole old new : List ℕ) (left before : ℕ) (pending : CellSet) : Type 0 where
+pub record ToldLinks (symbols : SymbolTable) (scenario : Scenario) (lines : LinkLines) (whole old new : List ℕ) (left before : ℕ)
+    (pending : CellSet) : Type 0 where
   pub spots : List Spot
   pub pending_is : pending ≡ cells_among spots
   pub text : List ℕ

@@ -9,7 +9,8 @@ use Rattle.cpu.specs.declared.spot.Spot.{Spot}
 use Rattle.debugger.specs.Whys.{CellSet}
 use Rattle.debugger.specs.WhysSince.{since_text}
 
-pub record ToldSince (symbols : SymbolTable) (scenario : Scenario) (lines : LinkLines) (since : ℕ) (whole old new : List ℕ) (left before : ℕ) (pending : CellSet) : Type 0 where
+pub record ToldSince (symbols : SymbolTable) (scenario : Scenario) (lines : LinkLines) (since : ℕ) (whole old new : List ℕ)
+    (left before : ℕ) (pending : CellSet) : Type 0 where
   pub spots : List Spot
   pub pending_is : pending ≡ cells_among spots
   pub text : List ℕ

@@ -1,5 +1,6 @@
 -- How a word came to be what it is, as text: the steps of a chain, the last first, each with what it wrote and what it read.
-use Rattle.std.specs.Prelude.{ℕ, suc, zero, ◌+◌, ◌==◌, ◌&&◌, ◌||◌, not, Bool, true, false, Option, None, Some, List, [], ◌∷◌, ◌++◌, map, filter, length, unwrap_or, codes, decimal, if◌then◌else◌}
+use Rattle.std.specs.Prelude.{ℕ, suc, zero, ◌+◌, ◌==◌, ◌&&◌, ◌||◌, not, Bool, true, false, Option, None, Some, List, [], ◌∷◌, ◌++◌, map}
+use Rattle.std.specs.Prelude.{filter, length, unwrap_or, codes, decimal, if◌then◌else◌}
 use Rattle.std.specs.List.{flat_map, range_with_len}
 use Rattle.std.specs.Ordering.{nat_cmp}
 use Rattle.std.specs.FinSet as set
@@ -93,7 +94,8 @@ cell_text symbols cells c = codes " " ++ cell_name symbols c ++ codes " " ++ cel
 
 abbrev pub fixed_text : SymbolTable → Words → ℕ → ℕ → List ℕ
 fixed_text symbols rope bank offset =
-    codes " " ++ unwrap_or (place_name symbols (Fixed bank offset)) (place_text (Fixed bank offset)) ++ codes " " ++ octal_text 5 (word_at rope bank offset)
+    codes " " ++ unwrap_or (place_name symbols (Fixed bank offset)) (place_text (Fixed bank offset)) ++ codes " "
+    ++ octal_text 5 (word_at rope bank offset)
 
 abbrev pub spot_text : SymbolTable → Words → Cells → Spot → List ℕ
 spot_text symbols rope cells (Cell c) = cell_text symbols cells c
@@ -189,11 +191,13 @@ operand_part symbols scenario before = reads_part symbols scenario.rope before (
 
 -- the line of an INDEX, by the number of its step, what this is, the sum that it left and what it read
 abbrev pub index_by : ℕ → List ℕ → ℕ → List ℕ → List ℕ
-index_by number kind sum read = line (codes "INDEX " ++ decimal number ++ codes " " ++ kind ++ codes " :" ++ added_text (Some sum) ++ codes " FROM" ++ read)
+index_by number kind sum read = line (codes "INDEX " ++ decimal number ++ codes " " ++ kind ++ codes " :" ++ added_text (Some sum)
+    ++ codes " FROM" ++ read)
 
 abbrev pub index_line : SymbolTable → Scenario → ℕ → Option ℕ → List ℕ
 index_line symbols scenario sum None = []
-index_line symbols scenario sum (Some t) = index_by (t + 1) (kind_part symbols scenario (run scenario t)) sum (operand_part symbols scenario (run scenario t))
+index_line symbols scenario sum (Some t) = index_by (t + 1) (kind_part symbols scenario (run scenario t)) sum
+    (operand_part symbols scenario (run scenario t))
 
 -- the line of the INDEX that moved the operand of the step after t steps, if one did
 abbrev pub moved_line : SymbolTable → Scenario → ℕ → Option ℕ → List ℕ
@@ -221,12 +225,14 @@ place_part scenario places t = placed_by places (t + 1) (step_place (next_step s
 
 -- the lines of a step
 abbrev pub link_lines : SymbolTable → Scenario → LinkLines → ℕ → List Spot → List ℕ
-link_lines symbols scenario lines t xs = link_line symbols scenario t xs ++ place_part scenario lines.places t ++ index_part symbols scenario lines.index t
+link_lines symbols scenario lines t xs = link_line symbols scenario t xs ++ place_part scenario lines.places t
+    ++ index_part symbols scenario lines.index t
 
 -- those of a chain from some spots
 abbrev pub chain_text : SymbolTable → Scenario → LinkLines → List Spot → List ℕ → List ℕ
 chain_text symbols scenario lines xs [] = []
-chain_text symbols scenario lines xs (t ∷ ts) = link_lines symbols scenario lines t xs ++ chain_text symbols scenario lines (before_step scenario t xs) ts
+chain_text symbols scenario lines xs (t ∷ ts) = link_lines symbols scenario lines t xs
+    ++ chain_text symbols scenario lines (before_step scenario t xs) ts
 
 -- how it ends, by whether it was cut short and which cells are left: all of them were told; more may be; or what is left was
 -- never written since the start, and is told with what it held there
@@ -241,7 +247,8 @@ end_from symbols cut xs = end_text symbols cut (cells_of (cells_among xs))
 
 -- how what stands at some spots after p steps came to be, by at most k steps, which are a chain (`why_is_chain`)
 abbrev pub chained_text : SymbolTable → Scenario → LinkLines → ℕ → List Spot → List ℕ → List ℕ
-chained_text symbols scenario lines k xs ts = chain_text symbols scenario lines xs ts ++ end_from symbols (length ts == k) (chain_origins scenario xs ts)
+chained_text symbols scenario lines k xs ts = chain_text symbols scenario lines xs ts
+    ++ end_from symbols (length ts == k) (chain_origins scenario xs ts)
 
 unfoldable pub why_text : SymbolTable → Scenario → LinkLines → ℕ → ℕ → List Spot → List ℕ
 why_text symbols scenario lines k p xs = chained_text symbols scenario lines k xs (why_steps scenario k p xs)

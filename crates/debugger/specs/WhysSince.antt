@@ -1,5 +1,6 @@
 -- `why` since a step: the steps of a chain from one on, and nothing of those before.
-use Rattle.std.specs.Prelude.{ℕ, zero, suc, ◌+◌, ◌-◌, nat_le, not, Bool, true, false, List, [], ◌∷◌, ◌++◌, length, Option, None, Some, codes, decimal, if◌then◌else◌}
+use Rattle.std.specs.Prelude.{ℕ, zero, suc, ◌+◌, ◌-◌, nat_le, not, Bool, true, false, List, [], ◌∷◌, ◌++◌, length, Option, None, Some}
+use Rattle.std.specs.Prelude.{codes, decimal, if◌then◌else◌}
 use Rattle.symbols.specs.Values.{SymbolTable}
 use Rattle.cpu.specs.State.{State, Scenario}
 use Rattle.cpu.specs.Run.{run}
@@ -13,7 +14,8 @@ use Rattle.commands.specs.declared.extended.IndexLines.{IndexLines}
 use Rattle.commands.specs.declared.extended.IndexLines.TheVariants.{Omitted, Told}
 use Rattle.commands.specs.declared.extended.LinkLines.{LinkLines}
 use Rattle.debugger.specs.Replies.{line}
-use Rattle.debugger.specs.Whys.{CellSet, added_by, cells_of, end_from, end_text, entered_mark, index_line, last_executed, last_outside, marked_line, place_part, those_in}
+use Rattle.debugger.specs.Whys.{CellSet, added_by, cells_of, end_from, end_text, entered_mark, index_line, last_executed, last_outside}
+use Rattle.debugger.specs.Whys.{marked_line, place_part, those_in}
 
 -- a step, where it is not before a first one
 abbrev pub not_before : ℕ → Option ℕ → Option ℕ
@@ -51,7 +53,8 @@ lines_since symbols scenario lines since t xs =
 abbrev pub end_since : SymbolTable → ℕ → List ℕ → List ℕ
 end_since symbols since [] = line (codes "ALL")
 end_since symbols since (c ∷ cs) =
-    if nat_le since 1 then end_text symbols false (c ∷ cs) else line (codes "MORE " ++ decimal (length (c ∷ cs)) ++ codes " BEFORE " ++ decimal since)
+    if nat_le since 1 then end_text symbols false (c ∷ cs) else line
+    (codes "MORE " ++ decimal (length (c ∷ cs)) ++ codes " BEFORE " ++ decimal since)
 
 -- one thing where there is no step, and another of a step
 abbrev pub found_or : Option ℕ → List ℕ → (ℕ → List ℕ) → List ℕ

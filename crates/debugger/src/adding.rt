@@ -17,7 +17,8 @@ const GREATEST_CYCLE: u64 = 999_999_999_999_999;
 impl Desk {
     /// `add`: one input more, at a cycle.
     pub(crate) fn add<K: Keeper>(&self, session: &mut Session<K>, cycle: u64, input: Input) -> Text
-        ensures brings { BringsAdding (desk session.old self.now.position self.now.breakpoints) (Known (command.Add cycle input)) result.items (desk session.new self.now.position self.now.breakpoints) }
+        ensures brings { BringsAdding (desk session.old self.now.position self.now.breakpoints)
+            (Known (command.Add cycle input)) result.items (desk session.new self.now.position self.now.breakpoints) }
         ensures steps { session.new.n ≡ session.old.n }
         ensures meter { session.new.meter ≡ session.old.meter }
         ensures outputs { outs session.new.scenario session.new.n ≡ outs session.old.scenario session.old.n }

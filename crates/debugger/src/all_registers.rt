@@ -6,7 +6,8 @@ ghost use Rattle.words.specs.Numerals.{octal_text};
 ghost use Rattle.arrayvec.specs.ArrayVec.{array_vec_len};
 ghost use Rattle.replay.specs.View.{SessionView, HasShown};
 ghost use Rattle.commands.specs.declared.extended.ExtendedLine.TheVariants as asked;
-ghost use Rattle.debugger.specs.AllRegisters.{all_registers, register_lines, flag_lines, waiting_lines, asked_line, sum_line, word_line, requested, numbers_text, or_none};
+ghost use Rattle.debugger.specs.AllRegisters.{all_registers, register_lines, flag_lines, waiting_lines, asked_line};
+ghost use Rattle.debugger.specs.AllRegisters.{sum_line, word_line, requested, numbers_text, or_none};
 ghost use Rattle.debugger.specs.Replies.{line as text_line, flag_text};
 ghost use Rattle.debugger.specs.Executions.{desk, BringsAsked, HasLooked};
 
@@ -29,7 +30,8 @@ impl Desk {
     /// `regs all`: all registers at the position.
     pub(crate) fn all_registers<K: Keeper>(&self, session: &mut Session<K>) -> RegistersText
         requires { self.now.position ≤ session.old.n }
-        ensures brings { BringsAsked (desk session.old self.now.position self.now.breakpoints) asked.AllRegisters result.items (desk session.new self.now.position self.now.breakpoints) }
+        ensures brings { BringsAsked (desk session.old self.now.position self.now.breakpoints) asked.AllRegisters
+            result.items (desk session.new self.now.position self.now.breakpoints) }
         ensures looked { HasLooked session.old session.new session.old.n }
         ensures shown { HasShown session.old self.now.position session.new }
     {
@@ -186,7 +188,8 @@ fn push_each_requested(text: &mut RegistersText, machine: &Machine)
 #[tactic(auto, using(words::proofs::Digits::short_decimal))]
 fn push_if_asked(text: &mut RegistersText, machine: &Machine, request: Interrupt)
     requires { array_vec_len text.old ≤ 300 }
-    ensures items { text.new.items ≡ text.old.items ++ (if contains machine.now.requests request then codes " " ++ decimal request else []) }
+    ensures items { text.new.items ≡ text.old.items
+        ++ (if contains machine.now.requests request then codes " " ++ decimal request else []) }
     ensures short { array_vec_len text.new ≤ array_vec_len text.old + 21 }
 {
     if machine.is_asked(request) {

@@ -13,8 +13,8 @@ use commands::Breakpoint;
 use cpu::Machine;
 use space::{Eras, Linear};
 
-/// Whether Z leads to a place. The low eight bits of an address are those of the place where it leads, so that most steps are
-/// told by them alone.
+/// Whether Z leads to a place. The low eight bits of an address are those of the place where it leads, so that most
+/// steps are told by them alone.
 #[inline(always)]
 #[tactic(auto, unfolding(cpu::specs::Effects::place_in, space::specs::Places::place))]
 pub(crate) fn stands_at(machine: &Machine, place: Linear) -> bool
@@ -29,7 +29,8 @@ pub(crate) fn stands_at(machine: &Machine, place: Linear) -> bool
 
 /// Whether the breakpoint of an index holds after a step, by what was noted before it.
 fn holds(breakpoint: Breakpoint, noted: &Option<Noted>, index: usize, machine: &Machine) -> bool
-    ensures { (rope : Words) → result ≡ holds (noted_step noted.now index machine.now) (sight rope machine.now) breakpoint }
+    ensures { (rope : Words) → result ≡ holds (noted_step noted.now index machine.now) (sight rope machine.now)
+        breakpoint }
 {
     match breakpoint {
         Breakpoint::Place(place) => stands_at(machine, place),
@@ -60,7 +61,8 @@ pub(crate) fn lowest_hit(
     noted: &Option<Noted>,
     machine: &Machine,
 ) -> Option<u64>
-    ensures { (rope : Words) (step : StepSight) → HoldsAlike breakpoints.now noted.now machine.now step → result ≡ lowest_hit breakpoints.now step (sight rope machine.now) }
+    ensures { (rope : Words) (step : StepSight) → HoldsAlike breakpoints.now noted.now machine.now step
+        → result ≡ lowest_hit breakpoints.now step (sight rope machine.now) }
 {
     for (index, breakpoint) in breakpoints.iter().enumerate() {
         if holds(*breakpoint, noted, index, machine) {

@@ -38,7 +38,14 @@ impl Model for Bucket {
 
     ghost Value = { OfSteps };
 
-    ghost view = { λ b. record { cycles = b.cycles; entries = b.entries; inputs = b.inputs; outputs = b.outputs; watches = b.watches.items } };
+    ghost view = { λ b. record {
+      cycles = b.cycles;
+      entries = b.entries;
+      inputs = b.inputs;
+      outputs = b.outputs;
+      watches
+          = b.watches.items;
+    } };
 }
 
 impl Bucket {
@@ -64,7 +71,15 @@ impl Bucket {
         puts_out: bool,
         machine: &Machine,
     )
-        ensures { self.new ≡ record { cycles = machine.now.cycles; entries = counted_if (is_entry account) self.old.entries; inputs = counted_if (is_input account) self.old.inputs; outputs = counted_if puts_out self.old.outputs; watches = map (watch_seen is_first machine.now) self.old.watches } }
+        ensures { self.new ≡ record {
+          cycles = machine.now.cycles;
+          entries = counted_if (is_entry account)
+              self.old.entries;
+          inputs = counted_if (is_input account) self.old.inputs;
+          outputs = counted_if puts_out
+              self.old.outputs;
+          watches = map (watch_seen is_first machine.now) self.old.watches;
+        } }
     {
         self.cycles = machine.cycles();
         self.entries = counted_if(matches!(account, Account::Entry), self.entries);

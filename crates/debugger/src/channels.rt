@@ -54,7 +54,8 @@ fn channels_text(store: &Store) -> ChannelsText
 /// Appends the lines of the channels whose words are not zero, and answers how many they are.
 fn push_channels(text: &mut ChannelsText, store: &Store) -> u64
     requires { array_vec_len text.old ≡ 0 }
-    ensures items { text.new.items ≡ text.old.items ++ flat_map (channel_line store.now) (channels_set (channel_word store.now)) }
+    ensures items { text.new.items ≡ text.old.items
+        ++ flat_map (channel_line store.now) (channels_set (channel_word store.now)) }
     ensures count { result ≡ length (channels_set (channel_word store.now)) }
     ensures short { array_vec_len text.new ≤ 7_680 }
 {
@@ -68,7 +69,8 @@ fn push_channels(text: &mut ChannelsText, store: &Store) -> u64
 /// Appends the line of a channel whose word is not zero, and answers how many lines that are.
 fn push_if_set(text: &mut ChannelsText, store: &Store, channel: Chan) -> u64
     requires { array_vec_len text.old ≤ 7_665 }
-    ensures items { text.new.items ≡ text.old.items ++ (if not (channel_word store.now channel == 0) then channel_line store.now channel else []) }
+    ensures items { text.new.items ≡ text.old.items
+        ++ (if not (channel_word store.now channel == 0) then channel_line store.now channel else []) }
     ensures count { result ≡ (if not (channel_word store.now channel == 0) then 1 else 0) }
     ensures short { array_vec_len text.new ≤ array_vec_len text.old + 15 }
 {

@@ -30,7 +30,8 @@ use words::{Write, WriteFailed, push_all, push_octal, write_all};
 /// How many erasable places there are.
 const ERASABLE_PLACES: u16 = 2_048;
 
-/// The most bytes of the lines of words: 18 for each of 2,048 places, 15 for each of 512 channels, and 128 for how many they are.
+/// The most bytes of the lines of words: 18 for each of 2,048 places, 15 for each of 512 channels, and 128 for how many
+/// they are.
 const DIFFERENCES_TEXT: usize = 44_672;
 
 /// The lines of words that differ.
@@ -47,10 +48,12 @@ impl Desk {
         out: &mut W,
     ) -> Result<(), WriteFailed>
         requires { self.now.position ≤ session.old.n }
-        ensures writes { W.told ≡ true → Writes (W.written out.old) (W.written out.new) (differs_text session.old.scenario session.old.n self.now.position step) result }
+        ensures writes { W.told ≡ true → Writes (W.written out.old) (W.written out.new)
+            (differs_text session.old.scenario session.old.n self.now.position step) result }
         ensures looked { HasLooked session.old session.new (2 * session.old.n) }
 
-        // No more steps are executed than by one look at the position, which is none where it is shown, and one at the step.
+        // No more steps are executed than by one look at the position, which is none where it is shown, and one at the
+        // step.
         ensures compared { step ≤ session.old.n → HasCompared session.old self.now.position step session.new }
         ensures late { session.old.n < step → session.new ≡ session.old }
         ensures failures { W.failures out.new ≡ failures_after (W.failures out.old) result }
@@ -97,7 +100,8 @@ fn differences_text(old: &Store, new: &Store) -> DifferencesText
 /// Appends the lines of the erasable places that read differently, and answers how many they are.
 fn push_places(text: &mut DifferencesText, old: &Store, new: &Store) -> u64
     requires { array_vec_len text.old ≡ 0 }
-    ensures items { text.new.items ≡ text.old.items ++ flat_map (erasable_line new.now) (changed_places old.now new.now) }
+    ensures items { text.new.items ≡ text.old.items
+        ++ flat_map (erasable_line new.now) (changed_places old.now new.now) }
     ensures count { result ≡ length (changed_places old.now new.now) }
     ensures few { result ≤ 2_048 }
     ensures short { array_vec_len text.new ≤ 36_864 }
@@ -112,7 +116,8 @@ fn push_places(text: &mut DifferencesText, old: &Store, new: &Store) -> u64
 /// Appends the lines of the channels whose words differ, and answers how many they are.
 fn push_channels(text: &mut DifferencesText, old: &Store, new: &Store) -> u64
     requires { array_vec_len text.old ≤ 36_864 }
-    ensures items { text.new.items ≡ text.old.items ++ flat_map (channel_line new.now) (channels_changed (channel_word old.now) (channel_word new.now)) }
+    ensures items { text.new.items ≡ text.old.items
+        ++ flat_map (channel_line new.now) (channels_changed (channel_word old.now) (channel_word new.now)) }
     ensures count { result ≡ length (channels_changed (channel_word old.now) (channel_word new.now)) }
     ensures few { result ≤ 512 }
     ensures short { array_vec_len text.new ≤ 44_544 }
@@ -127,7 +132,8 @@ fn push_channels(text: &mut DifferencesText, old: &Store, new: &Store) -> u64
 /// Appends the line of an erasable place that reads differently, and answers how many lines that are.
 fn push_place(text: &mut DifferencesText, old: &Store, new: &Store, place: Eras) -> u64
     requires { array_vec_len text.old ≤ 36_846 }
-    ensures items { text.new.items ≡ text.old.items ++ (if not (get old.now place == get new.now place) then erasable_line new.now place else []) }
+    ensures items { text.new.items ≡ text.old.items
+        ++ (if not (get old.now place == get new.now place) then erasable_line new.now place else []) }
     ensures count { result ≡ (if not (get old.now place == get new.now place) then 1 else 0) }
     ensures short { array_vec_len text.new ≤ array_vec_len text.old + 18 }
 {
@@ -141,7 +147,9 @@ fn push_place(text: &mut DifferencesText, old: &Store, new: &Store, place: Eras)
 /// Appends the line of a channel whose word differs, and answers how many lines that are.
 fn push_channel(text: &mut DifferencesText, old: &Store, new: &Store, channel: Chan) -> u64
     requires { array_vec_len text.old ≤ 44_529 }
-    ensures items { text.new.items ≡ text.old.items ++ (if not (channel_word old.now channel == channel_word new.now channel) then channel_line new.now channel else []) }
+    ensures items { text.new.items ≡ text.old.items
+        ++ (if not (channel_word old.now channel == channel_word new.now channel) then channel_line new.now channel else
+        []) }
     ensures count { result ≡ (if not (channel_word old.now channel == channel_word new.now channel) then 1 else 0) }
     ensures short { array_vec_len text.new ≤ array_vec_len text.old + 15 }
 {
@@ -192,7 +200,8 @@ fn register_line(name: &[u8], digits: usize, number: u16) -> Text
 
 /// The line of a place that is no register.
 fn memory_line(store: &Store, place: Eras) -> Text
-    ensures items { result.items ≡ line (codes "MEM " ++ place_text (Erasable place) ++ codes " " ++ word_in store.now place) }
+    ensures items { result.items ≡ line (codes "MEM " ++ place_text (Erasable place) ++ codes " "
+        ++ word_in store.now place) }
     ensures len { array_vec_len result ≡ 18 }
 {
     let mut text = ArrayVec::new();

@@ -56,7 +56,10 @@ impl Desk {
     ) -> Result<(), WriteFailed>
         requires within { self.old.position ≤ session.old.n }
         requires tail { self.old.tail ≡ last_of tail_length (outs session.old.scenario session.old.n) }
-        ensures executes { W.told ≡ true → Replies K.may_refuse (to_asked (record { symbols = symbols.now; source = rows.now; first = first_added }) request.now) (desk session.old self.old.position self.old.breakpoints) (desk session.new self.new.position self.new.breakpoints) (W.written out.old) (W.written out.new) result }
+        ensures executes { W.told ≡ true → Replies K.may_refuse
+            (to_asked (record { symbols = symbols.now; source = rows.now; first = first_added }) request.now)
+            (desk session.old self.old.position self.old.breakpoints)
+            (desk session.new self.new.position self.new.breakpoints) (W.written out.old) (W.written out.new) result }
         ensures within { self.new.position ≤ session.new.n }
         ensures tail { self.new.tail ≡ last_of tail_length (outs session.new.scenario session.new.n) }
         ensures session { HasDone (effort request.now) session.old session.new }
@@ -124,7 +127,8 @@ impl Desk {
     /// `clear I`: one breakpoint less.
     #[tactic(auto, unfolding(crate::specs::ExtendedReplies::extended_reply))]
     fn clear_one(&mut self, number: u64) -> Text
-        ensures brings { (s : SessionView) → BringsAsked (desk s self.old.position self.old.breakpoints) (asked.ClearOne number) result.items (desk s self.new.position self.new.breakpoints) }
+        ensures brings { (s : SessionView) → BringsAsked (desk s self.old.position self.old.breakpoints)
+            (asked.ClearOne number) result.items (desk s self.new.position self.new.breakpoints) }
         ensures position { self.new.position ≡ self.old.position }
         ensures tail { self.new.tail ≡ self.old.tail }
     {
@@ -144,7 +148,10 @@ impl Desk {
     ) -> Result<(), WriteFailed>
         requires within { self.old.position ≤ session.old.n }
         requires tail { self.old.tail ≡ last_of tail_length (outs session.old.scenario session.old.n) }
-        ensures executes { W.told ≡ true → (terms : Terms) → Replies K.may_refuse (to_asked terms (asked.On steps)) (desk session.old self.old.position self.old.breakpoints) (desk session.new self.new.position self.new.breakpoints) (W.written out.old) (W.written out.new) result }
+        ensures executes { W.told ≡ true → (terms : Terms)
+            → Replies K.may_refuse (to_asked terms (asked.On steps))
+            (desk session.old self.old.position self.old.breakpoints)
+            (desk session.new self.new.position self.new.breakpoints) (W.written out.old) (W.written out.new) result }
         ensures within { self.new.position ≤ session.new.n }
         ensures tail { self.new.tail ≡ last_of tail_length (outs session.new.scenario session.new.n) }
         ensures session { HasGoneOn session.old session.new }
@@ -159,10 +166,12 @@ impl Desk {
         }
     }
 
-    /// The first step after the position, of so many that stand, at which a breakpoint holds, and the lowest of those that do.
+    /// The first step after the position, of so many that stand, at which a breakpoint holds, and the lowest of those
+    /// that do.
     fn next_stop<K: Keeper>(&self, session: &mut Session<K>, steps: u64) -> Option<(u64, u64)>
         requires { self.now.position ≤ session.old.n }
-        ensures next { option_map (λ r. r.0) result ≡ next_stop (history session.old.scenario) (desk session.old self.now.position self.now.breakpoints) steps }
+        ensures next { option_map (λ r. r.0) result
+            ≡ next_stop (history session.old.scenario) (desk session.old self.now.position self.now.breakpoints) steps }
         ensures hit { IfSome result (λ r. Some r.1 ≡ hit_at (history session.old.scenario) self.now.breakpoints r.0) }
         ensures within { IfSome result (λ r. r.0 ≤ session.old.n) }
         ensures looked { HasLooked session.old session.new session.old.n }
@@ -176,7 +185,8 @@ impl Desk {
     #[tactic(auto, unfolding(crate::specs::History::history))]
     fn stop_text<K: Keeper>(&self, session: &mut Session<K>, number: u64) -> Text
         requires { self.now.position ≤ session.old.n }
-        ensures text { result.items ≡ hit_text (Some number) ++ at_line_of manner.Extended self.now.position ((history session.old.scenario).after self.now.position) }
+        ensures text { result.items ≡ hit_text (Some number)
+            ++ at_line_of manner.Extended self.now.position ((history session.old.scenario).after self.now.position) }
         ensures looked { HasLooked session.old session.new session.old.n }
     {
         match session.show(self.position) {
@@ -194,7 +204,9 @@ impl Desk {
     ) -> Result<(), WriteFailed>
         requires within { self.old.position ≤ session.old.n }
         requires tail { self.old.tail ≡ last_of tail_length (outs session.old.scenario session.old.n) }
-        ensures executes { W.told ≡ true → Replies K.may_refuse (grows_on steps) (desk session.old self.old.position self.old.breakpoints) (desk session.new self.new.position self.new.breakpoints) (W.written out.old) (W.written out.new) result }
+        ensures executes { W.told ≡ true → Replies K.may_refuse (grows_on steps)
+            (desk session.old self.old.position self.old.breakpoints)
+            (desk session.new self.new.position self.new.breakpoints) (W.written out.old) (W.written out.new) result }
         ensures within { self.new.position ≤ session.new.n }
         ensures tail { self.new.tail ≡ last_of tail_length (outs session.new.scenario session.new.n) }
         ensures forward { session.old.n ≤ session.new.n }
@@ -287,7 +299,8 @@ fn push_breakpoint(text: &mut BreaksText, breakpoint: Breakpoint)
 /// Adds a channel and a word as `break chan` takes them.
 fn push_channel(text: &mut BreaksText, channel: Chan, word: Word)
     requires { array_vec_len text.old ≤ 1000 }
-    ensures items { text.new.items ≡ text.old.items ++ codes "chan " ++ octal_text 3 channel ++ codes " " ++ octal_text 5 word }
+    ensures items { text.new.items ≡ text.old.items ++ codes "chan " ++ octal_text 3 channel ++ codes " "
+        ++ octal_text 5 word }
     ensures len { array_vec_len text.new ≡ array_vec_len text.old + 14 }
 {
     push_all(text, b"chan ");

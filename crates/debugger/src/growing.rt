@@ -23,7 +23,8 @@ use words::{Word, Write, WriteFailed};
 /// The most steps that are made before the lines written so far are handed on.
 const STEPS_BETWEEN_FLUSHES: u32 = 1 << 20;
 
-/// Makes up to `more` steps, writes the line of each output, and stops after the first step at which a breakpoint holds.
+/// Makes up to `more` steps, writes the line of each output, and stops after the first step at which a breakpoint
+/// holds.
 pub(crate) fn grow<K: Keeper, W: Write>(
     session: &mut Session<K>,
     tail: &mut Tail,
@@ -37,7 +38,8 @@ pub(crate) fn grow<K: Keeper, W: Write>(
     ensures forward { session.old.n ≤ session.new.n }
     ensures most { session.new.n ≤ session.old.n + more }
     ensures spends { session.new.meter + 2 * session.old.n ≤ session.old.meter + 2 * session.new.n }
-    ensures growth { W.told ≡ true → Grows K.may_refuse (history session.old.scenario) breakpoints.now more session.old.n session.new.n (W.written out.old) (W.written out.new) result }
+    ensures growth { W.told ≡ true → Grows K.may_refuse (history session.old.scenario) breakpoints.now more
+        session.old.n session.new.n (W.written out.old) (W.written out.new) result }
     ensures failures { W.failures out.new ≡ failures_after (W.failures out.old) result }
 {
     if breakpoints.len() == 0 {
@@ -61,7 +63,8 @@ fn grow_to<K: Keeper, W: Write, B: Breaks>(
     ensures forward { session.old.n ≤ session.new.n }
     ensures most { session.new.n ≤ session.old.n + more }
     ensures spends { session.new.meter + 2 * session.old.n ≤ session.old.meter + 2 * session.new.n }
-    ensures growth { W.told ≡ true → Grows K.may_refuse (history session.old.scenario) (B.breakpoints breaks.now) more session.old.n session.new.n (W.written out.old) (W.written out.new) result }
+    ensures growth { W.told ≡ true → Grows K.may_refuse (history session.old.scenario) (B.breakpoints breaks.now) more
+        session.old.n session.new.n (W.written out.old) (W.written out.new) result }
     ensures failures { W.failures out.new ≡ failures_after (W.failures out.old) result }
 {
     let mut teller = Teller {
@@ -94,8 +97,8 @@ fn ending_of(stop: Stop, hit: Option<u64>) -> Result<Ending, WriteFailed>
     }
 }
 
-/// What makes steps, writes the line of each output, hands the lines on as long steps go, and ends after the first at which a
-/// breakpoint holds or the writer has failed.
+/// What makes steps, writes the line of each output, hands the lines on as long steps go, and ends after the first at
+/// which a breakpoint holds or the writer has failed.
 #[derive(Drop)]
 struct Teller<'a, W: Write, B: Breaks> {
     tail: &'a mut Tail,
@@ -117,9 +120,13 @@ impl<'a, W: Write, B: Breaks> Stepper for Teller<'a, W, B> {
     ghost use Rattle.debugger.specs.Stopping.{hit_by};
     ghost use Rattle.debugger.specs.Telling.{Tells, Telling};
 
-    ghost sees = { λ old scenario state ended new. (new.tail.ghost_name ≡ old.tail.ghost_name) × (new.out.ghost_name ≡ old.out.ghost_name) × (new.breaks ≡ old.breaks)
-        × Tells W.told (hit_by (B.breakpoints old.breaks.now) true scenario state) (next scenario state).1 ended new.hit (record { tail = old.tail.now; text = W.written old.out.now; failures = W.failures old.out.now }) (record { tail = new.tail.now; text = W.written new.out.now; failures = W.failures new.out.now })
-        × HandsOn W.told ended old.until_flush.left new.until_flush.left (W.handed_on new.out.now) (W.written new.out.now) };
+    ghost sees = { λ old scenario state ended new. (new.tail.ghost_name ≡ old.tail.ghost_name)
+        × (new.out.ghost_name ≡ old.out.ghost_name) × (new.breaks ≡ old.breaks)
+        × Tells W.told (hit_by (B.breakpoints old.breaks.now) true scenario state) (next scenario state).1 ended new.hit
+        (record { tail = old.tail.now; text = W.written old.out.now; failures = W.failures old.out.now })
+        (record { tail = new.tail.now; text = W.written new.out.now; failures = W.failures new.out.now })
+        × HandsOn W.told ended old.until_flush.left new.until_flush.left (W.handed_on new.out.now)
+        (W.written new.out.now) };
 
     #[inline(always)]
     fn make_step(&mut self, processor: &mut Processor, machine: &mut Machine) -> bool {
@@ -170,8 +177,8 @@ fn tell<W: Write>(tail: &mut Tail, output: Option<Output>, out: &mut W) -> Resul
     }
 }
 
-/// Keeps an output of these parts among the last ones, and writes its line. It stands apart, so that a step without one has none
-/// of its locals.
+/// Keeps an output of these parts among the last ones, and writes its line. It stands apart, so that a step without one
+/// has none of its locals.
 #[inline(never)]
 fn tell_parts<W: Write>(
     tail: &mut Tail,
@@ -180,7 +187,8 @@ fn tell_parts<W: Write>(
     word: Word,
     out: &mut W,
 ) -> Result<(), WriteFailed>
-    ensures tail { tail.new ≡ last_of tail_length (tail.old ++ record { cycles = cycles; channel = channel; word = word } ∷ []) }
+    ensures tail { tail.new ≡ last_of tail_length
+        (tail.old ++ record { cycles = cycles; channel = channel; word = word } ∷ []) }
     ensures written { W.told ≡ true → Writes (W.written out.old) (W.written out.new)
         (channel_line (record { cycles = cycles; channel = channel; word = word })) result }
     ensures failures { W.failures out.new ≡ failures_after (W.failures out.old) result }
@@ -229,7 +237,8 @@ impl Countdown {
 fn hand_on_in_time<W: Write>(until_flush: &mut Countdown, out: &mut W) -> Result<(), WriteFailed>
     ensures counts { until_flush.new.left ≡ steps_left_after until_flush.old.left }
     ensures written { W.told ≡ true → W.written out.new ≡ W.written out.old }
-    ensures handed_on { W.told ≡ true → until_flush.old.left ≤ 1 → OnOk result (W.handed_on out.new ≡ W.written out.new) }
+    ensures handed_on { W.told ≡ true → until_flush.old.left ≤ 1
+        → OnOk result (W.handed_on out.new ≡ W.written out.new) }
     ensures failures { W.failures out.new ≡ failures_after (W.failures out.old) result }
 {
     if until_flush.count() {

@@ -9,7 +9,8 @@ ghost use Rattle.cpu.specs.Beside.{is_instruction};
 ghost use Rattle.cpu.specs.NextStep.{next_step};
 ghost use Rattle.debugger.specs.Conversation.{index_effort};
 ghost use Rattle.debugger.specs.Executions.{HasLooked};
-ghost use Rattle.debugger.specs.Whys.{added_by, last_executed, operand_spots, operand_part, index_by, index_line, index_part};
+ghost use Rattle.debugger.specs.Whys.{added_by, last_executed, operand_spots, operand_part, index_by, index_line};
+ghost use Rattle.debugger.specs.Whys.{index_part};
 
 use crate::link_texts::{Part, Piece, kind_part, reads_part};
 use arrayvec::ArrayVec;
@@ -73,7 +74,8 @@ fn moved_line<K: Keeper>(
     sum: Wide,
 ) -> IndexLine
     requires { step < session.old.n }
-    ensures items { result.items ≡ index_line symbols.now session.old.scenario sum (last_executed session.old.scenario step) }
+    ensures items { result.items ≡ index_line symbols.now session.old.scenario sum
+        (last_executed session.old.scenario step) }
     ensures looked { HasLooked session.old session.new (3 * session.old.n) }
 {
     match session.seek_step_back(step, &Instructions) {
@@ -169,7 +171,8 @@ fn spots_at(place: &Linear) -> OperandSpots
 
 /// Whether the next step executes an instruction.
 fn is_instruction(processor: &Processor, machine: &Machine) -> bool
-    ensures { FitsRun processor.now.scenario machine.now → result ≡ is_instruction (link processor.now.scenario machine.now) }
+    ensures { FitsRun processor.now.scenario machine.now
+        → result ≡ is_instruction (link processor.now.scenario machine.now) }
 {
     match processor.next_step(machine) {
         NextStep::Takes(_) => false,

@@ -39,7 +39,8 @@ pub(crate) fn tell_inputs<K: Keeper, W: Write>(
     first: u128,
     out: &mut W,
 ) -> Result<(), WriteFailed>
-    ensures writes { W.told ≡ true → Writes (W.written out.old) (W.written out.new) (inputs_text first session.now.scenario) result }
+    ensures writes { W.told ≡ true → Writes (W.written out.old) (W.written out.new)
+        (inputs_text first session.now.scenario) result }
     ensures failures { W.failures out.new ≡ failures_after (W.failures out.old) result }
 {
     write_inputs(session.processor().plain_inputs(), first, out)
@@ -47,7 +48,8 @@ pub(crate) fn tell_inputs<K: Keeper, W: Write>(
 
 /// Writes a line for each input that stands on this line or after it, and how many there are.
 fn write_inputs<W: Write>(plain: &[Plain], first: u128, out: &mut W) -> Result<(), WriteFailed>
-    ensures writes { W.told ≡ true → Writes (W.written out.old) (W.written out.new) (lines_from first 0 (map plain_entry plain.now)) result }
+    ensures writes { W.told ≡ true → Writes (W.written out.old) (W.written out.new)
+        (lines_from first 0 (map plain_entry plain.now)) result }
     ensures failures { W.failures out.new ≡ failures_after (W.failures out.old) result }
 {
     let mut count = 0;

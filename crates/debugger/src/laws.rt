@@ -20,55 +20,64 @@ ghost use Rattle.debugger.specs.WhyEnds.{WhyEnds};
 ghost use Rattle.debugger.specs.Whys.{why_text};
 ghost use Rattle.debugger.specs.WhysSince.{since_text};
 
-/// Whatever an extended session was asked before, what `inputs` replies is a feed: its lines give the inputs that were added, in order, and no others.
+/// Whatever an extended session was asked before, what `inputs` replies is a feed: its lines give the inputs that were
+/// added, in order, and no others.
 pub fn inputs_read_back()
     ensures none_at_first { (scenario : Scenario) → NoneAtFirst scenario }
-    ensures reads_back { (symbols : SymbolTable) (source : Source) (scenario : Scenario) (answers : List Bool) (additions : List (Option ℕ)) (lines : List (List ℕ)) →
+    ensures reads_back { (symbols : SymbolTable) (source : Source) (scenario : Scenario) (answers : List Bool)
+        (additions : List (Option ℕ)) (lines : List (List ℕ)) →
         SessionReadsBack symbols source scenario answers additions lines }
 {}
 
-/// The step that `why` tells as the INDEX of an instruction is one, the last instruction before it: what it read waited from then on, while inputs alone came,
-/// and moved the operand.
+/// The step that `why` tells as the INDEX of an instruction is one, the last instruction before it: what it read waited
+/// from then on, while inputs alone came, and moved the operand.
 pub fn index_is_told()
     ensures { (scenario : Scenario) (t sum : ℕ) → IndexIsTold scenario t sum }
 {}
 
-/// A session tells each output once while it makes steps, in order, however one goes back and forth; what else it replies is what it would reply where no step puts
-/// out.
+/// A session tells each output once while it makes steps, in order, however one goes back and forth; what else it
+/// replies is what it would reply where no step puts out.
 pub fn outputs_are_told_once()
-    ensures { (manner : Manner) (symbols : SymbolTable) (source : Source) (scenario : Scenario) (answers : List Bool) (additions : List (Option ℕ)) (lines : List (List ℕ)) →
+    ensures { (manner : Manner) (symbols : SymbolTable) (source : Source) (scenario : Scenario) (answers : List Bool)
+        (additions : List (Option ℕ)) (lines : List (List ℕ)) →
         OutputsAreToldOnce manner symbols source scenario answers additions lines }
 {}
 
-/// What `tail` with steps tells of are the outputs of the steps that were made, in order, each with the step that put it out.
+/// What `tail` with steps tells of are the outputs of the steps that were made, in order, each with the step that put
+/// it out.
 pub fn outputs_have_their_steps()
     ensures { (scenario : Scenario) (n : ℕ) → HaveTheirSteps scenario n }
 {}
 
-/// The step that a mark and `where` tell as the one that entered the interrupt has entered it, and it is served ever since.
+/// The step that a mark and `where` tell as the one that entered the interrupt has entered it, and it is served ever
+/// since.
 pub fn entry_is_told()
     ensures { (symbols : SymbolTable) (scenario : Scenario) (p : ℕ) → EntryIsTold symbols scenario p }
 {}
 
-/// How `why` ends says what is so: where fewer steps are told than were asked for, no step before them wrote what is left, which holds what it held at the start.
+/// How `why` ends says what is so: where fewer steps are told than were asked for, no step before them wrote what is
+/// left, which holds what it held at the start.
 pub fn why_ends()
-    ensures { (symbols : SymbolTable) (scenario : Scenario) (lines : LinkLines) (k p : ℕ) (xs : List Spot) → WhyEnds symbols scenario lines k p xs }
+    ensures { (symbols : SymbolTable) (scenario : Scenario) (lines : LinkLines) (k p : ℕ) (xs : List Spot)
+        → WhyEnds symbols scenario lines k p xs }
 {}
 
 /// `why` since step 1, or since 0, is `why`: what it tells, and how it ends.
 pub fn since_start_is_why()
-    ensures { (symbols : SymbolTable) (scenario : Scenario) (lines : LinkLines) (since k p : ℕ) (xs : List Spot) → since ≤ 1 →
+    ensures { (symbols : SymbolTable) (scenario : Scenario) (lines : LinkLines) (since k p : ℕ) (xs : List Spot)
+        → since ≤ 1 →
         since_text symbols scenario lines since k p xs ≡ why_text symbols scenario lines k p xs }
 {}
 
 /// The buckets of a survey leave no step out: with any more of them nothing more would be told.
 pub fn surveys_leave_no_step_out()
     ensures { (scenario : Scenario) (subjects : List Subject) (from last buckets more : ℕ) → 1 ≤ buckets →
-        bucket_lines scenario subjects (width_of (last - from) buckets) last (buckets + more) 0 from ≡ bucket_lines scenario subjects (width_of (last - from) buckets) last buckets 0 from }
+        bucket_lines scenario subjects (width_of (last - from) buckets) last (buckets + more) 0 from
+        ≡ bucket_lines scenario subjects (width_of (last - from) buckets) last buckets 0 from }
 {}
 
-/// Each routine that is told to be in progress was entered by the step and from the place that are told, while no interrupt was served, one after another, and has
-/// not returned since.
+/// Each routine that is told to be in progress was entered by the step and from the place that are told, while no
+/// interrupt was served, one after another, and has not returned since.
 pub fn routines_are_in_progress()
     ensures { (scenario : Scenario) (p : ℕ) → RoutinesAreInProgress scenario p }
 {}

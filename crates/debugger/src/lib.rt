@@ -1,7 +1,7 @@
 //! The debugger: a session of commands over a run, and their replies.
 //!
-//! Commands go back and forth among the steps of a run. Each output is written once, when its step is first made. No reply
-//! takes memory, but that of `whatif`, which runs a copy.
+//! Commands go back and forth among the steps of a run. Each output is written once, when its step is first made. No
+//! reply takes memory, but that of `whatif`, which runs a copy.
 #![tactic(auto)]
 
 mod adding;

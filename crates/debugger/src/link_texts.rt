@@ -6,7 +6,8 @@ ghost use Rattle.arrayvec.specs.ArrayVec.{array_vec_len};
 ghost use Rattle.space.specs.declared.place.Linear.TheVariants.{Fixed};
 ghost use Rattle.cpu.specs.State.{FitsRun};
 ghost use Rattle.trace.specs.TraceLines.{place_name};
-ghost use Rattle.debugger.specs.Whys.{cell_text, fixed_text, spot_text, kind_part, cells_part, reads_part, entered_mark, by_line, end_text, cells_of};
+ghost use Rattle.debugger.specs.Whys.{cell_text, fixed_text, spot_text, kind_part, cells_part, reads_part};
+ghost use Rattle.debugger.specs.Whys.{entered_mark, by_line, end_text, cells_of};
 
 use crate::links::{Cells, cells_of};
 use arrayvec::ArrayVec;
@@ -133,7 +134,8 @@ fn push_spots(
     spots: &[Spot],
 )
     requires { array_vec_len text.old + 16 * length spots.now ≤ 960 }
-    ensures items { text.new.items ≡ text.old.items ++ flat_map (spot_text symbols.now processor.now.scenario.rope machine.now.cells) spots.now }
+    ensures items { text.new.items ≡ text.old.items
+        ++ flat_map (spot_text symbols.now processor.now.scenario.rope machine.now.cells) spots.now }
     ensures short { array_vec_len text.new ≤ array_vec_len text.old + 16 * length spots.now }
 {
     for spot in spots {

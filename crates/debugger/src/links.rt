@@ -7,7 +7,8 @@ ghost use Rattle.cpu.specs.State.{FitsRun};
 ghost use Rattle.cpu.specs.Chains.{cells_among};
 ghost use Rattle.cpu.specs.Links.{link, targets, sources};
 ghost use Rattle.cpu.specs.declared.spot.Spot.TheVariants as spot;
-ghost use Rattle.debugger.specs.Whys.{those_in, left_in, same_spot, has_spot, with_spots, reads, with_cells, cells_before, cells_of};
+ghost use Rattle.debugger.specs.Whys.{those_in, left_in, same_spot, has_spot, with_spots, reads, with_cells};
+ghost use Rattle.debugger.specs.Whys.{cells_before, cells_of};
 
 use arrayvec::ArrayVec;
 use cpu::{Cell, CellSet, Machine, Processor, Spot};
@@ -39,7 +40,8 @@ pub(crate) struct Link {
     pub(crate) spots: Spots,
 }
 
-/// What the next step of a machine writes of some cells, and what it reads for them. Those from which these come are followed on.
+/// What the next step of a machine writes of some cells, and what it reads for them. Those from which these come are
+/// followed on.
 pub(crate) fn link_of(processor: &Processor, machine: &Machine, pending: &mut CellSet) -> Link
     requires { FitsRun processor.now.scenario machine.now }
     ensures cells { result.cells.items ≡ those_in (targets (link processor.now.scenario machine.now)) pending.old }

@@ -30,19 +30,24 @@ pub(crate) trait Breaks {
 
     /// Whether what the next step does may matter to one of them. Else nothing has to be noted of it.
     fn asks(&self, machine: &Machine) -> bool
-        ensures { (scenario : Scenario) → result ≡ false → HoldsAlike (breakpoints self.now) None (next scenario machine.now).0 (step_from scenario machine.now) };
+        ensures { (scenario : Scenario) → result ≡ false
+            → HoldsAlike (breakpoints self.now) None (next scenario machine.now).0 (step_from scenario machine.now) };
 
     /// What they ask of the next step, if what it does may matter to any of them.
     fn look(&self, processor: &Processor, machine: &Machine) -> Option<Noted>
-        ensures { FitsRun processor.now.scenario machine.now → HoldsAlike (breakpoints self.now) result (next processor.now.scenario machine.now).0 (step_from processor.now.scenario machine.now) };
+        ensures { FitsRun processor.now.scenario machine.now
+            → HoldsAlike (breakpoints self.now) result (next processor.now.scenario machine.now).0
+            (step_from processor.now.scenario machine.now) };
 
     /// The lowest number, counted from 1, of those that hold after a step, by what was noted before it.
     fn lowest_hit(&self, noted: &Option<Noted>, machine: &Machine) -> Option<u64>
-        ensures { (rope : Words) (step : StepSight) → HoldsAlike (breakpoints self.now) noted.now machine.now step → result ≡ lowest_hit (breakpoints self.now) step (sight rope machine.now) };
+        ensures { (rope : Words) (step : StepSight) → HoldsAlike (breakpoints self.now) noted.now machine.now step
+            → result ≡ lowest_hit (breakpoints self.now) step (sight rope machine.now) };
 
     /// The same, where nothing was noted.
     fn lowest_unnoted(&self, machine: &Machine) -> Option<u64>
-        ensures { (rope : Words) (step : StepSight) → HoldsAlike (breakpoints self.now) None machine.now step → result ≡ lowest_hit (breakpoints self.now) step (sight rope machine.now) };
+        ensures { (rope : Words) (step : StepSight) → HoldsAlike (breakpoints self.now) None machine.now step
+            → result ≡ lowest_hit (breakpoints self.now) step (sight rope machine.now) };
 }
 
 /// No breakpoint.
@@ -137,24 +142,27 @@ impl<'a> Breaks for Marks<'a> {
     }
 }
 
-/// The lowest number, counted from 1, of some breakpoints that hold after a step of which nothing was noted. It stands apart, so
-/// that a step without it has none of its locals.
+/// The lowest number, counted from 1, of some breakpoints that hold after a step of which nothing was noted. It stands
+/// apart, so that a step without it has none of its locals.
 #[inline(never)]
 fn lowest_of_all(breakpoints: &Breakpoints, machine: &Machine) -> Option<u64>
-    ensures { (rope : Words) (step : StepSight) → HoldsAlike breakpoints.now None machine.now step → result ≡ lowest_hit breakpoints.now step (sight rope machine.now) }
+    ensures { (rope : Words) (step : StepSight) → HoldsAlike breakpoints.now None machine.now step
+        → result ≡ lowest_hit breakpoints.now step (sight rope machine.now) }
 {
     lowest_hit(breakpoints.as_slice(), &None, machine)
 }
 
-/// What some breakpoints ask of the next step, if what it does may matter to any of them. It stands apart, so that a step
-/// without it has none of its locals.
+/// What some breakpoints ask of the next step, if what it does may matter to any of them. It stands apart, so that a
+/// step without it has none of its locals.
 #[inline(never)]
 fn look_closely(
     breakpoints: &Breakpoints,
     processor: &Processor,
     machine: &Machine,
 ) -> Option<Noted>
-    ensures { FitsRun processor.now.scenario machine.now → HoldsAlike breakpoints.now result (next processor.now.scenario machine.now).0 (step_from processor.now.scenario machine.now) }
+    ensures { FitsRun processor.now.scenario machine.now
+        → HoldsAlike breakpoints.now result (next processor.now.scenario machine.now).0
+        (step_from processor.now.scenario machine.now) }
 {
     look(true, breakpoints, processor, machine)
 }

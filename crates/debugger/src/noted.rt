@@ -30,7 +30,8 @@ impl Noted {
         processor: &Processor,
         machine: &Machine,
     ) -> Noted
-        ensures executed { FitsRun processor.now.scenario machine.now → result.executed ≡ (step_from processor.now.scenario machine.now).executed }
+        ensures executed { FitsRun processor.now.scenario machine.now
+            → result.executed ≡ (step_from processor.now.scenario machine.now).executed }
         ensures words { result.words.items ≡ map (watched_word machine.now) breakpoints.now }
     {
         Noted {
@@ -63,7 +64,8 @@ impl Noted {
 
 /// The place whose instruction the next step executes, if it executes one.
 fn place_executed(processor: &Processor, machine: &Machine) -> Option<Linear>
-    ensures { FitsRun processor.now.scenario machine.now → result ≡ (step_from processor.now.scenario machine.now).executed }
+    ensures { FitsRun processor.now.scenario machine.now
+        → result ≡ (step_from processor.now.scenario machine.now).executed }
 {
     match processor.account(machine) {
         Account::Place(place) => Some(place),

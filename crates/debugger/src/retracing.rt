@@ -47,9 +47,11 @@ impl Desk {
         out: &mut W,
     ) -> Result<(), WriteFailed>
         requires { self.now.position ≤ session.old.n }
-        ensures writes { W.told ≡ true → Writes (W.written out.old) (W.written out.new) (traced_text form symbols.now session.old.scenario self.now.position steps) result }
+        ensures writes { W.told ≡ true → Writes (W.written out.old) (W.written out.new)
+            (traced_text form symbols.now session.old.scenario self.now.position steps) result }
         ensures looked { HasLooked session.old session.new (2 * session.old.n) }
-        ensures retraced { HasRetraced session.old (self.now.position - min steps self.now.position) (min steps self.now.position) session.new }
+        ensures retraced { HasRetraced session.old (self.now.position - min steps self.now.position)
+            (min steps self.now.position) session.new }
         ensures failures { W.failures out.new ≡ failures_after (W.failures out.old) result }
     {
         let count = steps.min(self.position);

@@ -4,7 +4,8 @@ ghost use Rattle.std.specs.Prelude.{◌≡◌, ◌≤◌, [], Some};
 ghost use Rattle.std.specs.List.{position_or_len};
 ghost use Rattle.space.specs.Places.{same_place};
 ghost use Rattle.cpu.specs.State.{FitsRun};
-ghost use Rattle.debugger.specs.Routines.{call_made, without, left_at, with_call, followed, innermost, arrived, arrived_inside, routines_by, inside_by};
+ghost use Rattle.debugger.specs.Routines.{call_made, without, left_at, with_call, followed, innermost, arrived};
+ghost use Rattle.debugger.specs.Routines.{arrived_inside, routines_by, inside_by};
 ghost use Rattle.debugger.specs.Executions.{HasLooked};
 
 use crate::desk::Desk;
@@ -164,7 +165,9 @@ impl Desk {
 impl Onlooker for Routines {
     ghost use Rattle.debugger.specs.Followed.{HasFollowed};
 
-    ghost sees = { λ old scenario s new. HasFollowed scenario s (record { steps = old.steps; outer = old.outside.list.items; inner = old.inside.list.items }) (record { steps = new.steps; outer = new.outside.list.items; inner = new.inside.list.items }) };
+    ghost sees = { λ old scenario s new. HasFollowed scenario s
+        (record { steps = old.steps; outer = old.outside.list.items; inner = old.inside.list.items })
+        (record { steps = new.steps; outer = new.outside.list.items; inner = new.inside.list.items }) };
 
     fn look(&mut self, processor: &Processor, machine: &Machine) {
         self.steps = self.steps.saturating_add(1);

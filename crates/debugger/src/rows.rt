@@ -5,7 +5,8 @@ ghost use Rattle.arrayvec.specs.ArrayVec.{array_vec_len};
 ghost use Rattle.words.specs.Devices.{Writes, failures_after};
 ghost use Rattle.words.specs.Numerals.{digit_zero};
 ghost use Rattle.debugger.specs.History.{history, sight};
-ghost use Rattle.debugger.specs.Rows.{based_text, fraction_text, list_row, magnitude, numbers_text, plain_row, row_text, sign_text, value_row, whole_text};
+ghost use Rattle.debugger.specs.Rows.{based_text, fraction_text, list_row, magnitude, numbers_text, plain_row};
+ghost use Rattle.debugger.specs.Rows.{row_text, sign_text, value_row, whole_text};
 
 use crate::short::word_at;
 use crate::texts::Text;
@@ -37,7 +38,9 @@ pub(crate) fn write_row<W: Write>(
     place: &Linear,
     out: &mut W,
 ) -> Result<(), WriteFailed>
-    ensures writes { W.told ≡ true → Writes (W.written out.old) (W.written out.new) (row_text kind symbols.now rows.now processor.now.scenario.rope (history processor.now.scenario) (sight processor.now.scenario.rope machine.now) place.now) result }
+    ensures writes { W.told ≡ true → Writes (W.written out.old) (W.written out.new)
+        (row_text kind symbols.now rows.now processor.now.scenario.rope (history processor.now.scenario)
+        (sight processor.now.scenario.rope machine.now) place.now) result }
     ensures failures { W.failures out.new ≡ failures_after (W.failures out.old) result }
 {
     match kind {
@@ -55,7 +58,9 @@ pub(crate) fn write_list_row<W: Write>(
     place: &Linear,
     out: &mut W,
 ) -> Result<(), WriteFailed>
-    ensures writes { W.told ≡ true → Writes (W.written out.old) (W.written out.new) (list_row symbols.now rows.now processor.now.scenario.rope (history processor.now.scenario) (sight processor.now.scenario.rope machine.now) place.now) result }
+    ensures writes { W.told ≡ true → Writes (W.written out.old) (W.written out.new)
+        (list_row symbols.now rows.now processor.now.scenario.rope (history processor.now.scenario)
+        (sight processor.now.scenario.rope machine.now) place.now) result }
     ensures failures { W.failures out.new ≡ failures_after (W.failures out.old) result }
 {
     let word = word_at(machine, processor, *place);
@@ -70,7 +75,8 @@ pub(crate) fn write_list_row<W: Write>(
 
 /// The row of a place with the instruction that its word is, where it stands in fixed memory.
 fn plain_row(symbols: &Symbols, machine: &Machine, processor: &Processor, place: &Linear) -> Text
-    ensures { result.items ≡ plain_row symbols.now processor.now.scenario.rope (sight processor.now.scenario.rope machine.now) place.now }
+    ensures { result.items ≡ plain_row symbols.now processor.now.scenario.rope
+        (sight processor.now.scenario.rope machine.now) place.now }
 {
     let mut row = ArrayVec::new();
     push_all(&mut row, b"LIST ");
@@ -91,7 +97,8 @@ fn plain_row(symbols: &Symbols, machine: &Machine, processor: &Processor, place:
 
 /// The row of a place with its word as a number.
 fn value_row(machine: &Machine, processor: &Processor, place: &Linear) -> Text
-    ensures { result.items ≡ value_row (history processor.now.scenario) (sight processor.now.scenario.rope machine.now) place.now }
+    ensures { result.items ≡ value_row (history processor.now.scenario) (sight processor.now.scenario.rope machine.now)
+        place.now }
 {
     let mut row = ArrayVec::new();
     push_all(&mut row, b"VALUE ");

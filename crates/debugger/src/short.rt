@@ -38,7 +38,8 @@ impl Desk {
         steps: u64,
     ) -> Text
         requires { self.old.position ≤ session.old.n }
-        ensures brings { BringsIn manner (desk session.old self.old.position self.old.breakpoints) (Known (command.Back steps)) result.items (desk session.new self.new.position self.new.breakpoints) }
+        ensures brings { BringsIn manner (desk session.old self.old.position self.old.breakpoints)
+            (Known (command.Back steps)) result.items (desk session.new self.new.position self.new.breakpoints) }
         ensures within { self.new.position ≤ session.new.n }
         ensures tail { self.new.tail ≡ self.old.tail }
         ensures looked { HasLooked session.old session.new (session.old.n) }
@@ -59,7 +60,8 @@ impl Desk {
         step: u64,
     ) -> Text
         requires { self.old.position ≤ session.old.n }
-        ensures brings { BringsIn manner (desk session.old self.old.position self.old.breakpoints) (Known (command.Goto step)) result.items (desk session.new self.new.position self.new.breakpoints) }
+        ensures brings { BringsIn manner (desk session.old self.old.position self.old.breakpoints)
+            (Known (command.Goto step)) result.items (desk session.new self.new.position self.new.breakpoints) }
         ensures within { self.new.position ≤ session.new.n }
         ensures tail { self.new.tail ≡ self.old.tail }
         ensures looked { HasLooked session.old session.new (session.old.n) }
@@ -77,7 +79,8 @@ impl Desk {
     /// `seek`: back to the last step before this one at which a breakpoint holds.
     pub(crate) fn seek<K: Keeper>(&mut self, manner: Manner, session: &mut Session<K>) -> Text
         requires { self.old.position ≤ session.old.n }
-        ensures brings { BringsIn manner (desk session.old self.old.position self.old.breakpoints) (Known (command.Seek)) result.items (desk session.new self.new.position self.new.breakpoints) }
+        ensures brings { BringsIn manner (desk session.old self.old.position self.old.breakpoints)
+            (Known (command.Seek)) result.items (desk session.new self.new.position self.new.breakpoints) }
         ensures within { self.new.position ≤ session.new.n }
         ensures tail { self.new.tail ≡ self.old.tail }
         ensures looked { HasLooked session.old session.new (3 * session.old.n) }
@@ -95,7 +98,8 @@ impl Desk {
     /// The last step before the position at which a breakpoint holds, and the lowest of those that do.
     fn last_stop<K: Keeper>(&self, session: &mut Session<K>) -> Option<(u64, u64)>
         requires { self.now.position ≤ session.old.n }
-        ensures last { option_map (λ r. r.0) result ≡ last_stop (history session.old.scenario) (desk session.old self.now.position self.now.breakpoints) }
+        ensures last { option_map (λ r. r.0) result
+            ≡ last_stop (history session.old.scenario) (desk session.old self.now.position self.now.breakpoints) }
         ensures hit { IfSome result (λ r. Some r.1 ≡ hit_at (history session.old.scenario) self.now.breakpoints r.0) }
         ensures before { IfSome result (λ r. r.0 ≤ session.old.n) }
         ensures same { session.new ≡ record session.old { shown = session.new.shown; meter = session.new.meter } }
@@ -115,7 +119,8 @@ impl Desk {
 
     /// The start, where a breakpoint holds there, and the lowest of those that do.
     fn stop_at_start(&self) -> Option<(u64, u64)>
-        ensures { (scenario : Scenario) → result ≡ option_map (λ i. (0, i)) (hit_at (history scenario) self.now.breakpoints 0) }
+        ensures { (scenario : Scenario) → result
+            ≡ option_map (λ i. (0, i)) (hit_at (history scenario) self.now.breakpoints 0) }
     {
         match lowest_hit(self.breakpoints.as_slice(), &None, &Machine::start()) {
             Some(number) => Some((0, number)),
@@ -125,7 +130,8 @@ impl Desk {
 
     /// `break`: one breakpoint more.
     pub(crate) fn set_breakpoint(&mut self, breakpoint: Breakpoint) -> Text
-        ensures brings { (s : SessionView) → Brings (desk s self.old.position self.old.breakpoints) (Known (command.Break breakpoint)) result.items (desk s self.new.position self.new.breakpoints) }
+        ensures brings { (s : SessionView) → Brings (desk s self.old.position self.old.breakpoints)
+            (Known (command.Break breakpoint)) result.items (desk s self.new.position self.new.breakpoints) }
         ensures position { self.new.position ≡ self.old.position }
         ensures tail { self.new.tail ≡ self.old.tail }
     {
@@ -138,7 +144,8 @@ impl Desk {
 
     /// `clear`: no breakpoints.
     pub(crate) fn clear(&mut self) -> Text
-        ensures brings { (s : SessionView) → Brings (desk s self.old.position self.old.breakpoints) (Known command.Clear) result.items (desk s self.new.position self.new.breakpoints) }
+        ensures brings { (s : SessionView) → Brings (desk s self.old.position self.old.breakpoints)
+            (Known command.Clear) result.items (desk s self.new.position self.new.breakpoints) }
         ensures position { self.new.position ≡ self.old.position }
         ensures tail { self.new.tail ≡ self.old.tail }
     {
@@ -149,7 +156,8 @@ impl Desk {
     /// `regs`: the registers, and the next instruction.
     pub(crate) fn registers<K: Keeper>(&self, session: &mut Session<K>) -> Text
         requires { self.now.position ≤ session.old.n }
-        ensures brings { Brings (desk session.old self.now.position self.now.breakpoints) (Known (command.Registers)) result.items (desk session.new self.now.position self.now.breakpoints) }
+        ensures brings { Brings (desk session.old self.now.position self.now.breakpoints) (Known (command.Registers))
+            result.items (desk session.new self.now.position self.now.breakpoints) }
         ensures looked { HasLooked session.old session.new (session.old.n) }
         ensures shown { HasShown session.old self.now.position session.new }
     {
@@ -162,7 +170,8 @@ impl Desk {
     /// `mem`: the word at a place.
     pub(crate) fn memory<K: Keeper>(&self, session: &mut Session<K>, place: Linear) -> Text
         requires { self.now.position ≤ session.old.n }
-        ensures brings { Brings (desk session.old self.now.position self.now.breakpoints) (Known (command.Memory place)) result.items (desk session.new self.now.position self.now.breakpoints) }
+        ensures brings { Brings (desk session.old self.now.position self.now.breakpoints) (Known (command.Memory place))
+            result.items (desk session.new self.now.position self.now.breakpoints) }
         ensures looked { HasLooked session.old session.new (session.old.n) }
         ensures shown { HasShown session.old self.now.position session.new }
     {
@@ -175,7 +184,8 @@ impl Desk {
     /// `chan`: the word on a channel.
     pub(crate) fn channel<K: Keeper>(&self, session: &mut Session<K>, channel: Chan) -> Text
         requires { self.now.position ≤ session.old.n }
-        ensures brings { Brings (desk session.old self.now.position self.now.breakpoints) (Known (command.Channel channel)) result.items (desk session.new self.now.position self.now.breakpoints) }
+        ensures brings { Brings (desk session.old self.now.position self.now.breakpoints)
+            (Known (command.Channel channel)) result.items (desk session.new self.now.position self.now.breakpoints) }
         ensures looked { HasLooked session.old session.new (session.old.n) }
         ensures shown { HasShown session.old self.now.position session.new }
     {
@@ -188,7 +198,8 @@ impl Desk {
     /// `last`: the step after which a place first held what it holds now.
     pub(crate) fn last<K: Keeper>(&self, session: &mut Session<K>, place: Eras) -> Text
         requires { self.now.position ≤ session.old.n }
-        ensures brings { Brings (desk session.old self.now.position self.now.breakpoints) (Known (command.Last place)) result.items (desk session.new self.now.position self.now.breakpoints) }
+        ensures brings { Brings (desk session.old self.now.position self.now.breakpoints) (Known (command.Last place))
+            result.items (desk session.new self.now.position self.now.breakpoints) }
         ensures looked { HasLooked session.old session.new (3 * session.old.n) }
     {
         last_line(self.last_change(session, place))
@@ -196,7 +207,8 @@ impl Desk {
 
     /// `changed`: the erasable places that read differently after a step and now.
     pub(crate) fn changed<K: Keeper>(&self, session: &mut Session<K>, step: u64) -> PlacesText
-        ensures brings { Brings (desk session.old self.now.position self.now.breakpoints) (Known (command.Changed step)) result.items (desk session.new self.now.position self.now.breakpoints) }
+        ensures brings { Brings (desk session.old self.now.position self.now.breakpoints) (Known (command.Changed step))
+            result.items (desk session.new self.now.position self.now.breakpoints) }
         ensures looked { HasLooked session.old session.new (session.old.n) }
     {
         match session.with_present(step) {
@@ -208,7 +220,8 @@ impl Desk {
     /// The last step before the position at which a place held another word.
     fn last_change<K: Keeper>(&self, session: &mut Session<K>, place: Eras) -> Option<u64>
         requires { self.now.position ≤ session.old.n }
-        ensures last { result ≡ last_change (history session.old.scenario) (desk session.old self.now.position self.now.breakpoints) place }
+        ensures last { result ≡ last_change (history session.old.scenario)
+            (desk session.old self.now.position self.now.breakpoints) place }
         ensures below { IfSome result (λ t. t < 2 ^ 40) }
         ensures looked { HasLooked session.old session.new (3 * session.old.n) }
     {
@@ -223,7 +236,8 @@ impl Desk {
 /// The word at a place.
 #[tactic(auto, unfolding(crate::specs::History::history))]
 pub(crate) fn word_at(machine: &Machine, processor: &Processor, place: Linear) -> Word
-    ensures { result ≡ memory_word (history processor.now.scenario) (sight processor.now.scenario.rope machine.now) place }
+    ensures { result ≡ memory_word (history processor.now.scenario) (sight processor.now.scenario.rope machine.now)
+        place }
 {
     match place {
         Linear::Erasable(place) => machine.word(place),

@@ -8,7 +8,10 @@ ghost use Rattle.trace.specs.TraceLines.{octal_digits};
 ghost use Rattle.debugger.specs.History.{history, sight};
 ghost use Rattle.debugger.specs.Replies.{memory_word};
 ghost use Rattle.debugger.specs.Whys.{kind_part, last_outside};
-ghost use Rattle.debugger.specs.Standing.{places_before, place_before, nearest_symbol, distance_text, nearest_text, place_line, waiting_line, where_line, entered_line, entered_text, inside_text, where_text, begins_with, found_line, found_text, places_from, place_after, word_there, words_from, words_text, standing_text, rows_text};
+ghost use Rattle.debugger.specs.Standing.{places_before, place_before, nearest_symbol, distance_text, nearest_text};
+ghost use Rattle.debugger.specs.Standing.{place_line, waiting_line, where_line, entered_line, entered_text};
+ghost use Rattle.debugger.specs.Standing.{inside_text, where_text, begins_with, found_line, found_text, places_from};
+ghost use Rattle.debugger.specs.Standing.{place_after, word_there, words_from, words_text, standing_text, rows_text};
 ghost use Rattle.replay.specs.View.{HasShown};
 ghost use Rattle.debugger.specs.Executions.{HasLooked};
 
@@ -45,7 +48,8 @@ impl Desk {
         out: &mut W,
     ) -> Result<(), WriteFailed>
         requires { self.now.position ≤ session.old.n }
-        ensures writes { W.told ≡ true → Writes (W.written out.old) (W.written out.new) (where_text symbols.now rows.now session.old.scenario self.now.position) result }
+        ensures writes { W.told ≡ true → Writes (W.written out.old) (W.written out.new)
+            (where_text symbols.now rows.now session.old.scenario self.now.position) result }
         ensures looked { HasLooked session.old session.new (4 * session.old.n) }
         ensures failures { W.failures out.new ≡ failures_after (W.failures out.old) result }
     {
@@ -64,7 +68,9 @@ impl Desk {
         out: &mut W,
     ) -> Result<bool, WriteFailed>
         requires { self.now.position ≤ session.old.n }
-        ensures writes { W.told ≡ true → Writes (W.written out.old) (W.written out.new) (standing_text symbols.now rows.now session.old.scenario (run session.old.scenario self.now.position)) result }
+        ensures writes { W.told ≡ true → Writes (W.written out.old) (W.written out.new)
+            (standing_text symbols.now rows.now session.old.scenario (run session.old.scenario self.now.position))
+            result }
         ensures inside { IfOk result (λ inside. inside ≡ (run session.old.scenario self.now.position).inside) }
         ensures looked { HasLooked session.old session.new session.old.n }
         ensures shown { HasShown session.old self.now.position session.new }
@@ -86,7 +92,8 @@ impl Desk {
         symbols: &Symbols,
     ) -> Text
         requires { self.now.position ≤ session.old.n }
-        ensures text { result.items ≡ entered_text symbols.now session.old.scenario (last_outside session.old.scenario self.now.position) }
+        ensures text { result.items ≡ entered_text symbols.now session.old.scenario
+            (last_outside session.old.scenario self.now.position) }
         ensures short { array_vec_len result ≤ 76 }
         ensures looked { HasLooked session.old session.new (3 * session.old.n) }
     {
@@ -104,7 +111,8 @@ impl Desk {
         count: u64,
     ) -> WordsText
         requires { self.now.position ≤ session.old.n }
-        ensures text { result.items ≡ words_text (history session.old.scenario) ((history session.old.scenario).after self.now.position) place.now count }
+        ensures text { result.items ≡ words_text (history session.old.scenario)
+            ((history session.old.scenario).after self.now.position) place.now count }
         ensures looked { HasLooked session.old session.new session.old.n }
         ensures shown { HasShown session.old self.now.position session.new }
     {
@@ -126,7 +134,9 @@ impl Desk {
         out: &mut W,
     ) -> Result<(), WriteFailed>
         requires { self.now.position ≤ session.old.n }
-        ensures writes { W.told ≡ true → Writes (W.written out.old) (W.written out.new) (rows_text kind symbols.now rows.now session.old.scenario.rope (history session.old.scenario) ((history session.old.scenario).after self.now.position) place.now count) result }
+        ensures writes { W.told ≡ true → Writes (W.written out.old) (W.written out.new)
+            (rows_text kind symbols.now rows.now session.old.scenario.rope (history session.old.scenario)
+            ((history session.old.scenario).after self.now.position) place.now count) result }
         ensures looked { HasLooked session.old session.new session.old.n }
         ensures shown { HasShown session.old self.now.position session.new }
         ensures failures { W.failures out.new ≡ failures_after (W.failures out.old) result }
@@ -156,7 +166,8 @@ fn write_standing<W: Write>(
     processor: &Processor,
     out: &mut W,
 ) -> Result<(), WriteFailed>
-    ensures writes { W.told ≡ true → Writes (W.written out.old) (W.written out.new) (standing_text symbols.now rows.now processor.now.scenario machine.now) result }
+    ensures writes { W.told ≡ true → Writes (W.written out.old) (W.written out.new)
+        (standing_text symbols.now rows.now processor.now.scenario machine.now) result }
     ensures failures { W.failures out.new ≡ failures_after (W.failures out.old) result }
 {
     let place = standing_place(machine);
@@ -176,7 +187,9 @@ fn write_rows<W: Write>(
     count: u64,
     out: &mut W,
 ) -> Result<(), WriteFailed>
-    ensures writes { W.told ≡ true → Writes (W.written out.old) (W.written out.new) (rows_text kind symbols.now rows.now processor.now.scenario.rope (history processor.now.scenario) (sight processor.now.scenario.rope machine.now) place.now count) result }
+    ensures writes { W.told ≡ true → Writes (W.written out.old) (W.written out.new)
+        (rows_text kind symbols.now rows.now processor.now.scenario.rope (history processor.now.scenario)
+        (sight processor.now.scenario.rope machine.now) place.now count) result }
     ensures failures { W.failures out.new ≡ failures_after (W.failures out.old) result }
 {
     for index in 0..row_count(place, count) {
@@ -337,7 +350,8 @@ pub(crate) fn find<W: Write>(
     beginning: &[u8],
     out: &mut W,
 ) -> Result<(), WriteFailed>
-    ensures writes { W.told ≡ true → Writes (W.written out.old) (W.written out.new) (found_text symbols.now beginning.now) result }
+    ensures writes { W.told ≡ true → Writes (W.written out.old) (W.written out.new)
+        (found_text symbols.now beginning.now) result }
     ensures failures { W.failures out.new ≡ failures_after (W.failures out.old) result }
 {
     let mut found = 0;
@@ -377,7 +391,8 @@ fn found_line(name: &[u8], value: Value) -> Text
 /// The lines of so many words from a place on.
 #[tactic(auto, unfolding(crate::specs::Standing::words_text))]
 fn words_text(machine: &Machine, processor: &Processor, place: &Linear, count: u64) -> WordsText
-    ensures { result.items ≡ words_text (history processor.now.scenario) (sight processor.now.scenario.rope machine.now) place.now count }
+    ensures { result.items ≡ words_text (history processor.now.scenario) (sight processor.now.scenario.rope machine.now)
+        place.now count }
 {
     let mut text = ArrayVec::new();
     let places = places_from(place);
@@ -391,7 +406,8 @@ fn words_text(machine: &Machine, processor: &Processor, place: &Linear, count: u
 /// Appends the line of the word at a place.
 fn push_word(text: &mut WordsText, machine: &Machine, processor: &Processor, place: &Linear)
     requires { array_vec_len text.old ≤ 36846 }
-    ensures items { text.new.items ≡ text.old.items ++ word_there (history processor.now.scenario) (sight processor.now.scenario.rope machine.now) place.now }
+    ensures items { text.new.items ≡ text.old.items
+        ++ word_there (history processor.now.scenario) (sight processor.now.scenario.rope machine.now) place.now }
     ensures len { array_vec_len text.new ≡ array_vec_len text.old + 18 }
 {
     push_all(text, b"MEM ");

@@ -17,7 +17,8 @@ pub(crate) fn tail_steps<K: Keeper, W: Write>(
     count: u64,
     out: &mut W,
 ) -> Result<(), WriteFailed>
-    ensures writes { W.told ≡ true → Writes (W.written out.old) (W.written out.new) (stepped_tail session.old.scenario session.old.n count) result }
+    ensures writes { W.told ≡ true → Writes (W.written out.old) (W.written out.new)
+        (stepped_tail session.old.scenario session.old.n count) result }
     ensures looked { HasLooked session.old session.new (2 * (count + 1) * session.old.n) }
     ensures failures { W.failures out.new ≡ failures_after (W.failures out.old) result }
 {
@@ -30,8 +31,10 @@ pub(crate) fn tail_steps<K: Keeper, W: Write>(
 /// How many steps stand before the last so many outputs, and how many of these there are.
 fn last_outputs<K: Keeper>(session: &mut Session<K>, count: u64) -> (u64, u64)
     ensures within { result.0 ≤ session.old.n }
-    ensures found { length (outputs_by_step session.old.scenario result.0) + result.1 ≡ length (outputs_by_step session.old.scenario session.old.n) }
-    ensures last { length (outputs_by_step session.old.scenario result.0) ≡ length (outputs_by_step session.old.scenario session.old.n) - count }
+    ensures found { length (outputs_by_step session.old.scenario result.0) + result.1
+        ≡ length (outputs_by_step session.old.scenario session.old.n) }
+    ensures last { length (outputs_by_step session.old.scenario result.0)
+        ≡ length (outputs_by_step session.old.scenario session.old.n) - count }
     ensures looked { HasLooked session.old session.new (2 * count * session.old.n) }
 {
     let mut first = session.steps();

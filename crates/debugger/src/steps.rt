@@ -29,7 +29,9 @@ impl Desk {
     ) -> Result<(), WriteFailed>
         requires within { self.old.position ≤ session.old.n }
         requires tail { self.old.tail ≡ last_of tail_length (outs session.old.scenario session.old.n) }
-        ensures executes { W.told ≡ true → Executes manner K.may_refuse (desk session.old self.old.position self.old.breakpoints) (Known (command.Step steps)) (desk session.new self.new.position self.new.breakpoints) (W.written out.old) (W.written out.new) result }
+        ensures executes { W.told ≡ true → Executes manner K.may_refuse
+            (desk session.old self.old.position self.old.breakpoints) (Known (command.Step steps))
+            (desk session.new self.new.position self.new.breakpoints) (W.written out.old) (W.written out.new) result }
         ensures within { self.new.position ≤ session.new.n }
         ensures tail { self.new.tail ≡ last_of tail_length (outs session.new.scenario session.new.n) }
         ensures session { HasGoneOn session.old session.new }
@@ -51,7 +53,9 @@ impl Desk {
     ) -> Result<(), WriteFailed>
         requires within { self.old.position ≤ session.old.n }
         requires tail { self.old.tail ≡ last_of tail_length (outs session.old.scenario session.old.n) }
-        ensures executes { W.told ≡ true → Executes manner K.may_refuse (desk session.old self.old.position self.old.breakpoints) (Known (command.Run steps)) (desk session.new self.new.position self.new.breakpoints) (W.written out.old) (W.written out.new) result }
+        ensures executes { W.told ≡ true → Executes manner K.may_refuse
+            (desk session.old self.old.position self.old.breakpoints) (Known (command.Run steps))
+            (desk session.new self.new.position self.new.breakpoints) (W.written out.old) (W.written out.new) result }
         ensures within { self.new.position ≤ session.new.n }
         ensures tail { self.new.tail ≡ last_of tail_length (outs session.new.scenario session.new.n) }
         ensures session { HasGoneOn session.old session.new }
@@ -72,7 +76,9 @@ impl Desk {
         out: &mut W,
     ) -> Result<(), WriteFailed>
         requires { self.now.position ≤ session.old.n }
-        ensures written { W.told ≡ true → Writes (W.written out.old) (W.written out.new) (ending_line ending ++ at_line_of manner self.now.position ((history session.old.scenario).after self.now.position)) result }
+        ensures written { W.told ≡ true → Writes (W.written out.old) (W.written out.new)
+            (ending_line ending ++ at_line_of manner self.now.position
+            ((history session.old.scenario).after self.now.position)) result }
         ensures looked { HasLooked session.old session.new session.old.n }
         ensures failures { W.failures out.new ≡ failures_after (W.failures out.old) result }
     {

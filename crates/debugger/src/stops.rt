@@ -43,7 +43,9 @@ pub(crate) fn look(
     processor: &Processor,
     machine: &Machine,
 ) -> Option<Noted>
-    ensures { FitsRun processor.now.scenario machine.now → HoldsAlike breakpoints.now result (next processor.now.scenario machine.now).0 (looked looks processor.now.scenario machine.now) }
+    ensures { FitsRun processor.now.scenario machine.now
+        → HoldsAlike breakpoints.now result (next processor.now.scenario machine.now).0
+        (looked looks processor.now.scenario machine.now) }
 {
     if !looks || !may_matter(breakpoints, machine) {
         return None;

@@ -19,11 +19,13 @@ pub(crate) fn survey<K: Keeper, W: Write>(
     asked: &Surveyed,
     out: &mut W,
 ) -> Result<(), WriteFailed>
-    ensures writes { W.told ≡ true → Writes (W.written out.old) (W.written out.new) (survey_text session.old.scenario session.old.n asked.now) result }
+    ensures writes { W.told ≡ true → Writes (W.written out.old) (W.written out.new)
+        (survey_text session.old.scenario session.old.n asked.now) result }
     ensures looked { HasLooked session.old session.new (2 * session.old.n) }
 
     // The steps are made once, from the latest image up to the first of them on, or from the step that is shown.
-    ensures once { asked.now.first ≤ asked.now.last → asked.now.last ≤ session.old.n → HasRetraced session.old (asked.now.first - 1) (asked.now.last - (asked.now.first - 1)) session.new }
+    ensures once { asked.now.first ≤ asked.now.last → asked.now.last ≤ session.old.n
+        → HasRetraced session.old (asked.now.first - 1) (asked.now.last - (asked.now.first - 1)) session.new }
     ensures late { session.old.n < asked.now.last → session.new ≡ session.old }
     ensures failures { W.failures out.new ≡ failures_after (W.failures out.old) result }
 {
@@ -40,9 +42,13 @@ fn write_buckets<K: Keeper, W: Write>(
     out: &mut W,
 ) -> Result<(), WriteFailed>
     requires { asked.now.last ≤ session.old.n }
-    ensures writes { W.told ≡ true → Writes (W.written out.old) (W.written out.new) (bucket_lines session.old.scenario asked.now.subjects (width_of (asked.now.last - (asked.now.first - 1)) asked.now.buckets) asked.now.last asked.now.buckets 0 (asked.now.first - 1)) result }
+    ensures writes { W.told ≡ true → Writes (W.written out.old) (W.written out.new)
+        (bucket_lines session.old.scenario asked.now.subjects
+        (width_of (asked.now.last - (asked.now.first - 1)) asked.now.buckets) asked.now.last asked.now.buckets 0
+        (asked.now.first - 1)) result }
     ensures looked { HasLooked session.old session.new (2 * session.old.n) }
-    ensures once { asked.now.first ≤ asked.now.last → HasRetraced session.old (asked.now.first - 1) (asked.now.last - (asked.now.first - 1)) session.new }
+    ensures once { asked.now.first ≤ asked.now.last
+        → HasRetraced session.old (asked.now.first - 1) (asked.now.last - (asked.now.first - 1)) session.new }
     ensures failures { W.failures out.new ≡ failures_after (W.failures out.old) result }
 {
     let mut low = asked.first.saturating_sub(1);
@@ -103,7 +109,8 @@ impl Stepper for Surveyor {
     ghost use Rattle.std.specs.Prelude.{false};
     ghost use Rattle.debugger.specs.Surveying.{bucket_seen};
 
-    ghost sees = { λ old scenario state ended new. (ended ≡ false) × (new.is_first ≡ false) × (new.bucket ≡ bucket_seen old.is_first scenario state old.bucket) };
+    ghost sees = { λ old scenario state ended new. (ended ≡ false) × (new.is_first ≡ false)
+        × (new.bucket ≡ bucket_seen old.is_first scenario state old.bucket) };
 
     #[inline(always)]
     fn make_step(&mut self, processor: &mut Processor, machine: &mut Machine) -> bool {

@@ -5,7 +5,8 @@ ghost use Rattle.arrayvec.specs.ArrayVec.{array_vec_len};
 ghost use Rattle.words.specs.Numerals.{octal_text};
 ghost use Rattle.debugger.specs.History.{sight};
 ghost use Rattle.debugger.specs.Positions.{address_of};
-ghost use Rattle.debugger.specs.Replies.{line as text_line, at_line, hit_text, ending_line, last_text, symbol_text, registers_line, next_line, flag_text, flags_text, changed_text};
+ghost use Rattle.debugger.specs.Replies.{line as text_line, at_line, hit_text, ending_line, last_text, symbol_text};
+ghost use Rattle.debugger.specs.Replies.{registers_line, next_line, flag_text, flags_text, changed_text};
 
 use crate::ending::Ending;
 use crate::manner::Manner;
@@ -207,7 +208,8 @@ fn registers_line(machine: &Machine, processor: &Processor) -> Text
 /// Appends the flags and a line feed.
 fn push_flags(line: &mut Text, machine: &Machine, sup: bool, extra: bool)
     requires { array_vec_len line.old ≤ 50 }
-    ensures items { line.new.items ≡ line.old.items ++ text_line (flags_text sup extra machine.now.inhibit machine.now.inside) }
+    ensures items { line.new.items ≡ line.old.items
+        ++ text_line (flags_text sup extra machine.now.inhibit machine.now.inside) }
     ensures len { array_vec_len line.new ≤ array_vec_len line.old + 30 }
 {
     push_all(line, b" SUP ");
@@ -224,7 +226,8 @@ fn push_flags(line: &mut Text, machine: &Machine, sup: bool, extra: bool)
 /// The registers, and the next instruction.
 #[tactic(auto, unfolding(crate::specs::Replies::next_line))]
 pub(crate) fn registers_text(machine: &Machine, processor: &Processor) -> Text
-    ensures { result.items ≡ registers_line (sight processor.now.scenario.rope machine.now) ++ next_line (sight processor.now.scenario.rope machine.now) }
+    ensures { result.items ≡ registers_line (sight processor.now.scenario.rope machine.now)
+        ++ next_line (sight processor.now.scenario.rope machine.now) }
 {
     let (word, extra) = processor.next_word(machine);
     let mut text = registers_line(machine, processor);
@@ -236,8 +239,8 @@ pub(crate) fn registers_text(machine: &Machine, processor: &Processor) -> Text
     text
 }
 
-/// The most bytes of the lines of erasable places: four digits and a line feed for each of 2,048, and `COUNT `, 20 digits
-/// and a line feed.
+/// The most bytes of the lines of erasable places: four digits and a line feed for each of 2,048, and `COUNT `, 20
+/// digits and a line feed.
 const PLACES_TEXT: usize = 10_300;
 
 /// The lines of erasable places.

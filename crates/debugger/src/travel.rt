@@ -38,7 +38,10 @@ impl Desk {
     ) -> Result<(), WriteFailed>
         requires within { self.old.position ≤ session.old.n }
         requires tail { self.old.tail ≡ last_of tail_length (outs session.old.scenario session.old.n) }
-        ensures executes { W.told ≡ true → (terms : Terms) → Replies K.may_refuse (to_asked terms (asked.Over steps)) (desk session.old self.old.position self.old.breakpoints) (desk session.new self.new.position self.new.breakpoints) (W.written out.old) (W.written out.new) result }
+        ensures executes { W.told ≡ true → (terms : Terms)
+            → Replies K.may_refuse (to_asked terms (asked.Over steps))
+            (desk session.old self.old.position self.old.breakpoints)
+            (desk session.new self.new.position self.new.breakpoints) (W.written out.old) (W.written out.new) result }
         ensures within { self.new.position ≤ session.new.n }
         ensures tail { self.new.tail ≡ last_of tail_length (outs session.new.scenario session.new.n) }
         ensures session { HasGoneOn session.old session.new }
@@ -57,7 +60,10 @@ impl Desk {
     ) -> Result<(), WriteFailed>
         requires within { self.old.position ≤ session.old.n }
         requires tail { self.old.tail ≡ last_of tail_length (outs session.old.scenario session.old.n) }
-        ensures executes { W.told ≡ true → (terms : Terms) → Replies K.may_refuse (to_asked terms (asked.Out steps)) (desk session.old self.old.position self.old.breakpoints) (desk session.new self.new.position self.new.breakpoints) (W.written out.old) (W.written out.new) result }
+        ensures executes { W.told ≡ true → (terms : Terms)
+            → Replies K.may_refuse (to_asked terms (asked.Out steps))
+            (desk session.old self.old.position self.old.breakpoints)
+            (desk session.new self.new.position self.new.breakpoints) (W.written out.old) (W.written out.new) result }
         ensures within { self.new.position ≤ session.new.n }
         ensures tail { self.new.tail ≡ last_of tail_length (outs session.new.scenario session.new.n) }
         ensures session { HasDone 4 session.old session.new }
@@ -86,7 +92,8 @@ impl Desk {
     /// Where `out` ends, if anything is in progress, and the cycles at the position.
     fn out_end<K: Keeper>(&self, session: &mut Session<K>) -> (Option<Breakpoint>, u64)
         requires { self.now.position ≤ session.old.n }
-        ensures end { result.0 ≡ out_end (run session.old.scenario self.now.position) (routines session.old.scenario self.now.position) }
+        ensures end { result.0 ≡ out_end (run session.old.scenario self.now.position)
+            (routines session.old.scenario self.now.position) }
         ensures cycles { result.1 ≡ (run session.old.scenario self.now.position).cycles }
         ensures looked { HasLooked session.old session.new (2 * session.old.n) }
     {
@@ -109,7 +116,9 @@ impl Desk {
         requires within { self.old.position ≤ session.old.n }
         requires tail { self.old.tail ≡ last_of tail_length (outs session.old.scenario session.old.n) }
         requires cycles { cycles ≡ (run session.old.scenario self.old.position).cycles }
-        ensures executes { W.told ≡ true → Replies K.may_refuse (goes_to_end end.now steps) (desk session.old self.old.position self.old.breakpoints) (desk session.new self.new.position self.new.breakpoints) (W.written out.old) (W.written out.new) result }
+        ensures executes { W.told ≡ true → Replies K.may_refuse (goes_to_end end.now steps)
+            (desk session.old self.old.position self.old.breakpoints)
+            (desk session.new self.new.position self.new.breakpoints) (W.written out.old) (W.written out.new) result }
         ensures within { self.new.position ≤ session.new.n }
         ensures tail { self.new.tail ≡ last_of tail_length (outs session.new.scenario session.new.n) }
         ensures forward { session.old.n ≤ session.new.n }
@@ -134,7 +143,8 @@ impl Desk {
         steps: u64,
     ) -> Option<u64>
         requires { self.now.position ≤ session.old.n }
-        ensures next { result ≡ next_end (history session.old.scenario) (desk session.old self.now.position self.now.breakpoints) end.now steps }
+        ensures next { result ≡ next_end (history session.old.scenario)
+            (desk session.old self.now.position self.now.breakpoints) end.now steps }
         ensures within { IfSome result (λ t. t ≤ session.old.n) }
         ensures looked { HasLooked session.old session.new session.old.n }
     {
@@ -148,7 +158,8 @@ impl Desk {
     #[tactic(auto, unfolding(crate::specs::History::history))]
     fn arrival_text<K: Keeper>(&self, session: &mut Session<K>, ending: Ending, cycles: u64) -> Text
         requires { self.now.position ≤ session.old.n }
-        ensures text { result.items ≡ arrival_text ending ((run session.old.scenario self.now.position).cycles - cycles) ++ at_line_of manner.Extended self.now.position ((history session.old.scenario).after self.now.position) }
+        ensures text { result.items ≡ arrival_text ending ((run session.old.scenario self.now.position).cycles - cycles)
+            ++ at_line_of manner.Extended self.now.position ((history session.old.scenario).after self.now.position) }
         ensures looked { HasLooked session.old session.new session.old.n }
     {
         match session.show(self.position) {
@@ -173,7 +184,9 @@ impl Desk {
         requires within { self.old.position ≤ session.old.n }
         requires tail { self.old.tail ≡ last_of tail_length (outs session.old.scenario session.old.n) }
         requires cycles { cycles ≡ (run session.old.scenario self.old.position).cycles }
-        ensures executes { W.told ≡ true → Replies K.may_refuse (grows_to_end end.now steps) (desk session.old self.old.position self.old.breakpoints) (desk session.new self.new.position self.new.breakpoints) (W.written out.old) (W.written out.new) result }
+        ensures executes { W.told ≡ true → Replies K.may_refuse (grows_to_end end.now steps)
+            (desk session.old self.old.position self.old.breakpoints)
+            (desk session.new self.new.position self.new.breakpoints) (W.written out.old) (W.written out.new) result }
         ensures within { self.new.position ≤ session.new.n }
         ensures tail { self.new.tail ≡ last_of tail_length (outs session.new.scenario session.new.n) }
         ensures forward { session.old.n ≤ session.new.n }

@@ -31,7 +31,10 @@ impl Desk {
     ) -> Result<(), WriteFailed>
         requires within { self.old.position ≤ session.old.n }
         requires tail { self.old.tail ≡ last_of tail_length (outs session.old.scenario session.old.n) }
-        ensures executes { W.told ≡ true → (terms : Terms) → Replies K.may_refuse (to_asked terms (asked.Until cycles)) (desk session.old self.old.position self.old.breakpoints) (desk session.new self.new.position self.new.breakpoints) (W.written out.old) (W.written out.new) result }
+        ensures executes { W.told ≡ true → (terms : Terms)
+            → Replies K.may_refuse (to_asked terms (asked.Until cycles))
+            (desk session.old self.old.position self.old.breakpoints)
+            (desk session.new self.new.position self.new.breakpoints) (W.written out.old) (W.written out.new) result }
         ensures within { self.new.position ≤ session.new.n }
         ensures tail { self.new.tail ≡ last_of tail_length (outs session.new.scenario session.new.n) }
         ensures session { HasGoneOn session.old session.new }
@@ -50,7 +53,8 @@ impl Desk {
     #[tactic(auto, unfolding(crate::specs::History::history))]
     fn position_text<K: Keeper>(&self, session: &mut Session<K>) -> Text
         requires { self.now.position ≤ session.old.n }
-        ensures text { result.items ≡ at_line_of manner.Extended self.now.position ((history session.old.scenario).after self.now.position) }
+        ensures text { result.items ≡ at_line_of manner.Extended self.now.position
+            ((history session.old.scenario).after self.now.position) }
         ensures looked { HasLooked session.old session.new session.old.n }
     {
         match session.show(self.position) {
@@ -68,7 +72,9 @@ impl Desk {
     ) -> Result<(), WriteFailed>
         requires within { self.old.position ≤ session.old.n }
         requires tail { self.old.tail ≡ last_of tail_length (outs session.old.scenario session.old.n) }
-        ensures executes { W.told ≡ true → Replies K.may_refuse (makes_until cycles) (desk session.old self.old.position self.old.breakpoints) (desk session.new self.new.position self.new.breakpoints) (W.written out.old) (W.written out.new) result }
+        ensures executes { W.told ≡ true → Replies K.may_refuse (makes_until cycles)
+            (desk session.old self.old.position self.old.breakpoints)
+            (desk session.new self.new.position self.new.breakpoints) (W.written out.old) (W.written out.new) result }
         ensures within { self.new.position ≤ session.new.n }
         ensures tail { self.new.tail ≡ last_of tail_length (outs session.new.scenario session.new.n) }
         ensures forward { session.old.n ≤ session.new.n }

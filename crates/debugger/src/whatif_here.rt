@@ -21,8 +21,8 @@ const MOST_INPUTS: usize = 65_536;
 impl Desk {
     /// `whatif`: so many steps after the position, without an input at the cycles there and with it.
     ///
-    /// The session stays as it is, but that the position may be shown: copies of what runs make the steps, each run those after the
-    /// position alone.
+    /// The session stays as it is, but that the position may be shown: copies of what runs make the steps, each run
+    /// those after the position alone.
     pub(crate) fn what_if<K: Keeper, W: Write>(
         &self,
         alloc: Global,
@@ -32,7 +32,9 @@ impl Desk {
         out: &mut W,
     ) -> Result<(), WriteFailed>
         requires within { self.now.position ≤ session.old.n }
-        ensures executes { W.told ≡ true → Replies K.may_refuse (tries input steps) (desk session.old self.now.position self.now.breakpoints) (desk session.new self.now.position self.now.breakpoints) (W.written out.old) (W.written out.new) result }
+        ensures executes { W.told ≡ true → Replies K.may_refuse (tries input steps)
+            (desk session.old self.now.position self.now.breakpoints)
+            (desk session.new self.now.position self.now.breakpoints) (W.written out.old) (W.written out.new) result }
         ensures same { session.new ≡ record session.old { shown = session.new.shown; meter = session.new.meter } }
         ensures looked { HasLooked session.old session.new session.old.n }
         ensures failures { W.failures out.new ≡ failures_after (W.failures out.old) result }
@@ -62,7 +64,8 @@ impl Desk {
     ) -> Option<Buffer>
         requires within { self.now.position ≤ session.old.n }
         requires limit { self.now.position + steps ≤ step_limit }
-        ensures text { IfSome result (λ text. text.written ≡ whatif_text session.old.scenario self.now.position input steps) }
+        ensures text { IfSome result (λ text. text.written
+            ≡ whatif_text session.old.scenario self.now.position input steps) }
         ensures shown { HasShown session.old self.now.position session.new }
     {
         let done = self.position;

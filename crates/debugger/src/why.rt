@@ -9,7 +9,9 @@ ghost use Rattle.cpu.specs.Chains.{cells_among, link_at, before_step};
 ghost use Rattle.std.specs.FinSet.{empty};
 ghost use Rattle.cpu.specs.Links.{targets, place_spots};
 ghost use Rattle.cpu.specs.declared.spot.Spot.{Spot};
-ghost use Rattle.debugger.specs.Whys.{why_text, last_text, link_lines, subject_spots, target_spots, kind_part, cells_part, reads_part, mark_part, reads, added_by, step_place, those_in, cells_before};
+ghost use Rattle.debugger.specs.Whys.{why_text, last_text, link_lines, subject_spots, target_spots, kind_part};
+ghost use Rattle.debugger.specs.Whys.{cells_part, reads_part, mark_part, reads, added_by, step_place, those_in};
+ghost use Rattle.debugger.specs.Whys.{cells_before};
 ghost use Rattle.debugger.specs.Conversation.{link_effort};
 ghost use Rattle.debugger.specs.Executions.{HasLooked};
 
@@ -40,7 +42,8 @@ impl Desk {
         out: &mut W,
     ) -> Result<(), WriteFailed>
         requires { self.now.position ≤ session.old.n }
-        ensures writes { W.told ≡ true → Writes (W.written out.old) (W.written out.new) (why_text symbols.now session.old.scenario lines links self.now.position (subject_spots subject)) result }
+        ensures writes { W.told ≡ true → Writes (W.written out.old) (W.written out.new)
+            (why_text symbols.now session.old.scenario lines links self.now.position (subject_spots subject)) result }
         ensures looked { HasLooked session.old session.new ((link_effort lines * links + 1) * session.old.n) }
         ensures failures { W.failures out.new ≡ failures_after (W.failures out.old) result }
     {
@@ -71,7 +74,8 @@ impl Desk {
         out: &mut W,
     ) -> Result<(), WriteFailed>
         requires { self.now.position ≤ session.old.n }
-        ensures writes { W.told ≡ true → Writes (W.written out.old) (W.written out.new) (last_text symbols.now session.old.scenario lines self.now.position) result }
+        ensures writes { W.told ≡ true → Writes (W.written out.old) (W.written out.new)
+            (last_text symbols.now session.old.scenario lines self.now.position) result }
         ensures looked { HasLooked session.old session.new (link_effort lines * session.old.n) }
         ensures failures { W.failures out.new ≡ failures_after (W.failures out.old) result }
     {
@@ -153,9 +157,12 @@ fn link_lines<K: Keeper>(
 ) -> LinkText
     requires within { step < session.old.n }
     requires fits { step + 1 < 2 ^ 64 }
-    ensures lines { (xs : List Spot) → pending.old ≡ cells_among xs → result.items ≡ link_lines symbols.now session.old.scenario lines step xs }
-    ensures pending { (xs : List Spot) → pending.old ≡ cells_among xs → pending.new ≡ cells_among (before_step session.old.scenario step xs) }
-    ensures looked { HasLooked session.old session.new (2 * (session.old.n - step) + (link_effort lines - 4) * session.old.n) }
+    ensures lines { (xs : List Spot) → pending.old ≡ cells_among xs
+        → result.items ≡ link_lines symbols.now session.old.scenario lines step xs }
+    ensures pending { (xs : List Spot) → pending.old ≡ cells_among xs
+        → pending.new ≡ cells_among (before_step session.old.scenario step xs) }
+    ensures looked { HasLooked session.old session.new
+        (2 * (session.old.n - step) + (link_effort lines - 4) * session.old.n) }
 {
     let begun = begun_at(session, symbols, step, pending);
     let cells = cells_after(session, symbols, step + 1, &begun.cells);
@@ -188,7 +195,8 @@ pub(crate) fn begun_at<K: Keeper>(
     requires { step < session.old.n }
     ensures kind { result.kind.items ≡ kind_part symbols.now session.old.scenario (run session.old.scenario step) }
     ensures cells { result.cells.items ≡ those_in (targets (link_at session.old.scenario step)) pending.old }
-    ensures reads { result.reads.items ≡ reads_part symbols.now session.old.scenario.rope (run session.old.scenario step) (reads (link_at session.old.scenario step) result.cells.items) }
+    ensures reads { result.reads.items ≡ reads_part symbols.now session.old.scenario.rope
+        (run session.old.scenario step) (reads (link_at session.old.scenario step) result.cells.items) }
     ensures inside { result.inside ≡ (run session.old.scenario step).inside }
     ensures added { result.added ≡ added_by (next_step session.old.scenario (run session.old.scenario step)) }
     ensures place { result.place.items ≡ step_place (next_step session.old.scenario (run session.old.scenario step)) }

@@ -11,7 +11,8 @@ ghost use Rattle.cpu.specs.declared.spot.Spot.{Spot};
 ghost use Rattle.replay.specs.Found.{found_by, last_between};
 ghost use Rattle.replay.specs.Whys.{last_writer};
 ghost use Rattle.debugger.specs.Whys.{subject_spots, cells_of, added_by, last_executed, index_line};
-ghost use Rattle.debugger.specs.WhysSince.{since_text, since_step, lines_since, mark_since, entered_since, index_since, end_since};
+ghost use Rattle.debugger.specs.WhysSince.{since_text, since_step, lines_since, mark_since, entered_since, index_since};
+ghost use Rattle.debugger.specs.WhysSince.{end_since};
 ghost use Rattle.debugger.specs.Conversation.{index_effort, link_effort};
 ghost use Rattle.debugger.specs.Executions.{HasLooked};
 
@@ -30,8 +31,8 @@ use symbols::Symbols;
 use words::{Wide, Write, WriteFailed, push_all, push_decimal, write_all};
 
 impl Desk {
-    /// `why` of something since a step: how the word there came to be what it is at the position, by at most so many steps, of which
-    /// none is before that one.
+    /// `why` of something since a step: how the word there came to be what it is at the position, by at most so many
+    /// steps, of which none is before that one.
     pub(crate) fn why_since<K: Keeper, W: Write>(
         &self,
         session: &mut Session<K>,
@@ -43,10 +44,13 @@ impl Desk {
         out: &mut W,
     ) -> Result<(), WriteFailed>
         requires { self.now.position ≤ session.old.n }
-        ensures writes { W.told ≡ true → Writes (W.written out.old) (W.written out.new) (since_text symbols.now session.old.scenario lines since links self.now.position (subject_spots subject)) result }
+        ensures writes { W.told ≡ true → Writes (W.written out.old) (W.written out.new)
+            (since_text symbols.now session.old.scenario lines since links self.now.position (subject_spots subject))
+            result }
 
         // No step before it is made but from the latest image up to there on.
-        ensures looked { HasLooked session.old session.new ((link_effort lines * links + 2) * (session.old.n - (since - 1))) }
+        ensures looked { HasLooked session.old session.new
+            ((link_effort lines * links + 2) * (session.old.n - (since - 1))) }
         ensures failures { W.failures out.new ≡ failures_after (W.failures out.old) result }
     {
         let mut pending = subject_cells(subject);
@@ -75,7 +79,8 @@ fn last_since<K: Keeper, T: StepTest>(
     test: &T,
 ) -> Option<u64>
     requires { p ≤ session.old.n }
-    ensures last { result ≡ option_map (λ r. r.0) (last_between (found_by (T.finds test.now) session.old.scenario) (min (since - 1) p) (p - min (since - 1) p)) }
+    ensures last { result ≡ option_map (λ r. r.0)
+        (last_between (found_by (T.finds test.now) session.old.scenario) (min (since - 1) p) (p - min (since - 1) p)) }
     ensures between { IfSome result (λ t. (since - 1 ≤ t) × (t < p)) }
     ensures below { IfSome result (λ t. t < 2 ^ 40) }
     ensures looked { HasLooked session.old session.new (2 * (session.old.n - (since - 1))) }
@@ -96,7 +101,8 @@ fn writer_since<K: Keeper>(
     cells: &CellSet,
 ) -> Option<u64>
     requires { p ≤ session.old.n }
-    ensures writer { (xs : List Spot) → cells.now ≡ cells_among xs → result ≡ since_step since (last_writer session.old.scenario xs p) }
+    ensures writer { (xs : List Spot) → cells.now ≡ cells_among xs
+        → result ≡ since_step since (last_writer session.old.scenario xs p) }
     ensures between { IfSome result (λ t. (since - 1 ≤ t) × (t < p)) }
     ensures below { IfSome result (λ t. t < 2 ^ 40) }
     ensures looked { HasLooked session.old session.new (2 * (session.old.n - (since - 1))) }
@@ -116,8 +122,10 @@ fn lines_since<K: Keeper>(
     requires within { step < session.old.n }
     requires fits { step + 1 < 2 ^ 64 }
     requires since { since - 1 ≤ step }
-    ensures lines { (xs : List Spot) → pending.old ≡ cells_among xs → result.items ≡ lines_since symbols.now session.old.scenario lines since step xs }
-    ensures pending { (xs : List Spot) → pending.old ≡ cells_among xs → pending.new ≡ cells_among (before_step session.old.scenario step xs) }
+    ensures lines { (xs : List Spot) → pending.old ≡ cells_among xs
+        → result.items ≡ lines_since symbols.now session.old.scenario lines since step xs }
+    ensures pending { (xs : List Spot) → pending.old ≡ cells_among xs
+        → pending.new ≡ cells_among (before_step session.old.scenario step xs) }
     ensures looked { HasLooked session.old session.new ((link_effort lines - 2) * (session.old.n - (since - 1))) }
 {
     let begun = begun_at(session, symbols, step, pending);
@@ -192,7 +200,8 @@ fn moved_since<K: Keeper>(
     sum: Wide,
 ) -> IndexLine
     requires { step < session.old.n }
-    ensures items { result.items ≡ index_line symbols.now session.old.scenario sum (since_step since (last_executed session.old.scenario step)) }
+    ensures items { result.items ≡ index_line symbols.now session.old.scenario sum
+        (since_step since (last_executed session.old.scenario step)) }
     ensures looked { HasLooked session.old session.new (3 * (session.old.n - (since - 1))) }
 {
     match last_since(session, since, step, &Instructions) {

@@ -14,7 +14,8 @@ use Rattle.delays.specs.Routines.{call_over, returned, with_call, without}
 use Rattle.delays.specs.Spans.{asked_by, left_by, span_by, sum_of, wait_by}
 use Rattle.delays.specs.Stretches.{best_of, better, cycles_of, Event, no_best}
 
-names : flat_map (λ c. codes " " ++ cause_name c) (0 ∷ 1 ∷ 5 ∷ 10 ∷ 11 ∷ 12 ∷ 13 ∷ 14 ∷ 15 ∷ 16 ∷ []) ≡ codes " MAIN T6RUPT KEYRUPT1 RUPT10 INHIBITED INPUT EXTEND INDEX RESUME OVERFLOW"
+names : flat_map (λ c. codes " " ++ cause_name c) (0 ∷ 1 ∷ 5 ∷ 10 ∷ 11 ∷ 12 ∷ 13 ∷ 14 ∷ 15 ∷ 16 ∷ [])
+    ≡ codes " MAIN T6RUPT KEYRUPT1 RUPT10 INHIBITED INPUT EXTEND INDEX RESUME OVERFLOW"
 names = refl
 
 -- a cause that had no cycle has no row
@@ -33,7 +34,8 @@ abbrev between : Stretch
 between = record { from = at_ten; to = at_forty; step = 41; end = 4 }
 
 -- 45 cycles between them: of T5RUPT 43, of the main program 1, of EXTEND 1
-whole : sum_of at_forty.spent ∷ sum_of at_ten.spent ∷ cycles_of between ∷ share between 2 ∷ share between 0 ∷ share between 13 ∷ share between 16 ∷ [] ≡ 59 ∷ 14 ∷ 45 ∷ 43 ∷ 1 ∷ 1 ∷ 0 ∷ []
+whole : sum_of at_forty.spent ∷ sum_of at_ten.spent ∷ cycles_of between ∷ share between 2 ∷ share between 0 ∷ share between 13
+    ∷ share between 16 ∷ [] ≡ 59 ∷ 14 ∷ 45 ∷ 43 ∷ 1 ∷ 1 ∷ 0 ∷ []
 whole = refl
 
 -- none of what the run had of no cause is told: three rows
@@ -75,8 +77,8 @@ unfolding best_of
 at_six = refl
 
 -- ## What is asked for
--- interrupt 2 is asked for since the moment after a step that asks for it, and since before where it is asked for again; its entry ends this, and
--- another one's does not
+-- interrupt 2 is asked for since the moment after a step that asks for it, and since before where it is asked for again; its entry ends
+-- this, and another one's does not
 first_asked : asked_by 2 (Some 2) at_ten None ≡ Some at_ten
 first_asked = refl
 
@@ -97,7 +99,8 @@ wait : wait_by (Enters 2) (λ k. Some at_ten) at_forty 4 ≡ Some (2, between)
 wait = refl
 
 -- a span ends after a step after which it is not closed
-span : span_by false (Some (record { by = 7; mark = at_ten })) at_forty 4 ≡ Some (7, record { from = at_ten; to = at_forty; step = 40; end = 4 })
+span : span_by false (Some (record { by = 7; mark = at_ten })) at_forty 4
+    ≡ Some (7, record { from = at_ten; to = at_forty; step = 40; end = 4 })
 span = refl
 
 no_span : span_by true (Some (record { by = 7; mark = at_ten })) at_forty 4 ≡ None
@@ -105,13 +108,15 @@ no_span = refl
 
 -- ## What is open
 -- interrupt asked for by step 10, 45 cycles ago; and a span whose first step was step 11
-still_asked : open_wait at_forty (Some at_ten) ≡ record { count = 1; total = 45; least = 45; longest = record { from = at_ten; to = at_forty; step = 10; end = 0 } }
+still_asked : open_wait at_forty (Some at_ten)
+    ≡ record { count = 1; total = 45; least = 45; longest = record { from = at_ten; to = at_forty; step = 10; end = 0 } }
 still_asked = refl
 
 not_asked : open_wait at_forty None ≡ no_best
 not_asked = refl
 
-still_closed : open_span at_forty (Some (record { by = 7; mark = at_ten })) ≡ record { count = 1; total = 45; least = 45; longest = record { from = at_ten; to = at_forty; step = 11; end = 0 } }
+still_closed : open_span at_forty (Some (record { by = 7; mark = at_ten }))
+    ≡ record { count = 1; total = 45; least = 45; longest = record { from = at_ten; to = at_forty; step = 11; end = 0 } }
 still_closed = refl
 
 -- ## Calls
@@ -149,5 +154,6 @@ one_called : with_call (Some inner) (outer ∷ []) ≡ outer ∷ inner ∷ []
 one_called = refl
 
 -- it stands at the account of its routine, which is place 200, octal, of bank 2, from its TC to the step that ends it
-call_told : call_over (Some outer) at_forty 9 ≡ Some (3 + 0o4000 + 2 * 0o2000 + 0o200, record { from = at_ten; to = at_forty; step = 40; end = 9 })
+call_told : call_over (Some outer) at_forty 9 ≡ Some
+    (3 + 0o4000 + 2 * 0o2000 + 0o200, record { from = at_ten; to = at_forty; step = 40; end = 9 })
 call_told = refl

@@ -1,5 +1,6 @@
 -- The longest stretch that is told, and the least, are so.
-use Rattle.std.proofs.Common.{◌≡◌, ◌≢◌, ◌⊎◌, ℕ, zero, suc, ◌+◌, ◌<◌, ◌≤◌, ◌==◌, ◌||◌, Bool, true, false, nat_lt, Option, Some, None, refl, sym, ap, ◌∙◌, inl, inr, arith, subst}
+use Rattle.std.proofs.Common.{◌≡◌, ◌≢◌, ◌⊎◌, ℕ, zero, suc, ◌+◌, ◌<◌, ◌≤◌, ◌==◌, ◌||◌, Bool, true, false, nat_lt, Option, Some, None, refl}
+use Rattle.std.proofs.Common.{sym, ap, ◌∙◌, inl, inr, arith, subst}
 use Rattle.std.proofs.lemmas.Bool.{cases_Bool}
 use Rattle.std.proofs.lemmas.Bool.Decides.{eqb_tells, nat_tests}
 use Rattle.delays.specs.declared.mark.Best.{Best}
@@ -79,7 +80,8 @@ stretch_in None = no_stretch
 stretch_in (Some event) = event.1
 
 -- no stretch of this row ends in a step
-none_more : (f : ℕ → Option Event) (n row : ℕ) (b : Best) → ((s : Stretch) → f n ≢ Some (row, s)) → IsExact f n row b → IsExact f (suc n) row b
+none_more : (f : ℕ → Option Event) (n row : ℕ) (b : Best) → ((s : Stretch) → f n ≢ Some (row, s)) → IsExact f n row b
+    → IsExact f (suc n) row b
 none_more f n row b none before = record {
   longest = λ s e. elim (earlier f n row s e) [ inl here ↦ absurd (none s here) | inr there ↦ before.longest s there ];
   least = λ s e. elim (earlier f n row s e) [ inl here ↦ absurd (none s here) | inr there ↦ before.least s there ];
@@ -88,14 +90,16 @@ none_more f n row b none before = record {
 }
 
 -- one does
-one_more : (f : ℕ → Option Event) (n row : ℕ) (b : Best) (x : Stretch) → f n ≡ Some (row, x) → IsExact f n row b → IsExact f (suc n) row (better b x)
+one_more : (f : ℕ → Option Event) (n row : ℕ) (b : Best) (x : Stretch) → f n ≡ Some (row, x) → IsExact f n row b
+    → IsExact f (suc n) row (better b x)
 one_more f n row b x is before =
     let same : (s : Stretch) → f n ≡ Some (row, s) → x ≡ s = λ s here. ap stretch_in (sym is ∙ here) in
     record {
       longest = λ s e.
           elim (earlier f n row s e) [
             | inl here ↦ subst (λ (y : Stretch). cycles_of y ≤ cycles_of (better b x).longest) (same s here) (at_least_it b x)
-            | inr there ↦ let low = before.longest s there in let high = at_least_before b x (before.some s there) in omega (arith, low, high)
+            | inr there ↦ let low = before.longest s there in let high = at_least_before b x (before.some s there) in omega
+                (arith, low, high)
           ];
       least = λ s e.
           elim (earlier f n row s e) [
@@ -110,7 +114,8 @@ one_more f n row b x is before =
           ];
     }
 
-by_event : (f : ℕ → Option Event) (n row : ℕ) (b : Best) (e : Option Event) → f n ≡ e → IsExact f n row b → IsExact f (suc n) row (best_by row e b)
+by_event : (f : ℕ → Option Event) (n row : ℕ) (b : Best) (e : Option Event) → f n ≡ e → IsExact f n row b
+    → IsExact f (suc n) row (best_by row e b)
 by_event f n row b None is before = none_more f n row b (λ s here. let both : None ≡ Some (row, s) = sym is ∙ here in cc) before
 by_event f n row b (Some event) is before =
     elim (eqb_tells row event.0) [

@@ -43,7 +43,8 @@ figures_are scenario n d m = λ i. record {
 pub text_is : (symbols : SymbolTable) (scenario : Scenario) (n : ℕ) (d : Delayed) (words : Words)
     → Measures scenario n d → words ≡ scenario.rope → parts_text symbols words (figures_in d) ≡ delays_text symbols scenario n
 text_is symbols scenario n d words measures e =
-    ap (λ (f : Figures). parts_text symbols words f) (figures_are scenario n d measures) ∙ ap (λ w. parts_text symbols w (figures_of scenario n)) e
+    ap (λ (f : Figures). parts_text symbols words f) (figures_are scenario n d measures)
+    ∙ ap (λ w. parts_text symbols w (figures_of scenario n)) e
 
 -- of no stretch there is no row
 pub no_row : (word : List ℕ) (b : Best) (name to : List ℕ) → b.count ≡ 0 → best_row word b name to ≡ []

@@ -1,5 +1,6 @@
 -- How long interrupts waited, and for how long none could come, as text.
-use Rattle.std.specs.Prelude.{ℕ, zero, suc, ◌+◌, ◌-◌, ◌/◌, ◌%◌, ◌^◌, ◌==◌, min, nat_lt, List, [], ◌++◌, Option, None, Some, length, get_or, codes, decimal, if◌then◌else◌}
+use Rattle.std.specs.Prelude.{ℕ, zero, suc, ◌+◌, ◌-◌, ◌/◌, ◌%◌, ◌^◌, ◌==◌, min, nat_lt, List, [], ◌++◌, Option, None, Some, length, get_or}
+use Rattle.std.specs.Prelude.{codes, decimal, if◌then◌else◌}
 use Rattle.std.specs.List.{flat_map, range_with_len}
 use Rattle.rope.specs.Places.{bank_words, Words}
 use Rattle.space.specs.Cells.{erasable_count}
@@ -21,8 +22,8 @@ use Rattle.delays.specs.Spans.{asked, closed, mark, span_ended, span_rows, spent
 use Rattle.delays.specs.Stretches.{best_of, better, cycles_of, no_best}
 use Rattle.delays.specs.Tallies.{Delayed, mark_in}
 
--- what is told: of how many steps, the cycles of each cause, the moment after all steps, since when each interrupt is asked for then, the span
--- that goes on then, and of each row of a table how many stretches there were, and the longest
+-- what is told: of how many steps, the cycles of each cause, the moment after all steps, since when each interrupt is asked for then, the
+-- span that goes on then, and of each row of a table how many stretches there were, and the longest
 pub record Figures : Type 0 where
   pub steps : ℕ
   pub spent : List ℕ
@@ -40,10 +41,31 @@ waits_of scenario n k = if nat_lt k wait_rows then asked scenario k n else None
 -- of the first n steps of a run, and of what is kept
 abbrev pub figures_of : Scenario → ℕ → Figures
 figures_of scenario n =
-    record { steps = n; spent = spents scenario n; now = mark scenario n; waits = waits_of scenario n; closed = closed scenario n; waited = best_of (wait_ended scenario) n; spans = best_of (span_ended scenario) n; called = best_of (call_ended scenario) n }
+    record {
+      steps = n;
+      spent = spents scenario n;
+      now = mark scenario n;
+      waits = waits_of scenario n;
+      closed = closed scenario n;
+      waited
+          = best_of (wait_ended scenario) n;
+      spans = best_of (span_ended scenario) n;
+      called = best_of (call_ended scenario) n;
+    }
 
 abbrev pub figures_in : Delayed → Figures
-figures_in d = record { steps = d.steps; spent = d.spent; now = mark_in d d.cycles; waits = λ row. get_or d.waits row None; closed = d.closed; waited = λ row. get_or d.waited row no_best; spans = λ row. get_or d.spans row no_best; called = λ row. get_or d.called row no_best }
+figures_in d = record {
+  steps = d.steps;
+  spent = d.spent;
+  now = mark_in d d.cycles;
+  waits = λ row. get_or d.waits row None;
+  closed
+      = d.closed;
+  waited = λ row. get_or d.waited row no_best;
+  spans = λ row. get_or d.spans row no_best;
+  called = λ row. get_or d.called row
+      no_best;
+}
 
 -- a text right in 8 places, and a blank
 abbrev pub cell : List ℕ → List ℕ
@@ -118,10 +140,12 @@ begun_row None = start_row
 begun_row (Some begun) = begun.by
 
 abbrev pub open_span_row : SymbolTable → Words → Mark → Option Begun → List ℕ
-open_span_row symbols words now begun = best_row (codes "OPEN  ") (open_span now begun) (codes "SPAN " ++ span_name symbols words (begun_row begun)) []
+open_span_row symbols words now begun = best_row (codes "OPEN  ") (open_span now begun)
+    (codes "SPAN " ++ span_name symbols words (begun_row begun)) []
 
 abbrev pub open_row : SymbolTable → Words → Figures → ℕ → List ℕ
-open_row symbols words f row = if nat_lt row wait_rows then open_wait_row f.now (f.waits row) row else open_span_row symbols words f.now f.closed
+open_row symbols words f row = if nat_lt row wait_rows then open_wait_row f.now (f.waits row) row else open_span_row symbols words f.now
+    f.closed
 
 -- a routine: its place, and the first symbol that stands for it
 abbrev pub name_after : Option (List ℕ) → List ℕ
@@ -138,7 +162,8 @@ abbrev pub routine_row : SymbolTable → ℕ → List ℕ
 routine_row symbols number = place_row symbols (Fixed (number / bank_words) (number % bank_words))
 
 abbrev pub routine_name : SymbolTable → Words → ℕ → List ℕ
-routine_name symbols words row = if nat_lt row first_fixed_row then account_line symbols words row else routine_row symbols (row - first_fixed_row)
+routine_name symbols words row = if nat_lt row first_fixed_row then account_line symbols words row else routine_row symbols
+    (row - first_fixed_row)
 
 abbrev pub call_row : SymbolTable → Words → Best → ℕ → List ℕ
 call_row symbols words b row = best_row (codes "CALL  ") b (routine_name symbols words row) []

@@ -1,6 +1,7 @@
--- The calls of routines while no interrupt is served, as `over` and `out` of a session take them: from the state before TC to the first one, while
--- none is served, in which Z leads to the place after TC.
-use Rattle.std.specs.Prelude.{◌≡◌, ℕ, zero, suc, ◌-◌, ◌&&◌, not, List, [], ◌∷◌, ◌++◌, length, take, drop, slice_get, Option, Some, None, if◌then◌else◌}
+-- The calls of routines while no interrupt is served, as `over` and `out` of a session take them: from the state before TC to the first
+-- one, while none is served, in which Z leads to the place after TC.
+use Rattle.std.specs.Prelude.{◌≡◌, ℕ, zero, suc, ◌-◌, ◌&&◌, not, List, [], ◌∷◌, ◌++◌, length, take, drop, slice_get, Option, Some, None}
+use Rattle.std.specs.Prelude.{if◌then◌else◌}
 use Rattle.std.specs.List.{position_or_len}
 use Rattle.space.specs.Places.{same_place}
 use Rattle.space.specs.declared.place.Linear.{Linear}
@@ -26,10 +27,11 @@ most_calls = 32
 abbrev pub call_in : State → NextStep → Mark → Option Call
 call_in s (Takes input) before = None
 call_in s (Enters k) before = None
-call_in s (Executes f) before = if not s.inside && is_call s f then Some (record { back = return_place s; to = called_place s f; mark = before }) else None
+call_in s (Executes f) before = if not s.inside
+    && is_call s f then Some (record { back = return_place s; to = called_place s f; mark = before }) else None
 
--- of calls in progress, the outer ones first, how many stand before the first that returns to a place; this one; and those that are left where
--- the place is come to, for it is over, and all that it made
+-- of calls in progress, the outer ones first, how many stand before the first that returns to a place; this one; and those that are left
+-- where the place is come to, for it is over, and all that it made
 abbrev pub depth : Linear → List Call → ℕ
 depth place calls = position_or_len (λ c. same_place place c.back) calls
 
@@ -68,4 +70,5 @@ call_over None after here = None
 call_over (Some c) after here = Some (account_number (Place c.to), record { from = c.mark; to = after; step = after.step; end = here })
 
 abbrev pub call_ended : Scenario → ℕ → Option Event
-call_ended scenario n = call_over (returned_in (run scenario (suc n)) (with_call (call_at scenario n) (in_progress scenario n))) (mark scenario (suc n)) (here_at scenario n)
+call_ended scenario n = call_over (returned_in (run scenario (suc n)) (with_call (call_at scenario n) (in_progress scenario n)))
+    (mark scenario (suc n)) (here_at scenario n)

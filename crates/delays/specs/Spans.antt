@@ -1,5 +1,6 @@
 -- The stretches of a run that are told: while an interrupt is asked for, and while none may be entered.
-use Rattle.std.specs.Prelude.{◌≡◌, ℕ, zero, suc, ◌+◌, ◌-◌, ◌==◌, ◌||◌, Bool, true, false, List, [], ◌∷◌, get_or, set, replicate, Option, Some, None, unwrap_or, if◌then◌else◌}
+use Rattle.std.specs.Prelude.{◌≡◌, ℕ, zero, suc, ◌+◌, ◌-◌, ◌==◌, ◌||◌, Bool, true, false, List, [], ◌∷◌, get_or, set, replicate, Option}
+use Rattle.std.specs.Prelude.{Some, None, unwrap_or, if◌then◌else◌}
 use Rattle.cpu.specs.declared.next_step.NextStep.{NextStep}
 use Rattle.cpu.specs.declared.next_step.NextStep.TheVariants.{Takes, Enters, Executes}
 use Rattle.cpu.specs.Asking.{interrupt_asked}
@@ -78,7 +79,11 @@ wait_rows = 11
 -- the wait that a step ends, which enters interrupt k
 abbrev pub wait_by : NextStep → (ℕ → Option Mark) → Mark → ℕ → Option Event
 wait_by (Takes input) since before here = None
-wait_by (Enters k) since before here = Some (k, record { from = unwrap_or (since k) before; to = before; step = before.step + 1; end = here })
+wait_by (Enters k) since before here = Some (
+  k,
+  record
+      { from = unwrap_or (since k) before; to = before; step = before.step + 1; end = here },
+)
 wait_by (Executes f) since before here = None
 
 abbrev pub wait_ended : Scenario → ℕ → Option Event
@@ -99,7 +104,8 @@ span_rows = account_count + 1
 unfoldable pub closed : Scenario → ℕ → Option Begun
 closed scenario zero = Some (record { by = start_row; mark = mark scenario 0 })
 closed scenario (suc n) =
-    if is_closed (run scenario (suc n)) then Some (unwrap_or (closed scenario n) (record { by = here_at scenario n; mark = mark scenario n })) else None
+    if is_closed (run scenario (suc n)) then Some
+    (unwrap_or (closed scenario n) (record { by = here_at scenario n; mark = mark scenario n })) else None
 
 -- the span that a step ends
 abbrev pub span_of : Option Begun → Mark → ℕ → Option Event

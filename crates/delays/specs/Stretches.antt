@@ -1,5 +1,6 @@
 -- Stretches of a run, how many of them end in some steps, and the longest.
-use Rattle.std.specs.Prelude.{◌≡◌, ℕ, zero, suc, ◌+◌, ◌-◌, ◌^◌, ◌<◌, ◌≤◌, ◌==◌, ◌||◌, nat_lt, min, List, replicate, Option, Some, None, if◌then◌else◌}
+use Rattle.std.specs.Prelude.{◌≡◌, ℕ, zero, suc, ◌+◌, ◌-◌, ◌^◌, ◌<◌, ◌≤◌, ◌==◌, ◌||◌, nat_lt, min, List, replicate, Option, Some, None}
+use Rattle.std.specs.Prelude.{if◌then◌else◌}
 use Rattle.delays.specs.declared.mark.Mark.{Mark}
 use Rattle.delays.specs.declared.mark.Stretch.{Stretch}
 use Rattle.delays.specs.declared.mark.Best.{Best}

@@ -1,5 +1,6 @@
 -- What is kept of a run, as its steps are made.
-use Rattle.std.specs.Prelude.{◌≡◌, ℕ, ◌+◌, ◌-◌, ◌<◌, ◌≤◌, ◌^◌, Bool, List, length, get_or, set, Option, Some, None, is_some, unwrap_or, if◌then◌else◌}
+use Rattle.std.specs.Prelude.{◌≡◌, ℕ, ◌+◌, ◌-◌, ◌<◌, ◌≤◌, ◌^◌, Bool, List, length, get_or, set, Option, Some, None, is_some, unwrap_or}
+use Rattle.std.specs.Prelude.{if◌then◌else◌}
 use Rattle.cpu.specs.declared.next_step.NextStep.{NextStep}
 use Rattle.cpu.specs.declared.next_step.NextStep.TheVariants.{Takes, Enters, Executes}
 use Rattle.cpu.specs.Run.{run}
@@ -13,11 +14,12 @@ use Rattle.delays.specs.declared.mark.Best.{Best}
 use Rattle.delays.specs.declared.mark.Mark.{Mark}
 use Rattle.delays.specs.Causes.{cause_by, causes}
 use Rattle.delays.specs.Routines.{call_ended, call_in, call_over, in_progress, left_in, returned_in, with_call}
-use Rattle.delays.specs.Spans.{asked, asked_in, cause_at, closed, is_closed, span_by, span_ended, span_rows, spent_more, spents, wait_by, wait_ended, wait_rows}
+use Rattle.delays.specs.Spans.{asked, asked_in, cause_at, closed, is_closed, span_by, span_ended, span_rows, spent_more, spents, wait_by}
+use Rattle.delays.specs.Spans.{wait_ended, wait_rows}
 use Rattle.delays.specs.Stretches.{best_of, better, Event, no_best}
 
--- how many steps were made, their cycles, those of each cause, the interrupt that was entered last, since when each is asked for, the span that
--- goes on, the calls in progress, and a table for each kind of stretch
+-- how many steps were made, their cycles, those of each cause, the interrupt that was entered last, since when each is asked for, the span
+-- that goes on, the calls in progress, and a table for each kind of stretch
 pub record Delayed : Type 0 where
   pub steps : ℕ
   pub cycles : ℕ

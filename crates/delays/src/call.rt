@@ -57,7 +57,8 @@ impl Calls {
         }
     }
 
-    /// One more. Those that it made before, and what they made, are over; the outermost is forgotten where there are too many.
+    /// One more. Those that it made before, and what they made, are over; the outermost is forgotten where there are
+    /// too many.
     pub(crate) fn enter(&mut self, call: Call)
         ensures { self.new ≡ with_call (Some call) self.old }
     {

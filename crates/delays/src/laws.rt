@@ -2,8 +2,8 @@
 
 ghost use Rattle.delays.specs.Stretches.{BestsAreExact};
 
-/// Of the stretches of a row that end in some steps none is longer than the longest that is told, which is one of them, and none
-/// shorter than the least.
+/// Of the stretches of a row that end in some steps none is longer than the longest that is told, which is one of them,
+/// and none shorter than the least.
 pub fn bests_are_exact()
     ensures { BestsAreExact }
 {}

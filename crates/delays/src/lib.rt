@@ -1,4 +1,5 @@
-//! How long the interrupts of a run waited, and for how long none could be entered, with the cycles of each cause, and of the calls of routines.
+//! How long the interrupts of a run waited, and for how long none could be entered, with the cycles of each cause, and
+//! of the calls of routines.
 #![tactic(auto)]
 
 mod call;

@@ -13,7 +13,8 @@ use trace::decimal_text;
 use words::push_all;
 use yayul::push_blanks;
 
-/// The most bytes of a part: rows of 17 causes of at most 37 bytes, two rows of at most 160, and more than the heading needs.
+/// The most bytes of a part: rows of 17 causes of at most 37 bytes, two rows of at most 160, and more than the heading
+/// needs.
 const ROWS: usize = 1280;
 
 pub(crate) type Rows = ArrayVec<u8, ROWS>;

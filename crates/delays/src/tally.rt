@@ -10,7 +10,8 @@ ghost use Rattle.delays.specs.Causes.{cause_by, causes};
 ghost use Rattle.delays.specs.Routines.{call_over, left_in, returned_in, with_call};
 ghost use Rattle.delays.specs.Spans.{span_by, span_rows, spent_more, wait_by, wait_rows};
 ghost use Rattle.delays.specs.Stretches.{no_best};
-ghost use Rattle.delays.specs.Tallies.{AreFew, begun_after, delayed_after, IsSmall, IsWithin, mark_in, Measures, over_in, put_down, span_in, wait_in, waits_asked, waits_left};
+ghost use Rattle.delays.specs.Tallies.{AreFew, begun_after, delayed_after, IsSmall, IsWithin, mark_in, Measures};
+ghost use Rattle.delays.specs.Tallies.{over_in, put_down, span_in, wait_in, waits_asked, waits_left};
 
 use crate::call::{Call, Calls, call_in};
 use crate::cause::{CAUSES, asked_in, cause_of, is_closed, where_of};
@@ -32,8 +33,9 @@ pub(crate) const START_ROW: usize = ACCOUNTS;
 /// The rows of spans: one for each account, and one for the start.
 pub(crate) const SPAN_ROWS: usize = ACCOUNTS + 1;
 
-/// What is kept: how many steps were made, their cycles, those of each cause, the interrupt that was entered last, 0 where none was, since when
-/// each is asked for, the span that goes on, the calls in progress, and a table for each kind of stretch.
+/// What is kept: how many steps were made, their cycles, those of each cause, the interrupt that was entered last, 0
+/// where none was, since when each is asked for, the span that goes on, the calls in progress, and a table for each
+/// kind of stretch.
 #[derive(Drop)]
 pub struct Delays {
     steps: u64,
@@ -56,9 +58,21 @@ impl Model for Delays {
 
     ghost Value = { Delayed };
 
-    ghost view = { λ d. record { steps = d.steps; cycles = d.cycles; spent = d.spent; last = d.last; waits = d.waits; closed = d.closed; calls = d.calls; waited = d.waited; spans = d.spans; called = d.called } };
+    ghost view = { λ d. record {
+      steps = d.steps;
+      cycles = d.cycles;
+      spent = d.spent;
+      last = d.last;
+      waits = d.waits;
+      closed = d.closed;
+      calls = d.calls;
+      waited = d.waited;
+      spans = d.spans;
+      called = d.called;
+    } };
 
-    ghost invariant = { λ d. (length d.waited ≡ wait_rows) × (length d.spans ≡ span_rows) × (length d.called ≡ account_count) × (d.last ≤ 10) × IfSome d.closed (λ begun. begun.by < span_rows) };
+    ghost invariant = { λ d. (length d.waited ≡ wait_rows) × (length d.spans ≡ span_rows)
+        × (length d.called ≡ account_count) × (d.last ≤ 10) × IfSome d.closed (λ begun. begun.by < span_rows) };
 }
 
 impl Delays {
@@ -148,7 +162,8 @@ impl Delays {
         self.called.best(row)
     }
 
-    /// Makes more steps of a run of which some are done, and keeps what waits, spans and calls they end. What they put out is passed over.
+    /// Makes more steps of a run of which some are done, and keeps what waits, spans and calls they end. What they put
+    /// out is passed over.
     pub fn make_steps(
         &mut self,
         processor: &mut Processor,
@@ -177,11 +192,15 @@ impl Delays {
         requires small { IsSmall self.old }
         ensures scenario { processor.new.scenario ≡ processor.old.scenario }
         ensures state { machine.new ≡ (next processor.old.scenario machine.old).0 }
-        ensures delays { self.new ≡ delayed_after (next_step processor.old.scenario machine.old) machine.old machine.new self.old }
+        ensures delays { self.new ≡ delayed_after (next_step processor.old.scenario machine.old) machine.old machine.new
+            self.old }
         ensures cause { cause_by (next_step processor.old.scenario machine.old) machine.old self.old.last < causes }
-        ensures wait { IsWithin wait_rows (wait_in (next_step processor.old.scenario machine.old) machine.old self.old) }
-        ensures span { IsWithin span_rows (span_in (next_step processor.old.scenario machine.old) machine.old machine.new self.old) }
-        ensures call { IsWithin account_count (over_in (next_step processor.old.scenario machine.old) machine.old machine.new self.old) }
+        ensures wait { IsWithin wait_rows (wait_in (next_step processor.old.scenario machine.old) machine.old
+            self.old) }
+        ensures span { IsWithin span_rows (span_in (next_step processor.old.scenario machine.old) machine.old
+            machine.new self.old) }
+        ensures call { IsWithin account_count
+            (over_in (next_step processor.old.scenario machine.old) machine.old machine.new self.old) }
     {
         let step = processor.next_step(machine);
         let cause = cause_of(&step, machine, self.last);
@@ -219,9 +238,11 @@ impl Delays {
         requires few { AreFew self.old.waited (2 ^ 62) }
         ensures value { self.new ≡ record self.old {
           waits = waits_left step.now self.old.waits;
-          waited = put_down self.old.waited (wait_by step.now (λ k. get_or self.old.waits k None) (mark_in self.old cycles) here);
+          waited = put_down self.old.waited (wait_by step.now (λ k. get_or self.old.waits k None)
+              (mark_in self.old cycles) here);
         } }
-        ensures within { IsWithin wait_rows (wait_by step.now (λ k. get_or self.old.waits k None) (mark_in self.old cycles) here) }
+        ensures within { IsWithin wait_rows (wait_by step.now (λ k. get_or self.old.waits k None)
+            (mark_in self.old cycles) here) }
     {
         if let NextStep::Enters(interrupt) = step {
             let row = usize::from(interrupt.number());
@@ -240,7 +261,10 @@ impl Delays {
     /// Begins a span, where none goes on.
     fn begin_span(&mut self, is_closed: bool, here: usize, cycles: u64)
         requires { here < account_count }
-        ensures { self.new ≡ record self.old { closed = begun_after is_closed (record { by = here; mark = mark_in self.old cycles }) self.old.closed } }
+        ensures { self.new ≡ record self.old {
+          closed = begun_after is_closed
+              (record { by = here; mark = mark_in self.old cycles }) self.old.closed;
+        } }
     {
         if is_closed && self.closed.is_none() {
             self.closed = Some(Begun {
@@ -256,7 +280,11 @@ impl Delays {
         requires steps { self.old.steps ≤ 2 ^ 62 }
         requires spent { get_or self.old.spent cause 0 ≤ 2 ^ 62 }
         requires few { cycles ≤ 2 ^ 62 }
-        ensures { self.new ≡ record self.old { steps = self.old.steps + 1; spent = spent_more self.old.spent cause cycles } }
+        ensures { self.new ≡ record self.old {
+          steps = self.old.steps
+              + 1;
+          spent = spent_more self.old.spent cause cycles;
+        } }
     {
         self.steps += 1;
         self.spent[cause] += cycles;
@@ -312,9 +340,11 @@ impl Delays {
         requires few { AreFew self.old.called (2 ^ 62) }
         ensures value { self.new ≡ record self.old {
           calls = left_in machine.now self.old.calls;
-          called = put_down self.old.called (call_over (returned_in machine.now self.old.calls) (mark_in self.old machine.now.cycles) here);
+          called = put_down self.old.called (call_over (returned_in machine.now self.old.calls)
+              (mark_in self.old machine.now.cycles) here);
         } }
-        ensures within { IsWithin account_count (call_over (returned_in machine.now self.old.calls) (mark_in self.old machine.now.cycles) here) }
+        ensures within { IsWithin account_count
+            (call_over (returned_in machine.now self.old.calls) (mark_in self.old machine.now.cycles) here) }
     {
         if machine.inside() {
             return;

@@ -1,6 +1,7 @@
 //! How long interrupts waited, for how long none could come, and how long calls of routines took, as text.
 
-ghost use Rattle.std.specs.Prelude.{◌≡◌, ◌+◌, ◌-◌, ◌/◌, ◌%◌, ◌*◌, ◌<◌, [], Some, ◌≤◌, ◌++◌, codes, get_or, length, true, IfSome};
+ghost use Rattle.std.specs.Prelude.{◌≡◌, ◌+◌, ◌-◌, ◌/◌, ◌%◌, ◌*◌, ◌<◌, [], Some, ◌≤◌, ◌++◌, codes, get_or, length};
+ghost use Rattle.std.specs.Prelude.{true, IfSome};
 ghost use Rattle.arrayvec.specs.ArrayVec.{array_vec_len};
 ghost use Rattle.words.specs.Devices.{Writes, failures_after};
 ghost use Rattle.trace.specs.TraceLines.{interrupt_name, symbol_at};
@@ -9,7 +10,10 @@ ghost use Rattle.cover.specs.Tallies.{account_count};
 ghost use Rattle.rope.specs.Places.{bank_words};
 ghost use Rattle.space.specs.declared.place.Linear.TheVariants.{Fixed};
 ghost use Rattle.yayul.specs.Listing.{place_text};
-ghost use Rattle.delays.specs.DelayText.{call_row, figures_in, best_row, name_after, open_row, open_span, open_span_row, open_wait, open_wait_row, part_text, parts, parts_text, parts_to, place_row, routine_name, routine_row, span_name, span_row, to_row, wait_row};
+ghost use Rattle.delays.specs.DelayText.{call_row, figures_in, best_row, name_after, open_row, open_span};
+ghost use Rattle.delays.specs.DelayText.{open_span_row, open_wait, open_wait_row, part_text, parts, parts_text};
+ghost use Rattle.delays.specs.DelayText.{parts_to, place_row, routine_name, routine_row, span_name, span_row, to_row};
+ghost use Rattle.delays.specs.DelayText.{wait_row};
 ghost use Rattle.delays.specs.Spans.{span_rows, wait_rows};
 ghost use Rattle.delays.specs.Stretches.{no_best};
 
@@ -43,9 +47,10 @@ const FIRST_FIXED: usize = 3 + 0o4000;
 
 /// Writes how long interrupts waited and for how long none could come: the cycles of each cause; then as
 /// `OPEN ..` a wait and a span that have not ended after the last step; as
-/// `WAIT       102       12        0      530    12345 DOWNRUPT` of each interrupt the cycles of the longest wait, their mean, the least,
-/// how many there were, and the step that ended the longest; and as `SPAN ..` the same of the spans that began at a place, and where the
-/// longest ended; and as `CALL ..` of the calls of a routine. Below a row stands of how many cycles of each cause the longest was.
+/// `WAIT       102       12        0      530    12345 DOWNRUPT` of each interrupt the cycles of the longest wait,
+/// their mean, the least, how many there were, and the step that ended the longest; and as `SPAN ..` the same of the
+/// spans that began at a place, and where the longest ended; and as `CALL ..` of the calls of a routine. Below a row
+/// stands of how many cycles of each cause the longest was.
 ///
 /// After a failure a beginning of it was written.
 pub fn write_delays<W: Write>(
@@ -54,7 +59,8 @@ pub fn write_delays<W: Write>(
     rope: &Rope,
     out: &mut W,
 ) -> Result<(), WriteFailed>
-    ensures written { W.told ≡ true → Writes (W.written out.old) (W.written out.new) (parts_text names.now rope.now (figures_in delays.now)) result }
+    ensures written { W.told ≡ true → Writes (W.written out.old) (W.written out.new)
+        (parts_text names.now rope.now (figures_in delays.now)) result }
     ensures failures { W.failures out.new ≡ failures_after (W.failures out.old) result }
 {
     write_parts(delays, names, rope, PARTS, out)
@@ -69,7 +75,8 @@ fn write_parts<W: Write>(
     out: &mut W,
 ) -> Result<(), WriteFailed>
     requires { count ≤ parts }
-    ensures written { W.told ≡ true → Writes (W.written out.old) (W.written out.new) (parts_to names.now rope.now (figures_in delays.now) count) result }
+    ensures written { W.told ≡ true → Writes (W.written out.old) (W.written out.new)
+        (parts_to names.now rope.now (figures_in delays.now) count) result }
     ensures failures { W.failures out.new ≡ failures_after (W.failures out.old) result }
 {
     for part in 0..count {
@@ -87,7 +94,8 @@ fn write_part<W: Write>(
     out: &mut W,
 ) -> Result<(), WriteFailed>
     requires { part < parts }
-    ensures written { W.told ≡ true → Writes (W.written out.old) (W.written out.new) (part_text names.now rope.now (figures_in delays.now) part) result }
+    ensures written { W.told ≡ true → Writes (W.written out.old) (W.written out.new)
+        (part_text names.now rope.now (figures_in delays.now) part) result }
     ensures failures { W.failures out.new ≡ failures_after (W.failures out.old) result }
 {
     let rows = part_rows(delays, names, rope, part);

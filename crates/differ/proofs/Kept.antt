@@ -1,10 +1,12 @@
 -- What a step does not write stays the same.
-use Rattle.std.proofs.Common.{◌≡◌, ◌≢◌, ℕ, zero, suc, ◌+◌, ◌-◌, ◌<◌, ◌≤◌, ◌==◌, ◌||◌, ◌&&◌, not, cond, true, false, Bool, List, [], ◌∷◌, Option, Some, None, ltb, eqb, drop, length, get_or, refl, sym, arith, ap, ◌∙◌, inl, inr}
+use Rattle.std.proofs.Common.{◌≡◌, ◌≢◌, ℕ, zero, suc, ◌+◌, ◌-◌, ◌<◌, ◌≤◌, ◌==◌, ◌||◌, ◌&&◌, not, cond, true, false, Bool, List, [], ◌∷◌}
+use Rattle.std.proofs.Common.{Option, Some, None, ltb, eqb, drop, length, get_or, refl, sym, arith, ap, ◌∙◌, inl, inr}
 use Rattle.std.specs.Option.{option_map, option_or}
 use Rattle.std.proofs.lemmas.Bool.{cases_Bool}
 use Rattle.std.proofs.lemmas.List.{drop_all, drop_more}
 use Rattle.std.proofs.lemmas.Bool.Decides.{nat_tests}
-use Rattle.space.specs.Cells.{Cells, accumulator, at, both_banks, channel_cell, erasable_count, get, get_channel, is_cell, lower_accumulator_channel, return_address, return_address_channel, word_at}
+use Rattle.space.specs.Cells.{Cells, accumulator, at, both_banks, channel_cell, erasable_count, get, get_channel, is_cell}
+use Rattle.space.specs.Cells.{lower_accumulator_channel, return_address, return_address_channel, word_at}
 use Rattle.words.specs.Numbers.{extend}
 use Rattle.cpu.specs.Links.{is_in, link, targets, writes}
 use Rattle.cpu.specs.Next.{next}
@@ -22,7 +24,8 @@ same_get s t q m6 h =
     let wide = q == accumulator || q == return_address in
     ap (λ w. cond wide w (extend (word_at t q))) h ∙ ap (λ w. cond wide (at s q) (extend w)) (same_word s t q m6 h)
 
-same_channel : (s t : Cells) (n : ℕ) → n ≢ lower_accumulator_channel → n ≢ return_address_channel → at t (channel_cell n) ≡ at s (channel_cell n) → get_channel t n ≡ get_channel s n
+same_channel : (s t : Cells) (n : ℕ) → n ≢ lower_accumulator_channel → n ≢ return_address_channel
+    → at t (channel_cell n) ≡ at s (channel_cell n) → get_channel t n ≡ get_channel s n
 unfolding get_channel
 same_channel s t n low back h = grind (arith, nat_tests)
 
@@ -87,7 +90,8 @@ all_alike s t (suc n) each =
     let before = all_alike s t n (λ c lt. each c (omega (arith, lt))) in
     rw (before, each n (omega arith)) refl
 
-same_apart : (s t u v : Cells) (c : ℕ) → (is_cell c ≡ true → reading u c ≡ reading s c) → (is_cell c ≡ true → reading v c ≡ reading t c) → is_apart s t c ≡ false → is_apart u v c ≡ false
+same_apart : (s t u v : Cells) (c : ℕ) → (is_cell c ≡ true → reading u c ≡ reading s c) → (is_cell c ≡ true → reading v c ≡ reading t c)
+    → is_apart s t c ≡ false → is_apart u v c ≡ false
 same_apart s t u v c one other before = elim (cases_Bool (is_cell c)) [
   | inl is ↦ rw (one is, other is) before
   | inr away ↦ rw away refl
@@ -95,22 +99,26 @@ same_apart s t u v c one other before = elim (cases_Bool (is_cell c)) [
 
 -- a cell that was the same is so after a step of each, where none of those that they write is another
 stays : (one other : Scenario) (s t : State) (c : ℕ) → is_apart s.cells t.cells c ≡ false
-    → same_cells (next one s).0.cells (next other t).0.cells (targets (link one s)) ≡ true → same_cells (next one s).0.cells (next other t).0.cells (targets (link other t)) ≡ true
+    → same_cells (next one s).0.cells (next other t).0.cells (targets (link one s)) ≡ true
+    → same_cells (next one s).0.cells (next other t).0.cells (targets (link other t)) ≡ true
     → is_apart (next one s).0.cells (next other t).0.cells c ≡ false
 stays one other s t c before here there = elim (cases_Bool (is_in c (targets (link one s)))) [
   | inl written ↦ among (next one s).0.cells (next other t).0.cells c (targets (link one s)) written here
   | inr left ↦ elim (cases_Bool (is_in c (targets (link other t)))) [
     | inl written ↦ among (next one s).0.cells (next other t).0.cells c (targets (link other t)) written there
     | inr too ↦ same_apart s.cells t.cells (next one s).0.cells (next other t).0.cells c
-        (λ is. reading_kept s.cells (next one s).0.cells c is (leaves_rest one s c left)) (λ is. reading_kept t.cells (next other t).0.cells c is (leaves_rest other t c too)) before
+        (λ is. reading_kept s.cells (next one s).0.cells c is (leaves_rest one s c left))
+        (λ is. reading_kept t.cells (next other t).0.cells c is (leaves_rest other t c too)) before
   ]
 ]
 
 pub none_parts : (one other : Scenario) (s t : State) → first_cell s.cells t.cells cell_count ≡ None
-    → same_cells (next one s).0.cells (next other t).0.cells (targets (link one s)) ≡ true → same_cells (next one s).0.cells (next other t).0.cells (targets (link other t)) ≡ true
+    → same_cells (next one s).0.cells (next other t).0.cells (targets (link one s)) ≡ true
+    → same_cells (next one s).0.cells (next other t).0.cells (targets (link other t)) ≡ true
     → first_cell (next one s).0.cells (next other t).0.cells cell_count ≡ None
 none_parts one other s t before here there =
-    all_alike (next one s).0.cells (next other t).0.cells cell_count (λ c lt. stays one other s t c (each_alike s.cells t.cells cell_count c before lt) here there)
+    all_alike (next one s).0.cells (next other t).0.cells cell_count
+    (λ c lt. stays one other s t c (each_alike s.cells t.cells cell_count c before lt) here there)
 
 and_no : (b : Bool) → (b && not true) ≡ false
 and_no true = refl
@@ -127,7 +135,8 @@ none_at_start s t same = rw same (all_alike t t cell_count (λ c lt. self_alike 
 
 -- so it is enough to look at those
 pub enough : (one other : Scenario) (s t : State) (step : ℕ) → first_cell s.cells t.cells cell_count ≡ None
-    → apart_in step (next one s).0.cells (next other t).0.cells (targets (link one s)) (targets (link other t)) ≡ apart_after step (next one s).0.cells (next other t).0.cells
+    → apart_in step (next one s).0.cells (next other t).0.cells (targets (link one s)) (targets (link other t))
+    ≡ apart_after step (next one s).0.cells (next other t).0.cells
 enough one other s t step before = elim (cases_Bool (same_cells (next one s).0.cells (next other t).0.cells (targets (link one s)))) [
   | inl here ↦ elim (cases_Bool (same_cells (next one s).0.cells (next other t).0.cells (targets (link other t)))) [
     | inl there ↦ rw (here, there, none_parts one other s t before here there) refl
@@ -151,12 +160,14 @@ alike_first h t c cs alike = rw alike refl
 apart_first : (h t : Cells) (c : ℕ) (cs : List ℕ) → is_apart h t c ≡ true → same_cells h t (c ∷ cs) ≡ false
 apart_first h t c cs apart = rw apart refl
 
-pub same_more : (h t : Cells) (cs : List ℕ) (i c : ℕ) → i < length cs → get_or cs i c ≡ c → is_apart h t c ≡ false → same_cells h t (drop i cs) ≡ same_cells h t (drop (i + 1) cs)
+pub same_more : (h t : Cells) (cs : List ℕ) (i c : ℕ) → i < length cs → get_or cs i c ≡ c → is_apart h t c ≡ false
+    → same_cells h t (drop i cs) ≡ same_cells h t (drop (i + 1) cs)
 same_more h t cs i c within here alike =
     let first : drop i cs ≡ c ∷ drop (i + 1) cs = drop_more cs i c within ∙ ap (λ w. w ∷ drop (i + 1) cs) here in
     rw first (alike_first h t c (drop (i + 1) cs) alike)
 
-pub same_not : (h t : Cells) (cs : List ℕ) (i c : ℕ) → i < length cs → get_or cs i c ≡ c → is_apart h t c ≡ true → same_cells h t (drop i cs) ≡ false
+pub same_not : (h t : Cells) (cs : List ℕ) (i c : ℕ) → i < length cs → get_or cs i c ≡ c → is_apart h t c ≡ true
+    → same_cells h t (drop i cs) ≡ false
 same_not h t cs i c within here apart =
     let first : drop i cs ≡ c ∷ drop (i + 1) cs = drop_more cs i c within ∙ ap (λ w. w ∷ drop (i + 1) cs) here in
     rw first (apart_first h t c (drop (i + 1) cs) apart)

@@ -1,5 +1,6 @@
 -- Two lists of cells, one by one.
-use Rattle.std.proofs.Common.{◌≡◌, ◌≢◌, ℕ, zero, suc, ◌+◌, ◌<◌, ◌≤◌, List, [], ◌∷◌, ◌&&◌, Bool, true, false, drop, length, get_or, refl, sym, ap, ◌∙◌, arith, inl, inr}
+use Rattle.std.proofs.Common.{◌≡◌, ◌≢◌, ℕ, zero, suc, ◌+◌, ◌<◌, ◌≤◌, List, [], ◌∷◌, ◌&&◌, Bool, true, false, drop, length, get_or, refl}
+use Rattle.std.proofs.Common.{sym, ap, ◌∙◌, arith, inl, inr}
 use Rattle.std.proofs.lemmas.Bool.{cases_Bool}
 use Rattle.std.proofs.lemmas.List.{drop_all, drop_more}
 use Rattle.differ.specs.declared.written.Written.{Written}
@@ -22,19 +23,24 @@ heads a b xs ys same = rw same refl
 others : (a b : Written) (xs ys : List Written) → is_equal a b ≡ false → same_written (a ∷ xs) (b ∷ ys) ≡ false
 others a b xs ys differ = rw differ refl
 
-pub same_more : (one other : List Written) (i : ℕ) (a b : Written) → i < length one → length one ≡ length other → get_or one i a ≡ a → get_or other i b ≡ b → is_equal a b ≡ true
+pub same_more : (one other : List Written) (i : ℕ) (a b : Written) → i < length one → length one ≡ length other → get_or one i a ≡ a
+    → get_or other i b ≡ b → is_equal a b ≡ true
     → same_written (drop i one) (drop i other) ≡ same_written (drop (i + 1) one) (drop (i + 1) other)
 same_more one other i a b within long at_one at_other same =
     let first : drop i one ≡ a ∷ drop (i + 1) one = drop_more one i a within ∙ ap (λ w. w ∷ drop (i + 1) one) at_one in
-    let second : drop i other ≡ b ∷ drop (i + 1) other = drop_more other i b (omega (arith, within, long)) ∙ ap (λ w. w ∷ drop (i + 1) other) at_other in
+    let second : drop i other ≡ b ∷ drop (i + 1) other = drop_more other i b (omega (arith, within, long))
+    ∙ ap (λ w. w ∷ drop (i + 1) other) at_other in
     rw (first, second) (heads a b (drop (i + 1) one) (drop (i + 1) other) same)
 
-pub same_not : (one other : List Written) (i : ℕ) (a b : Written) → i < length one → length one ≡ length other → get_or one i a ≡ a → get_or other i b ≡ b → is_equal a b ≡ false
+pub same_not : (one other : List Written) (i : ℕ) (a b : Written) → i < length one → length one ≡ length other → get_or one i a ≡ a
+    → get_or other i b ≡ b → is_equal a b ≡ false
     → same_written (drop i one) (drop i other) ≡ false
 same_not one other i a b within long at_one at_other differ =
     let first : drop i one ≡ a ∷ drop (i + 1) one = drop_more one i a within ∙ ap (λ w. w ∷ drop (i + 1) one) at_one in
-    let second : drop i other ≡ b ∷ drop (i + 1) other = drop_more other i b (omega (arith, within, long)) ∙ ap (λ w. w ∷ drop (i + 1) other) at_other in
+    let second : drop i other ≡ b ∷ drop (i + 1) other = drop_more other i b (omega (arith, within, long))
+    ∙ ap (λ w. w ∷ drop (i + 1) other) at_other in
     rw (first, second) (others a b (drop (i + 1) one) (drop (i + 1) other) differ)
 
-pub same_end : (one other : List Written) (i : ℕ) → length one ≤ i → length one ≡ length other → same_written (drop i one) (drop i other) ≡ true
+pub same_end : (one other : List Written) (i : ℕ) → length one ≤ i → length one ≡ length other
+    → same_written (drop i one) (drop i other) ≡ true
 same_end one other i past long = rw (drop_all i one past, drop_all i other (omega (arith, past, long))) refl

@@ -12,7 +12,8 @@ few_cycles scenario n s is few = rw is (omega (arith, cycles-run scenario n))
 pub fits_after : (scenario now : Scenario) (n : ℕ) (s : State) → now ≡ scenario → s ≡ run scenario n → FitsRun now s
 fits_after scenario now n s same is = rw (same, is) (run-fits scenario n)
 
-pub state_more : (scenario now : Scenario) (n : ℕ) (s t : State) → now ≡ scenario → s ≡ run scenario n → t ≡ (next now s).0 → t ≡ run scenario (n + 1)
+pub state_more : (scenario now : Scenario) (n : ℕ) (s t : State) → now ≡ scenario → s ≡ run scenario n → t ≡ (next now s).0
+    → t ≡ run scenario (n + 1)
 state_more scenario now n s t same is made = rw (run-add-one scenario n) (rw (same, is) at made)
 
 pub run_zero : (scenario : Scenario) (s : State) (n : ℕ) → s ≡ start → n ≡ 0 → s ≡ run scenario n

@@ -1,10 +1,12 @@
 -- Two runs beside each other, turn by turn.
-use Rattle.std.proofs.Common.{◌≡◌, ℕ, zero, suc, ◌+◌, ◌-◌, ◌<◌, ◌≤◌, ◌++◌, ◌∷◌, [], List, Option, Some, None, length, take, append-nil, refl, sym, ap, ◌∙◌, arith, inl, inr, Bool, true, false, if◌then◌else◌, slice_get, remove, unwrap_or}
+use Rattle.std.proofs.Common.{◌≡◌, ℕ, zero, suc, ◌+◌, ◌-◌, ◌<◌, ◌≤◌, ◌++◌, ◌∷◌, [], List, Option, Some, None, length, take, append-nil}
+use Rattle.std.proofs.Common.{refl, sym, ap, ◌∙◌, arith, inl, inr, Bool, true, false, if◌then◌else◌, slice_get, remove, unwrap_or}
 use Rattle.cpu.specs.State.{Scenario}
 use Rattle.differ.specs.declared.side.Window.{Window}
 use Rattle.differ.specs.declared.turn.Turn.{Turn}
 use Rattle.differ.specs.declared.turn.Turn.TheVariants.{Ended, Moves, Parts}
-use Rattle.differ.specs.MainSteps.{MainStep, Side, mains, moved, on, on_by, parting, parts, parts_by, round, same_step, side_from, turn, turn_by}
+use Rattle.differ.specs.MainSteps.{MainStep, Side, mains, moved, on, on_by, parting, parts, parts_by, round, same_step, side_from, turn}
+use Rattle.differ.specs.MainSteps.{turn_by}
 use Rattle.differ.specs.Windows.{AreWithin, IsFull, PartsWithin, side_of}
 use Rattle.differ.proofs.Sides.{mains_none, seen}
 
@@ -36,10 +38,12 @@ turn_seen one other steps v w is other_is =
 
 pub turned : (one other : Scenario) (steps n k : ℕ) (v w : Window) (t : Turn) → k < n → IsFull one steps v → IsFull other steps w
     → t ≡ turn_by v.before.items v.ahead.items w.before.items w.ahead.items
-    → parts (n - k) (side_of one steps v) (side_of other steps w) ≡ parts_by (parts (n - (k + 1))) (side_of one steps v) (side_of other steps w) t
+    → parts (n - k) (side_of one steps v) (side_of other steps w)
+    ≡ parts_by (parts (n - (k + 1))) (side_of one steps v) (side_of other steps w) t
 turned one other steps n k v w t lt is other_is made =
     parts_one n k (side_of one steps v) (side_of other steps w) lt
-    ∙ ap (parts_by (parts (n - (k + 1))) (side_of one steps v) (side_of other steps w)) (turn_seen one other steps v w is other_is ∙ sym made)
+    ∙ ap (parts_by (parts (n - (k + 1))) (side_of one steps v) (side_of other steps w))
+    (turn_seen one other steps v w is other_is ∙ sym made)
 
 parting_within : (n a b k m : ℕ) → a ≤ n → b ≤ n → PartsWithin n (parting a b k m)
 parting_within n a b zero zero first second = (first, second)
@@ -59,18 +63,22 @@ turn_within n before (a ∷ more) past (b ∷ others) first second =
     choice_within n (same_step a b) (parting a.step b.step (round before (a ∷ more)) (round past (b ∷ others)))
     (parting_within n a.step b.step (round before (a ∷ more)) (round past (b ∷ others)) first.0 second.0)
 
-pub parts_within : (n : ℕ) (before xs past ys : List MainStep) (t : Turn) (a b : ℕ) → AreWithin n xs → AreWithin n ys → t ≡ turn_by before xs past ys → t ≡ Parts a b → (a ≤ n) × (b ≤ n)
+pub parts_within : (n : ℕ) (before xs past ys : List MainStep) (t : Turn) (a b : ℕ) → AreWithin n xs → AreWithin n ys
+    → t ≡ turn_by before xs past ys → t ≡ Parts a b → (a ≤ n) × (b ≤ n)
 parts_within n before xs past ys t a b first second made is =
     let within : PartsWithin n t = rw made (turn_within n before xs past ys first second) in
     rw is at within
 
 -- a step on, of what is kept
-pub on_kept : (scenario : Scenario) (steps done : ℕ) (before ahead rest kept : List MainStep) (x : MainStep) → ahead ≡ x ∷ rest → kept ≡ take 4 (x ∷ before)
-    → record { before = kept; rest = rest ++ mains scenario done (steps - done) } ≡ on_by before (ahead ++ mains scenario done (steps - done))
+pub on_kept : (scenario : Scenario) (steps done : ℕ) (before ahead rest kept : List MainStep) (x : MainStep) → ahead ≡ x ∷ rest
+    → kept ≡ take 4 (x ∷ before)
+    → record { before = kept; rest = rest ++ mains scenario done (steps - done) }
+    ≡ on_by before (ahead ++ mains scenario done (steps - done))
 on_kept scenario steps done before ahead rest kept x is made = rw (is, made) refl
 
 -- where none follows, all steps are made
-pub on_ended : (scenario : Scenario) (steps : ℕ) (w : Window) → IsFull scenario steps w → w.ahead.items ≡ [] → side_of scenario steps w ≡ on (side_of scenario steps w)
+pub on_ended : (scenario : Scenario) (steps : ℕ) (w : Window) → IsFull scenario steps w → w.ahead.items ≡ []
+    → side_of scenario steps w ≡ on (side_of scenario steps w)
 on_ended scenario steps w is none =
     let end : w.done ≡ steps = elim is.full [
       | inl four ↦ absurd (omega (arith, four, ap (λ xs. length xs) none))
@@ -91,7 +99,8 @@ none_of (y ∷ ys) at = absurd (grind (arith, at))
 pub within_rest : (n : ℕ) (xs rest : List MainStep) (x : MainStep) → xs ≡ x ∷ rest → AreWithin n xs → AreWithin n rest
 within_rest n xs rest x is known = let all : AreWithin n (x ∷ rest) = rw is at known in all.1
 
-pub start_side : (scenario : Scenario) (steps : ℕ) (w : Window) → w.before.items ≡ [] → w.ahead.items ≡ [] → w.done ≡ 0 → side_of scenario steps w ≡ side_from scenario steps
+pub start_side : (scenario : Scenario) (steps : ℕ) (w : Window) → w.before.items ≡ [] → w.ahead.items ≡ [] → w.done ≡ 0
+    → side_of scenario steps w ≡ side_from scenario steps
 start_side scenario steps w before ahead done =
     let whole : steps - 0 ≡ steps = omega arith in
     rw (before, ahead, done) (ap (λ k. record { before = []; rest = mains scenario 0 k }) whole)

@@ -48,7 +48,8 @@ reading_text c x = if c == accumulator || c == return_address then octal_text 6 
 
 abbrev pub state_line : SymbolTable → CellApart → List ℕ
 state_line symbols a =
-    codes "FIRST STATE " ++ cell_name symbols a.cell ++ codes " " ++ reading_text a.cell a.here ++ codes " WITH " ++ reading_text a.cell a.there ++ codes "\n"
+    codes "FIRST STATE " ++ cell_name symbols a.cell ++ codes " " ++ reading_text a.cell a.here ++ codes " WITH "
+    ++ reading_text a.cell a.there ++ codes "\n"
 
 abbrev pub state_part : Named → Named → ℕ → Option CellApart → List ℕ
 state_part one other n None = none_line (codes "STATE") n

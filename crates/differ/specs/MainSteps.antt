@@ -1,5 +1,6 @@
 -- The first step outside of interrupts that two runs do not have in common.
-use Rattle.std.specs.Prelude.{ℕ, zero, suc, ◌+◌, ◌-◌, ◌*◌, ◌==◌, ◌&&◌, ◌||◌, not, Bool, true, false, List, [], ◌∷◌, ◌++◌, take, slice_get, Option, None, Some, if◌then◌else◌}
+use Rattle.std.specs.Prelude.{ℕ, zero, suc, ◌+◌, ◌-◌, ◌*◌, ◌==◌, ◌&&◌, ◌||◌, not, Bool, true, false, List, [], ◌∷◌, ◌++◌, take, slice_get}
+use Rattle.std.specs.Prelude.{Option, None, Some, if◌then◌else◌}
 use Rattle.std.specs.List.{flat_map}
 use Rattle.space.specs.Cells.{Cells, program_counter}
 use Rattle.space.specs.Places.{same_place}
@@ -68,7 +69,8 @@ same_written (a ∷ more) (b ∷ others) = is_equal a b && same_written more oth
 -- a word that waited, as RESUME leaves it, is taken for one at its place
 abbrev pub same_step : MainStep → MainStep → Bool
 same_step a b =
-    (a.word == b.word && same_flag a.extra b.extra) && ((a.waited || (b.waited || same_place a.place b.place)) && same_written a.written b.written)
+    (a.word == b.word && same_flag a.extra b.extra)
+    && ((a.waited || (b.waited || same_place a.place b.place)) && same_written a.written b.written)
 
 -- ## Rounds of waiting
 -- the four steps before, the last one first, and the steps that follow

@@ -43,7 +43,8 @@ abbrev pub first_apart : ℕ → List Put → List Put → Option OutputsApart
 first_apart number [] [] = None
 first_apart number (a ∷ more) [] = Some (apart_at number (Some a) None)
 first_apart number [] (b ∷ more) = Some (apart_at number None (Some b))
-first_apart number (a ∷ more) (b ∷ others) = if same_put a b then first_apart (number + 1) more others else Some (apart_at number (Some a) (Some b))
+first_apart number (a ∷ more) (b ∷ others) = if same_put a b then first_apart (number + 1) more others else Some
+    (apart_at number (Some a) (Some b))
 
 -- of the first n steps of two runs
 abbrev pub first_output : Scenario → Scenario → ℕ → Option OutputsApart

@@ -36,7 +36,8 @@ apart_after step here there = option_map (cell_apart step here there) (first_cel
 
 -- the same, where one of those is that the steps have written
 abbrev pub apart_in : ℕ → Cells → Cells → List ℕ → List ℕ → Option CellApart
-apart_in step here there cells others = if same_cells here there cells && same_cells here there others then None else apart_after step here there
+apart_in step here there cells others = if same_cells here there cells
+    && same_cells here there others then None else apart_after step here there
 
 -- in k steps that follow the first n
 unfoldable pub apart_from : Scenario → Scenario → ℕ → ℕ → Option CellApart

@@ -1,4 +1,5 @@
--- A run that is gone through: the machine after so many steps, and of those outside of interrupts the four before and up to four that follow.
+-- A run that is gone through: the machine after so many steps, and of those outside of interrupts the four before and up to four that
+-- follow.
 use Rattle.std.specs.Prelude.{◌≡◌, ◌≤◌, ℕ, ◌-◌, ◌++◌, ◌∷◌, [], List, length, ◌⊎◌}
 use Rattle.cpu.specs.Run.{run}
 use Rattle.cpu.specs.State.{Scenario}

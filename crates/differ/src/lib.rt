@@ -1,5 +1,5 @@
-//! Where two runs part: the first word that they put out, the first cell, and the first step outside of interrupts that they do not
-//! have in common.
+//! Where two runs part: the first word that they put out, the first cell, and the first step outside of interrupts that
+//! they do not have in common.
 #![tactic(auto)]
 
 mod main_step;

@@ -13,8 +13,8 @@ use space::{Eras, Linear};
 use std::marker::Model;
 use words::Word;
 
-/// A step outside of interrupts: its number, its place, whether its word waited, the word, whether extracode was in force, and what it
-/// has written.
+/// A step outside of interrupts: its number, its place, whether its word waited, the word, whether extracode was in
+/// force, and what it has written.
 #[derive(Drop)]
 pub(crate) struct MainStep {
     step: u64,
@@ -30,7 +30,14 @@ impl Model for MainStep {
 
     ghost Value = { spec.MainStep };
 
-    ghost view = { λ m. record { step = m.step; place = m.place; waited = m.waited; word = m.word; extra = m.extra; written = m.written.items } };
+    ghost view = { λ m. record {
+      step = m.step;
+      place = m.place;
+      waited = m.waited;
+      word = m.word;
+      extra = m.extra;
+      written = m.written.items;
+    } };
 }
 
 impl Default for MainStep {

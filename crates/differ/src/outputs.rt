@@ -18,7 +18,8 @@ pub(crate) struct Put {
     pub(crate) word: Word,
 }
 
-/// The first words that are not the same: their number, counted from 1, and the steps that put them out, of which one may be missing.
+/// The first words that are not the same: their number, counted from 1, and the steps that put them out, of which one
+/// may be missing.
 #[derive(Clone, Copy)]
 pub(crate) struct OutputsApart {
     pub(crate) number: u64,

@@ -5,7 +5,8 @@ ghost use Rattle.arrayvec.specs.ArrayVec.{array_vec_len};
 ghost use Rattle.std.specs.Option.{option_to_list};
 ghost use Rattle.cpu.specs.Run.{run};
 ghost use Rattle.cpu.specs.State.{Scenario};
-ghost use Rattle.differ.specs.MainSteps.{are_again, first_step, is_again, mains, moved, on, parts, repeats, round, side_from, turn_by, parting};
+ghost use Rattle.differ.specs.MainSteps.{are_again, first_step, is_again, mains, moved, on, parts, repeats, round};
+ghost use Rattle.differ.specs.MainSteps.{side_from, turn_by, parting};
 ghost use Rattle.differ.specs.Windows.{AreWithin, IsFull, PartsWithin, side_of};
 
 use crate::main_step::{MainStep, make_main_step};
@@ -16,8 +17,8 @@ use cpu::{Machine, Processor};
 /// How many steps before and after are kept.
 const KEPT: usize = 4;
 
-/// A run on its way: the machine after so many steps, and of those outside of interrupts the four before, the last one first, and up to
-/// four that follow.
+/// A run on its way: the machine after so many steps, and of those outside of interrupts the four before, the last one
+/// first, and up to four that follow.
 #[derive(Drop)]
 pub(crate) struct Window {
     machine: Machine,
@@ -72,7 +73,8 @@ impl Window {
         ensures scenario { processor.new.scenario ≡ processor.old.scenario }
         ensures once { processor.new.meter + self.old.done ≤ processor.old.meter + self.new.done }
         ensures full { IsFull processor.old.scenario steps self.new }
-        ensures side { side_of processor.old.scenario steps self.new ≡ on (side_of processor.old.scenario steps self.old) }
+        ensures side { side_of processor.old.scenario steps self.new
+            ≡ on (side_of processor.old.scenario steps self.old) }
     {
         match self.ahead.pop_at(0) {
             None => {}
@@ -90,7 +92,8 @@ impl Window {
         ensures scenario { processor.new.scenario ≡ processor.old.scenario }
         ensures once { processor.new.meter + self.old.done ≤ processor.old.meter + self.new.done }
         ensures full { IsFull processor.old.scenario steps self.new }
-        ensures side { side_of processor.old.scenario steps self.new ≡ moved count (side_of processor.old.scenario steps self.old) }
+        ensures side { side_of processor.old.scenario steps self.new
+            ≡ moved count (side_of processor.old.scenario steps self.old) }
     {
         for _ in 0..count {
             self.go_on(processor, steps);
@@ -126,7 +129,8 @@ fn keep_before(before: &mut ArrayVec<MainStep, KEPT>, step: MainStep)
     before.insert(0, step);
 }
 
-/// The first steps outside of interrupts that are not the same, of so many steps of two runs. Each step of a run is made once.
+/// The first steps outside of interrupts that are not the same, of so many steps of two runs. Each step of a run is
+/// made once.
 pub(crate) fn first_step(
     one: &mut Processor,
     other: &mut Processor,

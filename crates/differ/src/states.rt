@@ -26,7 +26,8 @@ pub(crate) struct CellApart {
     pub(crate) there: Wide,
 }
 
-/// The first step, of so many, after which a cell of two runs is not the same, and the first such cell. Each step of a run is made once.
+/// The first step, of so many, after which a cell of two runs is not the same, and the first such cell. Each step of a
+/// run is made once.
 pub(crate) fn first_state(
     one: &mut Processor,
     other: &mut Processor,
@@ -69,7 +70,8 @@ fn step_both(
     ensures other_meter { other.new.meter ≤ other.old.meter + 1 }
     ensures here { here.new ≡ (next one.old.scenario here.old).0 }
     ensures there { there.new ≡ (next other.old.scenario there.old).0 }
-    ensures apart { result ≡ apart_in step here.new.cells there.new.cells (targets (link one.old.scenario here.old)) (targets (link other.old.scenario there.old)) }
+    ensures apart { result ≡ apart_in step here.new.cells there.new.cells (targets (link one.old.scenario here.old))
+        (targets (link other.old.scenario there.old)) }
     ensures step { IfSome result (λ a. a.step ≡ step) }
 {
     let cells = one.targets(here);
@@ -150,7 +152,8 @@ fn is_apart(here: &Machine, there: &Machine, number: u16) -> bool
     }
 }
 
-/// Whether a number is that of a cell: BB and the place that reads as 0 have none, nor have the channels that are L and Q.
+/// Whether a number is that of a cell: BB and the place that reads as 0 have none, nor have the channels that are L and
+/// Q.
 #[tactic(auto, unfolding(space::specs::Cells::is_cell))]
 fn is_cell(number: u16) -> bool
     ensures { result ≡ is_cell number }

@@ -5,7 +5,8 @@ ghost use Rattle.arrayvec.specs.ArrayVec.{array_vec_len};
 ghost use Rattle.words.specs.Devices.{Writes, failures_after};
 ghost use Rattle.cpu.specs.Run.{run};
 ghost use Rattle.cpu.specs.State.{start};
-ghost use Rattle.differ.specs.DifferText.{differ_text, line_of, named, none_line, output_line, output_part, reading_text, state_line, state_part, step_line, step_part};
+ghost use Rattle.differ.specs.DifferText.{differ_text, line_of, named, none_line, output_line, output_part};
+ghost use Rattle.differ.specs.DifferText.{reading_text, state_line, state_part, step_line, step_part};
 ghost use Rattle.differ.specs.MainSteps as mains;
 ghost use Rattle.differ.specs.Outputs as outputs;
 ghost use Rattle.differ.specs.States as states;
@@ -40,7 +41,8 @@ impl NamedRun {
         ensures names { self.new.names ≡ self.old.names }
         ensures scenario { self.new.processor.scenario ≡ self.old.processor.scenario }
         ensures meter { self.new.processor.meter ≤ self.old.processor.meter + (number + 1) }
-        ensures written { W.told ≡ true → Writes (W.written out.old) (W.written out.new) (step_line (named self.old) number) result }
+        ensures written { W.told ≡ true → Writes (W.written out.old) (W.written out.new)
+            (step_line (named self.old) number) result }
         ensures failures { W.failures out.new ≡ failures_after (W.failures out.old) result }
     {
         let mut machine = Machine::start();
@@ -60,7 +62,8 @@ impl NamedRun {
         requires few { IfSome number (λ n. n ≤ 2 ^ 40 - 2) }
         ensures names { self.new.names ≡ self.old.names }
         ensures scenario { self.new.processor.scenario ≡ self.old.processor.scenario }
-        ensures written { W.told ≡ true → Writes (W.written out.old) (W.written out.new) (line_of (named self.old) number) result }
+        ensures written { W.told ≡ true → Writes (W.written out.old) (W.written out.new)
+            (line_of (named self.old) number) result }
         ensures failures { W.failures out.new ≡ failures_after (W.failures out.old) result }
     {
         match number {
@@ -84,8 +87,9 @@ fn go_to(processor: &mut Processor, machine: &mut Machine, steps: u64)
     }
 }
 
-/// Writes where two runs part in so many steps: the first word that they put out, the first cell after a step, and the first step outside
-/// of interrupts that are not the same. Below each stand the lines of the steps, as `trace` has them, of the one run and of the other.
+/// Writes where two runs part in so many steps: the first word that they put out, the first cell after a step, and the
+/// first step outside of interrupts that are not the same. Below each stand the lines of the steps, as `trace` has
+/// them, of the one run and of the other.
 ///
 /// For each of the three each run is made once, up to where it parts, and once more for its line. No memory is taken.
 ///
@@ -98,7 +102,8 @@ pub fn write_differ<W: Write>(
     out: &mut W,
 ) -> Result<(), WriteFailed>
     requires few { steps ≤ 2 ^ 40 - 2 }
-    ensures written { W.told ≡ true → Writes (W.written out.old) (W.written out.new) (differ_text (named one.old) (named other.old) steps) result }
+    ensures written { W.told ≡ true → Writes (W.written out.old) (W.written out.new)
+        (differ_text (named one.old) (named other.old) steps) result }
     ensures failures { W.failures out.new ≡ failures_after (W.failures out.old) result }
 {
     write_output(one, other, steps, out)?;
@@ -119,7 +124,8 @@ fn write_output<W: Write>(
     ensures scenario { one.new.processor.scenario ≡ one.old.processor.scenario }
     ensures other_scenario { other.new.processor.scenario ≡ other.old.processor.scenario }
     ensures written { W.told ≡ true → Writes (W.written out.old) (W.written out.new)
-        (output_part (named one.old) (named other.old) steps (outputs.first_output one.old.processor.scenario other.old.processor.scenario steps)) result }
+        (output_part (named one.old) (named other.old) steps
+        (outputs.first_output one.old.processor.scenario other.old.processor.scenario steps)) result }
     ensures failures { W.failures out.new ≡ failures_after (W.failures out.old) result }
 {
     match first_output(&mut one.processor, &mut other.processor, steps) {
@@ -144,7 +150,8 @@ fn write_state<W: Write>(
     ensures scenario { one.new.processor.scenario ≡ one.old.processor.scenario }
     ensures other_scenario { other.new.processor.scenario ≡ other.old.processor.scenario }
     ensures written { W.told ≡ true → Writes (W.written out.old) (W.written out.new)
-        (state_part (named one.old) (named other.old) steps (states.first_state one.old.processor.scenario other.old.processor.scenario steps)) result }
+        (state_part (named one.old) (named other.old) steps
+        (states.first_state one.old.processor.scenario other.old.processor.scenario steps)) result }
     ensures failures { W.failures out.new ≡ failures_after (W.failures out.old) result }
 {
     match first_state(&mut one.processor, &mut other.processor, steps) {
@@ -166,7 +173,8 @@ fn write_parting<W: Write>(
 ) -> Result<(), WriteFailed>
     requires few { steps ≤ 2 ^ 40 - 2 }
     ensures written { W.told ≡ true → Writes (W.written out.old) (W.written out.new)
-        (step_part (named one.old) (named other.old) steps (mains.first_step one.old.processor.scenario other.old.processor.scenario steps)) result }
+        (step_part (named one.old) (named other.old) steps
+        (mains.first_step one.old.processor.scenario other.old.processor.scenario steps)) result }
     ensures failures { W.failures out.new ≡ failures_after (W.failures out.old) result }
 {
     match first_step(&mut one.processor, &mut other.processor, steps) {

@@ -63,8 +63,8 @@ pub struct Counted {
     pub outputs: u64,
 }
 
-/// Makes these calls of a session over the program of a source, and counts the outputs: those of the reference run up to the
-/// step to which the session has come, however the calls show its earlier steps and search them.
+/// Makes these calls of a session over the program of a source, and counts the outputs: those of the reference run up
+/// to the step to which the session has come, however the calls show its earlier steps and search them.
 pub fn count_outputs<S: Read, F: Read>(
     alloc: Global,
     source: &mut S,
@@ -73,7 +73,9 @@ pub fn count_outputs<S: Read, F: Read>(
 ) -> Result<Counted, WorkshopFault>
     requires allowed { All IsAllowed calls.now }
     requires no_input { All AddsNothing calls.now }
-    ensures { S.told ≡ true → F.told ≡ true → IfOk result (λ c. IsOkAnd (prepared (S.left source.old) (F.left feed.old)) (λ l. c.outputs ≡ length (outs (scenario_of l) c.steps))) }
+    ensures { S.told ≡ true → F.told ≡ true
+        → IfOk result (λ c. IsOkAnd (prepared (S.left source.old) (F.left feed.old))
+        (λ l. c.outputs ≡ length (outs (scenario_of l) c.steps))) }
 {
     let mut observer = OutputCount { count: 0 };
     let is_odd = |machine: &Machine| machine.cycles() % 2 == 1;

@@ -26,8 +26,8 @@ enum Engine {
     Sums,
 }
 
-/// An engine, what it reads from as many readers, and what it writes: the front of its text, the whole text's length, and the
-/// listing beside it.
+/// An engine, what it reads from as many readers, and what it writes: the front of its text, the whole text's length,
+/// and the listing beside it.
 #[derive(Drop)]
 struct Row<'a> {
     engine: Engine,
@@ -269,8 +269,8 @@ fn devices_move_a_byte_a_call(rt: HostRuntime) {
     }
 }
 
-/// Asserts that a writer in trouble is told, and that a beginning of the text stands then: for the first writer nothing of
-/// the listing, for the second one the whole image.
+/// Asserts that a writer in trouble is told, and that a beginning of the text stands then: for the first writer nothing
+/// of the listing, for the second one the whole image.
 fn assert_beginning(rt: &impl Abort, alloc: Global, row: &Row, whole: &Buffer, trouble: Trouble) {
     let text = whole.as_slice();
     for place in 0..text.len() {
@@ -304,7 +304,8 @@ fn writers_in_trouble(rt: HostRuntime) {
     }
 }
 
-/// How many bytes stand once a reader has failed after so many calls: the replies to whole lines of commands, else nothing.
+/// How many bytes stand once a reader has failed after so many calls: the replies to whole lines of commands, else
+/// nothing.
 fn replied(reader: usize, calls: usize) -> usize {
     let mut bytes = 0;
     for (read, written) in WHOLE_LINES {

@@ -53,7 +53,8 @@ impl Observer for Refusals {
     }
 }
 
-/// Asserts that a session over such a keeper is opened, goes on, and takes an input, and that its commands are answered.
+/// Asserts that a session over such a keeper is opened, goes on, and takes an input, and that its commands are
+/// answered.
 fn assert_goes<K: Keeper>(rt: &impl Abort, alloc: Global) -> Result<(), Fail> {
     let (rope, symbols) = assemble(alloc, Language::Standard, FIVE_PLUS_FIVE)?.split();
     let mut feed = b"9 RUPT 1\n".as_slice();

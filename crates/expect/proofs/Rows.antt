@@ -70,7 +70,8 @@ eight_is_no_octal = refl
 
 -- ## Lines
 two_words : claims_of [] (codes "CHANNEL" ∷ codes "010" ∷ codes "12" ∷ codes "34" ∷ codes "THEN" ∷ codes "NOTHING" ∷ []) ≡
-    Ok (Puts (record { channel = 8; before = 0; word = 0o12; within = most_cycles }) ∷ Puts (record { channel = 8; before = 1; word = 0o34; within = most_cycles }) ∷ PutsNoMore 8 2 ∷ [])
+    Ok (Puts (record { channel = 8; before = 0; word = 0o12; within = most_cycles })
+    ∷ Puts (record { channel = 8; before = 1; word = 0o34; within = most_cycles }) ∷ PutsNoMore 8 2 ∷ [])
 unfolding words_at
 two_words = refl
 
@@ -82,22 +83,27 @@ in_time = refl
 nothing_on_it : claims_of [] (codes "CHANNEL" ∷ codes "10" ∷ codes "NOTHING" ∷ []) ≡ Ok (PutsNoMore 8 0 ∷ [])
 nothing_on_it = refl
 
-then_is_no_word : claims_of [] (codes "CHANNEL" ∷ codes "10" ∷ codes "THEN" ∷ codes "NOTHING" ∷ []) ≡ Err (record { field = 2; asked = asked.Put })
+then_is_no_word : claims_of [] (codes "CHANNEL" ∷ codes "10" ∷ codes "THEN" ∷ codes "NOTHING" ∷ [])
+    ≡ Err (record { field = 2; asked = asked.Put })
 unfolding words_at
 then_is_no_word = refl
 
-nothing_is_not_all : claims_of [] (codes "CHANNEL" ∷ codes "10" ∷ codes "12" ∷ codes "THEN" ∷ []) ≡ Err (record { field = 4; asked = asked.Nothing })
+nothing_is_not_all : claims_of [] (codes "CHANNEL" ∷ codes "10" ∷ codes "12" ∷ codes "THEN" ∷ [])
+    ≡ Err (record { field = 4; asked = asked.Nothing })
 unfolding words_at
 nothing_is_not_all = refl
 
-at_the_end : claims_of [] (codes "AT" ∷ codes "END" ∷ codes "A" ∷ codes "=" ∷ codes "5D" ∷ []) ≡ Ok (AtEnd (record { place = 0; relation = Same; word = 5 }) ∷ [])
+at_the_end : claims_of [] (codes "AT" ∷ codes "END" ∷ codes "A" ∷ codes "=" ∷ codes "5D" ∷ [])
+    ≡ Ok (AtEnd (record { place = 0; relation = Same; word = 5 }) ∷ [])
 unfolding registers
 at_the_end = refl
 
-always_less : claims_of [] (codes "ALWAYS" ∷ codes "100" ∷ codes "<" ∷ codes "10D" ∷ []) ≡ Ok (Always (record { place = 0o100; relation = Less; word = 10 }) ∷ [])
+always_less : claims_of [] (codes "ALWAYS" ∷ codes "100" ∷ codes "<" ∷ codes "10D" ∷ [])
+    ≡ Ok (Always (record { place = 0o100; relation = Less; word = 10 }) ∷ [])
 always_less = refl
 
-at_a_place : claims_of [] (codes "AT" ∷ codes "4000" ∷ codes "L" ∷ codes "<>" ∷ codes "0" ∷ []) ≡ Ok (At (Fixed 2 0) (record { place = 1; relation = Other; word = 0 }) ∷ [])
+at_a_place : claims_of [] (codes "AT" ∷ codes "4000" ∷ codes "L" ∷ codes "<>" ∷ codes "0" ∷ [])
+    ≡ Ok (At (Fixed 2 0) (record { place = 1; relation = Other; word = 0 }) ∷ [])
 unfolding registers
 at_a_place = refl
 
@@ -109,23 +115,28 @@ too_much : claims_of [] (codes "NEVER" ∷ codes "A" ∷ codes "=" ∷ codes "5"
 unfolding registers
 too_much = refl
 
-fixed_memory_is_no_cell : claims_of [] (codes "ALWAYS" ∷ codes "4000" ∷ codes "=" ∷ codes "5" ∷ []) ≡ Err (record { field = 1; asked = asked.Cell })
+fixed_memory_is_no_cell : claims_of [] (codes "ALWAYS" ∷ codes "4000" ∷ codes "=" ∷ codes "5" ∷ [])
+    ≡ Err (record { field = 1; asked = asked.Cell })
 fixed_memory_is_no_cell = refl
 
-at_a_place_moved_on : claims_of [] (codes "AT" ∷ codes "4000" ∷ codes "+12" ∷ codes "L" ∷ codes "<>" ∷ codes "0" ∷ []) ≡ Ok (At (Fixed 2 10) (record { place = 1; relation = Other; word = 0 }) ∷ [])
+at_a_place_moved_on : claims_of [] (codes "AT" ∷ codes "4000" ∷ codes "+12" ∷ codes "L" ∷ codes "<>" ∷ codes "0" ∷ [])
+    ≡ Ok (At (Fixed 2 10) (record { place = 1; relation = Other; word = 0 }) ∷ [])
 unfolding registers
 at_a_place_moved_on = refl
 
-a_cell_moved_on : claims_of [] (codes "AT" ∷ codes "END" ∷ codes "100" ∷ codes "+3" ∷ codes "=" ∷ codes "5D" ∷ []) ≡ Ok (AtEnd (record { place = 0o103; relation = Same; word = 5 }) ∷ [])
+a_cell_moved_on : claims_of [] (codes "AT" ∷ codes "END" ∷ codes "100" ∷ codes "+3" ∷ codes "=" ∷ codes "5D" ∷ [])
+    ≡ Ok (AtEnd (record { place = 0o103; relation = Same; word = 5 }) ∷ [])
 a_cell_moved_on = refl
 
-moved_out_of_memory : claims_of [] (codes "NEVER" ∷ codes "3777" ∷ codes "+1" ∷ codes "=" ∷ codes "5" ∷ []) ≡ Err (record { field = 2; asked = asked.Offset })
+moved_out_of_memory : claims_of [] (codes "NEVER" ∷ codes "3777" ∷ codes "+1" ∷ codes "=" ∷ codes "5" ∷ [])
+    ≡ Err (record { field = 2; asked = asked.Offset })
 moved_out_of_memory = refl
 
 called_so_often : claims_of [] (codes "CALLS" ∷ codes "4000" ∷ codes "3" ∷ []) ≡ Ok (Calls (Fixed 2 0) 3 ∷ [])
 called_so_often = refl
 
-called_for_so_long : claims_of [] (codes "CALLS" ∷ codes "4000" ∷ codes "WITHIN" ∷ codes "90" ∷ codes "CYCLES" ∷ []) ≡ Ok (CallsWithin (Fixed 2 0) 90 ∷ [])
+called_for_so_long : claims_of [] (codes "CALLS" ∷ codes "4000" ∷ codes "WITHIN" ∷ codes "90" ∷ codes "CYCLES" ∷ [])
+    ≡ Ok (CallsWithin (Fixed 2 0) 90 ∷ [])
 called_for_so_long = refl
 
 no_number_of_calls : claims_of [] (codes "CALLS" ∷ codes "4000" ∷ codes "often" ∷ []) ≡ Err (record { field = 2; asked = asked.Calls })
@@ -139,35 +150,45 @@ a_carriage_return_within_a_line : before_return (0o101 ∷ 0o15 ∷ 0o102 ∷ []
 a_carriage_return_within_a_line = refl
 
 -- ## Texts
-heading : heading_of (record { line = 2; fields = codes "SOURCE" ∷ codes "a.agc" ∷ [] } ∷ record { line = 3; fields = codes "STEPS" ∷ codes "9" ∷ [] } ∷ []) ≡
+heading : heading_of (record { line = 2; fields = codes "SOURCE" ∷ codes "a.agc" ∷ [] }
+    ∷ record { line = 3; fields = codes "STEPS" ∷ codes "9" ∷ [] } ∷ []) ≡
     Ok (record { source = codes "a.agc"; feed = None; steps = 9; tests = [] })
 heading = refl
 
-steps_first : heading_of (record { line = 2; fields = codes "STEPS" ∷ codes "9" ∷ [] } ∷ []) ≡ Err (record { line = 2; wrong = record { field = 0; asked = asked.Source } })
+steps_first : heading_of (record { line = 2; fields = codes "STEPS" ∷ codes "9" ∷ [] } ∷ [])
+    ≡ Err (record { line = 2; wrong = record { field = 0; asked = asked.Source } })
 steps_first = refl
 
-no_steps : heading_of (record { line = 2; fields = codes "SOURCE" ∷ codes "a.agc" ∷ [] } ∷ []) ≡ Err (record { line = 0; wrong = record { field = 0; asked = asked.Steps } })
+no_steps : heading_of (record { line = 2; fields = codes "SOURCE" ∷ codes "a.agc" ∷ [] } ∷ [])
+    ≡ Err (record { line = 0; wrong = record { field = 0; asked = asked.Steps } })
 no_steps = refl
 
-claim_before_a_test : claims_after [] 0 (record { line = 5; fields = codes "NEVER" ∷ codes "A" ∷ codes "=" ∷ codes "5" ∷ [] } ∷ []) ≡ Err (record { line = 5; wrong = record { field = 0; asked = asked.Test } })
+claim_before_a_test : claims_after [] 0 (record { line = 5; fields = codes "NEVER" ∷ codes "A" ∷ codes "=" ∷ codes "5" ∷ [] } ∷ [])
+    ≡ Err (record { line = 5; wrong = record { field = 0; asked = asked.Test } })
 unfolding claims_after
 claim_before_a_test = refl
 
-second_test : claims_after [] 0 (record { line = 5; fields = codes "TEST" ∷ codes "a" ∷ [] } ∷ record { line = 6; fields = codes "TEST" ∷ codes "b" ∷ [] }
+second_test : claims_after [] 0 (record { line = 5; fields = codes "TEST" ∷ codes "a" ∷ [] }
+    ∷ record { line = 6; fields = codes "TEST" ∷ codes "b" ∷ [] }
     ∷ record { line = 7; fields = codes "NEVER" ∷ codes "A" ∷ codes "=" ∷ codes "5" ∷ [] } ∷ []) ≡
     Ok (in_test 2 7 (Never (record { place = 0; relation = Same; word = 5 })) ∷ [])
 unfolding claims_after registers
 second_test = refl
 
 -- ## Steps: the second word on channel 10 is to be 5, within 20 cycles
-a_word_too_late : (scenario : _) → (s : _) → breaks scenario (Puts (record { channel = 8; before = 1; word = 5; within = 20 })) 1 None s (Some (record { cycles = 21; channel = 8; word = 5 })) ≡ true
+a_word_too_late : (scenario : _) → (s : _) → breaks scenario (Puts (record { channel = 8; before = 1; word = 5; within = 20 })) 1 None s
+    (Some (record { cycles = 21; channel = 8; word = 5 })) ≡ true
 a_word_too_late scenario s = refl
 
-a_word_in_time : (scenario : _) → (s : _) → breaks scenario (Puts (record { channel = 8; before = 1; word = 5; within = 20 })) 1 None s (Some (record { cycles = 20; channel = 8; word = 5 })) ≡ false
+a_word_in_time : (scenario : _) → (s : _) → breaks scenario (Puts (record { channel = 8; before = 1; word = 5; within = 20 })) 1 None s
+    (Some (record { cycles = 20; channel = 8; word = 5 })) ≡ false
 a_word_in_time scenario s = refl
 
-the_first_word_is_another : (scenario : _) → (s : _) → breaks scenario (Puts (record { channel = 8; before = 1; word = 5; within = 20 })) 0 None s (Some (record { cycles = 9; channel = 8; word = 7 })) ≡ false
+the_first_word_is_another : (scenario : _) → (s : _)
+    → breaks scenario (Puts (record { channel = 8; before = 1; word = 5; within = 20 })) 0 None s
+    (Some (record { cycles = 9; channel = 8; word = 7 })) ≡ false
 the_first_word_is_another scenario s = refl
 
-one_word_too_many : (scenario : _) → (s : _) → breaks scenario (PutsNoMore 8 2) 2 None s (Some (record { cycles = 9; channel = 8; word = 7 })) ≡ true
+one_word_too_many : (scenario : _) → (s : _) → breaks scenario (PutsNoMore 8 2) 2 None s
+    (Some (record { cycles = 9; channel = 8; word = 7 })) ≡ true
 one_word_too_many scenario s = refl

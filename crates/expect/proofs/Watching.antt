@@ -1,5 +1,6 @@
 -- Claims that are watched, step by step.
-use Rattle.std.proofs.Common.{◌≡◌, ℕ, zero, suc, ◌+◌, ◌<◌, ◌≤◌, ◌^◌, ◌-◌, List, [], ◌∷◌, ◌++◌, map, take, drop, length, get_or, None, true, false, refl, sym, ap, ◌∙◌, inl, inr, arith, add-one, append-nil, take_all}
+use Rattle.std.proofs.Common.{◌≡◌, ℕ, zero, suc, ◌+◌, ◌<◌, ◌≤◌, ◌^◌, ◌-◌, List, [], ◌∷◌, ◌++◌, map, take, drop, length, get_or, None, true}
+use Rattle.std.proofs.Common.{false, refl, sym, ap, ◌∙◌, inl, inr, arith, add-one, append-nil, take_all}
 use Rattle.std.proofs.lemmas.List.{drop_all, length-map}
 use Rattle.std.specs.List.{All}
 use Rattle.std.proofs.lemmas.Bool.{cases_Bool}
@@ -20,12 +21,15 @@ one_started : (scenario : Scenario) (stated : Stated) → started scenario (run 
 unfolding seen broken call_at
 one_started scenario stated = refl
 
-at_run : (scenario : Scenario) (claims : List Stated) → map (started scenario (run scenario 0)) (map unseen claims) ≡ map (watched scenario 0) claims
+at_run : (scenario : Scenario) (claims : List Stated)
+    → map (started scenario (run scenario 0)) (map unseen claims) ≡ map (watched scenario 0) claims
 at_run scenario [] = refl
 at_run scenario (c ∷ cs) =
-    ap (λ w. w ∷ map (started scenario (run scenario 0)) (map unseen cs)) (one_started scenario c) ∙ ap (λ ws. watched scenario 0 c ∷ ws) (at_run scenario cs)
+    ap (λ w. w ∷ map (started scenario (run scenario 0)) (map unseen cs)) (one_started scenario c)
+    ∙ ap (λ ws. watched scenario 0 c ∷ ws) (at_run scenario cs)
 
-pub all_started : (scenario : Scenario) (s : State) (old new : List Watch) (claims : List Stated) → s ≡ run scenario 0 → old ≡ map unseen claims
+pub all_started : (scenario : Scenario) (s : State) (old new : List Watch) (claims : List Stated) → s ≡ run scenario 0
+    → old ≡ map unseen claims
     → new ≡ map (started scenario s) old → new ≡ map (watched scenario 0) claims
 all_started scenario s old new claims at before made =
     let at_start : new ≡ map (started scenario (run scenario 0)) (map unseen claims) = rw (before, at) at made in
@@ -38,18 +42,25 @@ unfolding seen broken call_at
 more scenario n stated = refl
 
 all_more : (scenario : Scenario) (n : ℕ) (claims : List Stated) →
-    map (noted scenario (run scenario (suc n)) (out scenario (suc n)) (suc n)) (map (watched scenario n) claims) ≡ map (watched scenario (suc n)) claims
+    map (noted scenario (run scenario (suc n)) (out scenario (suc n)) (suc n)) (map (watched scenario n) claims)
+    ≡ map (watched scenario (suc n)) claims
 all_more scenario n [] = refl
 all_more scenario n (c ∷ cs) =
-    ap (λ w. w ∷ map (noted scenario (run scenario (suc n)) (out scenario (suc n)) (suc n)) (map (watched scenario n) cs)) (more scenario n c)
+    ap (λ w. w ∷ map (noted scenario (run scenario (suc n)) (out scenario (suc n)) (suc n)) (map (watched scenario n) cs))
+    (more scenario n c)
     ∙ ap (λ ws. watched scenario (suc n) c ∷ ws) (all_more scenario n cs)
 
-pub watches_more : (scenario now : Scenario) (n : ℕ) (s : State) (old new : List Watch) (claims : List Stated) → now ≡ scenario → s ≡ run scenario n
-    → old ≡ map (watched scenario n) claims → new ≡ map (noted now (next now s).0 (next now s).1 (n + 1)) old → new ≡ map (watched scenario (n + 1)) claims
+pub watches_more : (scenario now : Scenario) (n : ℕ) (s : State) (old new : List Watch) (claims : List Stated) → now ≡ scenario
+    → s ≡ run scenario n
+    → old ≡ map (watched scenario n) claims → new ≡ map (noted now (next now s).0 (next now s).1 (n + 1)) old
+    → new ≡ map (watched scenario (n + 1)) claims
 watches_more scenario now n s old new claims same at before made =
-    let at_n : new ≡ map (noted scenario (next scenario (run scenario n)).0 (next scenario (run scenario n)).1 (n + 1)) (map (watched scenario n) claims) = rw (same, at, before) at made in
-    let by_run : new ≡ map (noted scenario (run scenario (n + 1)) (out scenario (n + 1)) (n + 1)) (map (watched scenario n) claims) = rw (run-add-one scenario n, out-add-one scenario n) at_n in
-    let steps : map (noted scenario (run scenario (n + 1)) (out scenario (n + 1)) (n + 1)) (map (watched scenario n) claims) ≡ map (watched scenario (n + 1)) claims =
+    let at_n : new ≡ map (noted scenario (next scenario (run scenario n)).0 (next scenario (run scenario n)).1 (n + 1))
+    (map (watched scenario n) claims) = rw (same, at, before) at made in
+    let by_run : new ≡ map (noted scenario (run scenario (n + 1)) (out scenario (n + 1)) (n + 1)) (map (watched scenario n) claims) = rw
+    (run-add-one scenario n, out-add-one scenario n) at_n in
+    let steps : map (noted scenario (run scenario (n + 1)) (out scenario (n + 1)) (n + 1)) (map (watched scenario n) claims)
+    ≡ map (watched scenario (n + 1)) claims =
     rw (add-one n) (all_more scenario n claims) in
     by_run ∙ steps
 
@@ -64,7 +75,8 @@ put_back f items given new len same long made =
     ap (take len) whole ∙ take_all len new (omega (arith, is_len))
 
 -- the end
-all_ended : (scenario : Scenario) (n : ℕ) (claims : List Stated) → map (ended (run scenario n) n) (map (watched scenario n) claims) ≡ map (judged scenario n) claims
+all_ended : (scenario : Scenario) (n : ℕ) (claims : List Stated)
+    → map (ended (run scenario n) n) (map (watched scenario n) claims) ≡ map (judged scenario n) claims
 all_ended scenario n [] = refl
 all_ended scenario n (c ∷ cs) = ap (λ ws. judged scenario n c ∷ ws) (all_ended scenario n cs)
 
@@ -94,10 +106,12 @@ all_few scenario n [] few k d lt = absurd (omega (arith, lt))
 all_few scenario n (c ∷ cs) few zero d lt = omega (arith, few, few_seen scenario c.claim n)
 all_few scenario n (c ∷ cs) few (suc k) d lt = all_few scenario n cs few k d (omega (arith, lt))
 
-pub few_watches : (scenario : Scenario) (n : ℕ) (watches : List Watch) (claims : List Stated) → n < 2 ^ 62 → watches ≡ map (watched scenario n) claims → AreFew watches
+pub few_watches : (scenario : Scenario) (n : ℕ) (watches : List Watch) (claims : List Stated) → n < 2 ^ 62
+    → watches ≡ map (watched scenario n) claims → AreFew watches
 few_watches scenario n watches claims few is = rw is (all_few scenario n claims few)
 
-pub state_more : (scenario now : Scenario) (n : ℕ) (s t : State) → now ≡ scenario → s ≡ run scenario n → t ≡ (next now s).0 → t ≡ run scenario (n + 1)
+pub state_more : (scenario now : Scenario) (n : ℕ) (s t : State) → now ≡ scenario → s ≡ run scenario n → t ≡ (next now s).0
+    → t ≡ run scenario (n + 1)
 state_more scenario now n s t same at made = rw (run-add-one scenario n) (rw (same, at) at made)
 
 pub few_cycles : (scenario : Scenario) (n : ℕ) (s : State) → s ≡ run scenario n → n < 2 ^ 40 → s.cycles ≤ 2 ^ 62

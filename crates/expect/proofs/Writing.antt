@@ -13,7 +13,8 @@ pub so_far_start : (old whole : List ℕ) → SoFar old old whole whole
 so_far_start old whole = record { part = []; written = sym (append-nil old); split = refl }
 
 -- a text more
-pub so_far_more : (old new whole left text more then : List ℕ) → SoFar old new whole left → left ≡ text ++ more → then ≡ new ++ text → SoFar old then whole more
+pub so_far_more : (old new whole left text more then : List ℕ) → SoFar old new whole left → left ≡ text ++ more → then ≡ new ++ text
+    → SoFar old then whole more
 so_far_more old new whole left text more then so_far is made = record {
   part = so_far.part ++ text;
   written = append-then old new then so_far.part text so_far.written made;
@@ -29,11 +30,13 @@ so_far_same old new whole left more so_far is = record {
 }
 
 -- a beginning of a text more
-pub so_far_breaks : (old new whole left text more then : List ℕ) → SoFar old new whole left → left ≡ text ++ more → WritesBeginning new then text
+pub so_far_breaks : (old new whole left text more then : List ℕ) → SoFar old new whole left → left ≡ text ++ more
+    → WritesBeginning new then text
     → WritesBeginning old then whole
 so_far_breaks old new whole left text more then so_far is made =
     let here : WritesBeginning old then (so_far.part ++ text) = beginning-after old new then so_far.part text so_far.written made in
-    let all : whole ≡ (so_far.part ++ text) ++ more = so_far.split ∙ ap (λ (t : List ℕ). so_far.part ++ t) is ∙ sym (append_assoc so_far.part text more) in
+    let all : whole ≡ (so_far.part ++ text) ++ more = so_far.split ∙ ap (λ (t : List ℕ). so_far.part ++ t) is
+    ∙ sym (append_assoc so_far.part text more) in
     rw all (beginning-along old then (so_far.part ++ text) ((so_far.part ++ text) ++ more) here (first_begins (so_far.part ++ text) more))
 
 -- all of it

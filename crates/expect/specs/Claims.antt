@@ -1,5 +1,6 @@
 -- What a test claims of a run, and whether the run of some steps bears it out.
-use Rattle.std.specs.Prelude.{ℕ, zero, suc, ◌+◌, ◌-◌, ◌%◌, ◌==◌, ◌&&◌, not, Bool, false, nat_lt, nat_le, int_lt, int_le, Option, Some, None, if◌then◌else◌}
+use Rattle.std.specs.Prelude.{ℕ, zero, suc, ◌+◌, ◌-◌, ◌%◌, ◌==◌, ◌&&◌, not, Bool, false, nat_lt, nat_le, int_lt, int_le, Option, Some, None}
+use Rattle.std.specs.Prelude.{if◌then◌else◌}
 use Rattle.std.specs.Option.{option_or}
 use Rattle.words.specs.Numbers.{correct, value}
 use Rattle.space.specs.Cells.{get, return_address}
@@ -162,7 +163,8 @@ abbrev pub broken_by : Scenario → Claim → ℕ → Option Call → ℕ → St
 broken_by scenario claim seen call step s put =
     if breaks scenario claim seen call s put then Some (failure step s (told_of claim s put)) else None
 
--- what the start tells that breaks a claim of a place, to which the program comes there; the start is no step, so of others it tells nothing
+-- what the start tells that breaks a claim of a place, to which the program comes there; the start is no step, so of others it tells
+-- nothing
 abbrev pub broken_at_start : Scenario → Claim → State → Option Failure
 broken_at_start scenario (At place c) s = broken_by scenario (At place c) 0 None 0 s None
 broken_at_start scenario (Calls place times) s = broken_by scenario (Calls place times) 0 None 0 s None
@@ -172,7 +174,8 @@ broken_at_start scenario _ s = None
 unfoldable pub broken : Scenario → Claim → ℕ → Option Failure
 broken scenario claim zero = broken_at_start scenario claim (run scenario 0)
 broken scenario claim (suc n) =
-    option_or (broken scenario claim n) (broken_by scenario claim (seen scenario claim n) (call_at scenario claim n) (suc n) (run scenario (suc n)) (out scenario (suc n)))
+    option_or (broken scenario claim n) (broken_by scenario claim (seen scenario claim n) (call_at scenario claim n) (suc n)
+    (run scenario (suc n)) (out scenario (suc n)))
 
 -- what the end tells where a claim lacks something still
 abbrev pub lacking : Claim → ℕ → ℕ → State → Option Failure

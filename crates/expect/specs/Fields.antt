@@ -1,5 +1,6 @@
 -- The fields of a text of tests.
-use Rattle.std.specs.Prelude.{ℕ, ◌-◌, ◌==◌, ◌&&◌, nat_lt, nat_le, Bool, List, length, take, drop, slice_index, Option, None, Some, codes, if◌then◌else◌, option_and_then}
+use Rattle.std.specs.Prelude.{ℕ, ◌-◌, ◌==◌, ◌&&◌, nat_lt, nat_le, Bool, List, length, take, drop, slice_index, Option, None, Some, codes}
+use Rattle.std.specs.Prelude.{if◌then◌else◌, option_and_then}
 use Rattle.std.specs.Option.{option_map}
 use Rattle.words.specs.Numbers.{neg}
 use Rattle.agc_text.specs.Digits.{number_of}

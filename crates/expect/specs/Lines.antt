@@ -1,5 +1,6 @@
 -- What a line of a test claims, by its fields; or at which field, from 0 on, what is asked for.
-use Rattle.std.specs.Prelude.{ℕ, ◌+◌, ◌^◌, ◌==◌, ◌&&◌, nat_lt, Bool, List, [], ◌∷◌, Option, None, Some, Result, Ok, Err, codes, if◌then◌else◌}
+use Rattle.std.specs.Prelude.{ℕ, ◌+◌, ◌^◌, ◌==◌, ◌&&◌, nat_lt, Bool, List, [], ◌∷◌, Option, None, Some, Result, Ok, Err, codes}
+use Rattle.std.specs.Prelude.{if◌then◌else◌}
 use Rattle.agc_text.specs.Tables.{same_name}
 use Rattle.symbols.specs.Values.{SymbolTable}
 use Rattle.space.specs.declared.place.Linear.{Linear}
@@ -109,7 +110,8 @@ puts channel within at before None = asks (at + before) asked.Put
 puts channel within at before (Some word) = Ok (Puts (record { channel = channel; before = before; word = word; within = within }))
 
 abbrev pub word_of_line : ℕ → ℕ → ℕ → ℕ → List ℕ → Reading Claim
-word_of_line channel within at before field = if before == most_words then asks (at + before) asked.FewerWords else puts channel within at before (value_in field)
+word_of_line channel within at before field = if before == most_words then asks (at + before) asked.FewerWords else puts channel within at
+    before (value_in field)
 
 -- a word before those after it
 abbrev pub word_then : Reading Claim → Reading (List Claim) → Reading (List Claim)
@@ -136,7 +138,8 @@ some_words_at channel within at (field ∷ more) = words_at channel within at 0 
 -- CYCLES, and words that come within so many of them
 abbrev pub unit_at : ℕ → ℕ → ℕ → List (List ℕ) → Reading (List Claim)
 unit_at channel within at [] = asks at asked.Unit
-unit_at channel within at (field ∷ more) = if same_name field (codes "CYCLES") then some_words_at channel within (at + 1) more else asks at asked.Unit
+unit_at channel within at (field ∷ more) = if same_name field (codes "CYCLES") then some_words_at channel within (at + 1) more else asks at
+    asked.Unit
 
 abbrev pub with_cycles : ℕ → ℕ → Option ℕ → List (List ℕ) → Reading (List Claim)
 with_cycles channel at None more = asks at asked.Cycles

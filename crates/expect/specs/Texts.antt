@@ -1,5 +1,6 @@
 -- A text of tests: what it runs, and what each of its tests claims; or where it is refused.
-use Rattle.std.specs.Prelude.{◌≡◌, ℕ, ◌+◌, ◌-◌, ◌^◌, ◌==◌, nat_le, List, [], ◌∷◌, ◌++◌, map, Option, None, Some, Result, Ok, Err, codes, if◌then◌else◌, ⊤}
+use Rattle.std.specs.Prelude.{◌≡◌, ℕ, ◌+◌, ◌-◌, ◌^◌, ◌==◌, nat_le, List, [], ◌∷◌, ◌++◌, map, Option, None, Some, Result, Ok, Err, codes}
+use Rattle.std.specs.Prelude.{if◌then◌else◌, ⊤}
 use Rattle.agc_text.specs.Fields.{runs, texts}
 use Rattle.agc_text.specs.Lines.{lines}
 use Rattle.agc_text.specs.Tables.{same_name}
@@ -100,7 +101,8 @@ begun n [] more = refused_at n 1 asked.Name
 begun n (word ∷ rest) more = more
 
 -- what a statement claims, where so many tests have begun before it, and those after it
-abbrev pub claims_at : SymbolTable → ℕ → Statement → Option (List (List ℕ)) → (ℕ → Result (List Stated) Refusal) → Result (List Stated) Refusal
+abbrev pub claims_at : SymbolTable → ℕ → Statement → Option (List (List ℕ)) → (ℕ → Result (List Stated) Refusal)
+    → Result (List Stated) Refusal
 claims_at symbols tests s (Some name) more = begun s.line name (more (tests + 1))
 claims_at symbols tests s None more =
     if tests == 0 then refused_at s.line 0 asked.Test

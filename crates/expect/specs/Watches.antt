@@ -35,16 +35,34 @@ noted scenario s put step watch =
 -- the end of n steps
 abbrev pub ended : State → ℕ → Watch → Watch
 ended s n watch =
-    record { stated = watch.stated; seen = watch.seen; call = watch.call; failure = option_or watch.failure (lacking watch.stated.claim watch.seen n s) }
+    record {
+      stated = watch.stated;
+      seen = watch.seen;
+      call = watch.call;
+      failure = option_or watch.failure
+          (lacking watch.stated.claim watch.seen n s);
+    }
 
 -- what is held of a claim after n steps, and at their end
 abbrev pub watched : Scenario → ℕ → Stated → Watch
 watched scenario n stated =
-    record { stated = stated; seen = seen scenario stated.claim n; call = call_at scenario stated.claim n; failure = broken scenario stated.claim n }
+    record {
+      stated = stated;
+      seen = seen scenario stated.claim n;
+      call = call_at scenario stated.claim n;
+      failure = broken scenario
+          stated.claim n;
+    }
 
 abbrev pub judged : Scenario → ℕ → Stated → Watch
 judged scenario n stated =
-    record { stated = stated; seen = seen scenario stated.claim n; call = call_at scenario stated.claim n; failure = fate scenario n stated.claim }
+    record {
+      stated = stated;
+      seen = seen scenario stated.claim n;
+      call = call_at scenario stated.claim n;
+      failure = fate scenario n
+          stated.claim;
+    }
 
 -- what they have counted may grow
 abbrev pub AreFew : List Watch → Type 0

@@ -2,7 +2,8 @@
 
 ghost use Rattle.std.specs.Prelude.{◌≡◌, ◌≤◌};
 ghost use Rattle.agc_text.specs.Fields.{runs, texts};
-ghost use Rattle.expect.specs.Lines.{alone, channel_at, cycles_at, nothing_at, nothing_more, puts_at, some_words_at, unit_at};
+ghost use Rattle.expect.specs.Lines.{alone, channel_at, cycles_at, nothing_at, nothing_more, puts_at, some_words_at};
+ghost use Rattle.expect.specs.Lines.{unit_at};
 ghost use Rattle.expect.specs.Texts.{listed};
 
 use crate::claim::Claim;

@@ -31,12 +31,19 @@ pub struct Expectation<'a> {
     pub tests: &'a [u8],
 }
 
-/// What a text of tests runs: after a line SOURCE, a line FEED or none, and a line STEPS; its tests follow. The first line that is
-/// another is told.
+/// What a text of tests runs: after a line SOURCE, a line FEED or none, and a line STEPS; its tests follow. The first
+/// line that is another is told.
 pub fn expectation_in(text: &[u8]) -> Result<Expectation<'_>, Refusal>
     requires { length text.now ≤ 2 ^ 20 }
     ensures heading { MatchResult result
-        (λ e. heading_of (statements 0 (lines text.now)) ≡ Ok (record { source = e.source.now; feed = option_map (λ f. f.now) e.feed; steps = e.steps; tests = statements e.line (lines e.tests.now) }))
+        (λ e. heading_of (statements 0 (lines text.now))
+        ≡ Ok (record {
+          source = e.source.now;
+          feed = option_map (λ f. f.now) e.feed;
+          steps = e.steps;
+          tests
+              = statements e.line (lines e.tests.now);
+        }))
         (λ refusal. heading_of (statements 0 (lines text.now)) ≡ Err refusal) }
     ensures few { IfOk result (λ e. e.line + length e.tests.now ≤ 2 ^ 20) }
     ensures steps { IfOk result (λ e. e.steps ≤ 2 ^ 40 - 2) }
@@ -54,7 +61,14 @@ pub fn expectation_in(text: &[u8]) -> Result<Expectation<'_>, Refusal>
 fn after_source<'a>(source: &'a [u8], line: u64, text: &'a [u8]) -> Result<Expectation<'a>, Refusal>
     requires { line + length text.now ≤ 2 ^ 20 }
     ensures heading { MatchResult result
-        (λ e. after_source source.now (statements line (lines text.now)) ≡ Ok (record { source = e.source.now; feed = option_map (λ f. f.now) e.feed; steps = e.steps; tests = statements e.line (lines e.tests.now) }))
+        (λ e. after_source source.now (statements line (lines text.now))
+        ≡ Ok (record {
+          source = e.source.now;
+          feed = option_map (λ f. f.now) e.feed;
+          steps = e.steps;
+          tests
+              = statements e.line (lines e.tests.now);
+        }))
         (λ refusal. after_source source.now (statements line (lines text.now)) ≡ Err refusal) }
     ensures few { IfOk result (λ e. e.line + length e.tests.now ≤ 2 ^ 20) }
     ensures steps { IfOk result (λ e. e.steps ≤ 2 ^ 40 - 2) }
@@ -77,8 +91,16 @@ fn after_feed<'a>(
 ) -> Result<Expectation<'a>, Refusal>
     requires { line + length text.now ≤ 2 ^ 20 }
     ensures heading { MatchResult result
-        (λ e. after_feed source.now (option_map (λ f. f.now) feed.entry) (statements line (lines text.now)) ≡ Ok (record { source = e.source.now; feed = option_map (λ f. f.now) e.feed; steps = e.steps; tests = statements e.line (lines e.tests.now) }))
-        (λ refusal. after_feed source.now (option_map (λ f. f.now) feed.entry) (statements line (lines text.now)) ≡ Err refusal) }
+        (λ e. after_feed source.now (option_map (λ f. f.now) feed.entry) (statements line (lines text.now))
+        ≡ Ok (record {
+          source = e.source.now;
+          feed = option_map (λ f. f.now) e.feed;
+          steps = e.steps;
+          tests
+              = statements e.line (lines e.tests.now);
+        }))
+        (λ refusal. after_feed source.now (option_map (λ f. f.now) feed.entry) (statements line (lines text.now))
+        ≡ Err refusal) }
     ensures few { IfOk result (λ e. e.line + length e.tests.now ≤ 2 ^ 20) }
     ensures steps { IfOk result (λ e. e.steps ≤ 2 ^ 40 - 2) }
 {
@@ -96,8 +118,19 @@ fn with_steps<'a>(
 ) -> Result<Expectation<'a>, Refusal>
     requires { next.now.line + length next.now.rest.now ≤ 2 ^ 20 }
     ensures heading { MatchResult result
-        (λ e. after_feed source.now (option_map (λ f. f.now) feed.entry) (record { line = next.now.line; fields = texts (runs next.now.fields.now) } ∷ statements next.now.line (lines next.now.rest.now)) ≡ Ok (record { source = e.source.now; feed = option_map (λ f. f.now) e.feed; steps = e.steps; tests = statements e.line (lines e.tests.now) }))
-        (λ refusal. after_feed source.now (option_map (λ f. f.now) feed.entry) (record { line = next.now.line; fields = texts (runs next.now.fields.now) } ∷ statements next.now.line (lines next.now.rest.now)) ≡ Err refusal) }
+        (λ e. after_feed source.now (option_map (λ f. f.now) feed.entry)
+        (record { line = next.now.line; fields = texts (runs next.now.fields.now) }
+        ∷ statements next.now.line (lines next.now.rest.now))
+        ≡ Ok (record {
+          source = e.source.now;
+          feed = option_map (λ f. f.now) e.feed;
+          steps = e.steps;
+          tests
+              = statements e.line (lines e.tests.now);
+        }))
+        (λ refusal. after_feed source.now (option_map (λ f. f.now) feed.entry)
+        (record { line = next.now.line; fields = texts (runs next.now.fields.now) }
+        ∷ statements next.now.line (lines next.now.rest.now)) ≡ Err refusal) }
     ensures few { IfOk result (λ e. e.line + length e.tests.now ≤ 2 ^ 20) }
     ensures steps { IfOk result (λ e. e.steps ≤ 2 ^ 40 - 2) }
 {

@@ -12,8 +12,8 @@ use crate::watch::Watch;
 use cpu::{Machine, Output, Processor, make_step};
 use std::alloc::{AllocError, Global};
 
-/// Makes some steps of a run from its start, each once, and tells of each claim whether they bear it out, and if not where it
-/// fails first.
+/// Makes some steps of a run from its start, each once, and tells of each claim whether they bear it out, and if not
+/// where it fails first.
 ///
 /// Memory is taken once, before the first step; where it is refused no step is made.
 pub fn judge(
@@ -78,7 +78,8 @@ fn step_and_note(processor: &mut Processor, machine: &mut Machine, watches: &mut
     requires few { AreFew watches.old }
     ensures scenario { processor.new.scenario ≡ processor.old.scenario }
     ensures state { machine.new ≡ (next processor.old.scenario machine.old).0 }
-    ensures watches { watches.new ≡ map (noted processor.old.scenario (next processor.old.scenario machine.old).0 (next processor.old.scenario machine.old).1 step) watches.old }
+    ensures watches { watches.new ≡ map (noted processor.old.scenario (next processor.old.scenario machine.old).0
+        (next processor.old.scenario machine.old).1 step) watches.old }
     ensures meter { processor.new.meter ≤ processor.old.meter + 1 }
 {
     let put = make_step(processor, machine);

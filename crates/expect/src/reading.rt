@@ -29,8 +29,8 @@ struct Place {
     line: u64,
 }
 
-/// What the tests of a text claim, before which so many lines stand, where the symbols of a program stand. The first line that is
-/// refused is told, or that memory ran out.
+/// What the tests of a text claim, before which so many lines stand, where the symbols of a program stand. The first
+/// line that is refused is told, or that memory ran out.
 pub fn claims_in(
     alloc: Global,
     symbols: &Symbols,
@@ -38,7 +38,8 @@ pub fn claims_in(
     text: &[u8],
 ) -> Result<Vec<Stated>, ExpectFault>
     requires { before + length text.now ≤ 2 ^ 20 }
-    ensures claims { IfOk result (λ claims. claims_after symbols.now 0 (statements before (lines text.now)) ≡ Ok claims.items) }
+    ensures claims { IfOk result (λ claims. claims_after symbols.now 0 (statements before (lines text.now))
+        ≡ Ok claims.items) }
     ensures fault { IfErr result (Refuses (claims_after symbols.now 0 (statements before (lines text.now)))) }
 {
     let mut claims = Vec::new(alloc);
@@ -63,11 +64,13 @@ fn take_statement(
 ) -> Result<u64, ExpectFault>
     requires { place.test ≤ 2 ^ 20 }
     ensures taken { IfOk result (λ tests. (more : List Spoken) →
-        and_lines claims.old.items (claims_after symbols.now place.test (record { line = place.line; fields = texts (runs fields.now) } ∷ more))
+        and_lines claims.old.items (claims_after symbols.now place.test
+        (record { line = place.line; fields = texts (runs fields.now) } ∷ more))
         ≡ and_lines claims.new.items (claims_after symbols.now tests more)) }
     ensures one { IfOk result (λ tests. tests ≤ place.test + 1) }
     ensures fault { IfErr result (λ fault. (more : List Spoken) →
-        Refuses (and_lines claims.old.items (claims_after symbols.now place.test (record { line = place.line; fields = texts (runs fields.now) } ∷ more))) fault) }
+        Refuses (and_lines claims.old.items (claims_after symbols.now place.test
+        (record { line = place.line; fields = texts (runs fields.now) } ∷ more))) fault) }
 {
     match name_of(fields) {
         Some(name) => {
@@ -107,7 +110,8 @@ fn add_line(
     place: Place,
     fields: &[u8],
 ) -> Result<(), ExpectFault>
-    ensures { Adds (claims_of symbols.now (texts (runs fields.now))) place.test place.line claims.old.items claims.new.items result }
+    ensures { Adds (claims_of symbols.now (texts (runs fields.now))) place.test place.line claims.old.items
+        claims.new.items result }
 {
     match line_of(symbols, fields) {
         Ok(Line::One(claim)) => add(claims, place, claim),
@@ -118,7 +122,8 @@ fn add_line(
 
 /// Adds a claim.
 fn add(claims: &mut Vec<Stated>, place: Place, claim: Claim) -> Result<(), ExpectFault>
-    ensures ok { OnOk result (claims.new.items ≡ claims.old.items ++ record { test = place.test; line = place.line; claim = claim } ∷ []) }
+    ensures ok { OnOk result (claims.new.items
+        ≡ claims.old.items ++ record { test = place.test; line = place.line; claim = claim } ∷ []) }
     ensures fault { IfErr result (λ e. e ≡ ExpectFault.NoMemory) }
 {
     let stated = Stated {
@@ -141,7 +146,8 @@ fn add_words(
     fields: &[u8],
 ) -> Result<(), ExpectFault>
     requires { before ≤ 1000 }
-    ensures { Adds (words_at words.now.channel words.now.within words.now.at before (texts (runs fields.now))) place.test place.line claims.old.items claims.new.items result }
+    ensures { Adds (words_at words.now.channel words.now.within words.now.at before (texts (runs fields.now)))
+        place.test place.line claims.old.items claims.new.items result }
 {
     let Some((field, rest)) = split_field(fields) else {
         return Ok(());

@@ -23,7 +23,8 @@ pub(crate) fn next_statement(text: &[u8], before: u64) -> Option<Statement<'_>>
     requires { before + length text.now ≤ 2 ^ 32 }
     ensures statements { MatchOption result
         (statements before (lines text.now) ≡ [])
-        (λ s. statements before (lines text.now) ≡ record { line = s.line; fields = texts (runs s.fields.now) } ∷ statements s.line (lines s.rest.now)) }
+        (λ s. statements before (lines text.now)
+        ≡ record { line = s.line; fields = texts (runs s.fields.now) } ∷ statements s.line (lines s.rest.now)) }
     ensures shorter { IfSome result (λ s. s.line + length s.rest.now ≤ before + length text.now) }
     ensures later { IfSome result (λ s. before < s.line) }
     ensures less { IfSome result (λ s. length s.rest.now < length text.now) }

@@ -6,7 +6,10 @@ ghost use Rattle.agc_text.specs.Lines.{lines};
 ghost use Rattle.arrayvec.specs.ArrayVec.{array_vec_len};
 ghost use Rattle.words.specs.Devices.{Writes, failures_after};
 ghost use Rattle.expect.specs.Statements.{statements};
-ghost use Rattle.expect.specs.Verdicts.{are_all_met, came_text, condition_text, failed_of, failed_text, failure_text, first_failing, is_that, name_text, relation_text, signed_text, sought_text, verdict_line, verdict_word, verdicts, wanted_text, where_text, word_came_text, word_text};
+ghost use Rattle.expect.specs.Verdicts.{are_all_met, came_text, condition_text, failed_of, failed_text, failure_text};
+ghost use Rattle.expect.specs.Verdicts.{first_failing, is_that, name_text, relation_text, signed_text, sought_text};
+ghost use Rattle.expect.specs.Verdicts.{verdict_line, verdict_word, verdicts, wanted_text, where_text, word_came_text};
+ghost use Rattle.expect.specs.Verdicts.{word_text};
 
 use crate::claim::{Claim, Condition, Relation, Sought};
 use crate::reading::name_of;
@@ -24,8 +27,8 @@ const SIGN: u16 = 0o40000;
 
 type FailureText = ArrayVec<u8, FAILURE>;
 
-/// Writes a line for each test of a text, before which so many lines stand: whether its claims are met, and if not which line fails
-/// first, at which step, after how many cycles, and what came.
+/// Writes a line for each test of a text, before which so many lines stand: whether its claims are met, and if not
+/// which line fails first, at which step, after how many cycles, and what came.
 ///
 /// After a failure a beginning of it was written.
 pub fn write_verdicts<W: Write>(
@@ -35,7 +38,8 @@ pub fn write_verdicts<W: Write>(
     out: &mut W,
 ) -> Result<(), WriteFailed>
     requires { before + length text.now ≤ 2 ^ 20 }
-    ensures written { W.told ≡ true → Writes (W.written out.old) (W.written out.new) (verdicts 0 watches.now (statements before (lines text.now))) result }
+    ensures written { W.told ≡ true → Writes (W.written out.old) (W.written out.new)
+        (verdicts 0 watches.now (statements before (lines text.now))) result }
     ensures failures { W.failures out.new ≡ failures_after (W.failures out.old) result }
 {
     let mut rest = text;
@@ -94,7 +98,8 @@ fn write_verdict<W: Write>(
     failed: &Option<(Watch, Failure)>,
     out: &mut W,
 ) -> Result<(), WriteFailed>
-    ensures written { W.told ≡ true → Writes (W.written out.old) (W.written out.new) (verdict_line (texts (runs name.now)) failed.now) result }
+    ensures written { W.told ≡ true → Writes (W.written out.old) (W.written out.new)
+        (verdict_line (texts (runs name.now)) failed.now) result }
     ensures failures { W.failures out.new ≡ failures_after (W.failures out.old) result }
 {
     write_all(out, verdict_word(failed))?;
@@ -114,7 +119,8 @@ fn verdict_word(failed: &Option<(Watch, Failure)>) -> &'static [u8]
 
 /// Writes a name, with one blank before each of its fields.
 fn write_name<W: Write>(name: &[u8], out: &mut W) -> Result<(), WriteFailed>
-    ensures written { W.told ≡ true → Writes (W.written out.old) (W.written out.new) (name_text (texts (runs name.now))) result }
+    ensures written { W.told ≡ true → Writes (W.written out.old) (W.written out.new) (name_text (texts (runs name.now)))
+        result }
     ensures failures { W.failures out.new ≡ failures_after (W.failures out.old) result }
 {
     let mut rest = name;
@@ -134,7 +140,8 @@ fn write_field<W: Write>(field: &[u8], out: &mut W) -> Result<(), WriteFailed>
     write_all(out, field)
 }
 
-/// What is told of a failure: its line, its step, the cycles after it, what came, and what is wanted; the end of the line in any case.
+/// What is told of a failure: its line, its step, the cycles after it, what came, and what is wanted; the end of the
+/// line in any case.
 fn failure_text(failed: &Option<(Watch, Failure)>) -> FailureText
     ensures { result.items ≡ failure_text failed.now }
 {
@@ -202,7 +209,8 @@ fn push_times(text: &mut FailureText, seen: u64)
 /// Appends that a routine is called for longer, or not at all.
 fn push_long(text: &mut FailureText, seen: u64)
     requires { array_vec_len text.old ≤ 90 }
-    ensures items { text.new.items ≡ text.old.items ++ (if seen == 0 then codes "it is not called" else codes "a call takes longer") }
+    ensures items { text.new.items ≡ text.old.items
+        ++ (if seen == 0 then codes "it is not called" else codes "a call takes longer") }
     ensures len { array_vec_len text.new ≤ array_vec_len text.old + 40 }
 {
     if seen == 0 {

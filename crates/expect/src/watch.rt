@@ -2,7 +2,8 @@
 
 ghost use Rattle.std.specs.Prelude.{◌≡◌, ◌+◌, ◌-◌, ◌%◌, ◌≤◌, ◌^◌};
 ghost use Rattle.cpu.specs.State.{FitsRun};
-ghost use Rattle.expect.specs.Claims.{begun, breaks, broken_at_start, called, counts, is_at, is_long, is_on, is_sought, lacks, on_call, resumed_place, told_at_end, told_of, word_of};
+ghost use Rattle.expect.specs.Claims.{begun, breaks, broken_at_start, called, counts, is_at, is_long, is_on, is_sought};
+ghost use Rattle.expect.specs.Claims.{lacks, on_call, resumed_place, told_at_end, told_of, word_of};
 ghost use Rattle.expect.specs.Watches.{ended, noted, started, unseen};
 
 use crate::claim::{Claim, Sought, Stated};

@@ -39,7 +39,14 @@ slips =
     ∷ (codes "5 KEYRUPT1", (1, codes "~ is no counter, and neither CHAN nor RUPT", []))
     ∷ (codes "5 time1 pinc", (1, codes "~ is no counter, and neither CHAN nor RUPT", codes "did you mean !?"))
     ∷ (codes "5", (0, codes "nothing follows ~", codes "CHAN with a channel and a word, RUPT with a number, or a counter with a sequence"))
-    ∷ (codes "5 TIME1", (1, codes "nothing follows ~", codes "CHAN with a channel and a word, RUPT with a number, or a counter with a sequence"))
+    ∷ (
+      codes "5 TIME1",
+      (
+        1,
+        codes "nothing follows ~",
+        codes "CHAN with a channel and a word, RUPT with a number, or a counter with a sequence",
+      ),
+    )
     ∷ (codes "5 TIME1 PINC 1", (3, codes "~ follows the whole input", codes "a comment begins with #"))
     ∷ (codes "5 TIME1 PNC", (2, codes "~ is no sequence", codes "! takes PINC"))
     ∷ (codes "0 CHAN 1 5", (2, codes "~ is no channel of inputs, which are 0 and 3 to 777 in octal", []))
@@ -49,11 +56,32 @@ slips =
     ∷ (codes "5 CHAN 15 100000", (3, codes "~ is no word, which is 0 to 77777 in octal", []))
     ∷ (codes "5 CHAN 15 21 3", (4, codes "~ follows the whole input", codes "a comment begins with #"))
     ∷ (codes "0 RUPT 11", (2, codes "~ is no interrupt, which are 1 to 10", []))
-    ∷ (codes "EVERY 0 853 5 TIME1 PINC", (4, codes "a number is missing before ~", codes "EVERY FIRST NUM DEN COUNT, and an input without its cycle"))
+    ∷ (
+      codes "EVERY 0 853 5 TIME1 PINC",
+      (
+        4,
+        codes "a number is missing before ~",
+        codes "EVERY FIRST NUM DEN COUNT, and an input without its cycle",
+      ),
+    )
     ∷ (codes "EVERY 0 0 1 5 TIME1 PINC", (2, codes "NUM, DEN and COUNT are 1 or more", []))
     ∷ (codes "EVERY 0 1000000000 1 5 TIME1 PINC", (2, codes "NUM, DEN and COUNT have 9 digits at most", []))
-    ∷ (codes "EVERY 0 853 1 5 0 TIME1 PINC", (5, codes "~ stands where CHAN, RUPT or a counter does", codes "one cycle stands before an input, and none before that of a series"))
-    ∷ (codes "EVERY 0 853 1 5 CHAN 15", (6, codes "nothing follows ~", codes "CHAN with a channel and a word, RUPT with a number, or a counter with a sequence"))
+    ∷ (
+      codes "EVERY 0 853 1 5 0 TIME1 PINC",
+      (
+        5,
+        codes "~ stands where CHAN, RUPT or a counter does",
+        codes "one cycle stands before an input, and none before that of a series",
+      ),
+    )
+    ∷ (
+      codes "EVERY 0 853 1 5 CHAN 15",
+      (
+        6,
+        codes "nothing follows ~",
+        codes "CHAN with a channel and a word, RUPT with a number, or a counter with a sequence",
+      ),
+    )
     ∷ (codes "0 TIME6 PINC", (2, codes "the counter does not take ~", codes "! takes DINC"))
     ∷ []
 
@@ -65,22 +93,38 @@ each_told = refl
 abbrev reports : List (List ℕ × List ℕ)
 reports =
     (codes "5 TIME1 PINC;5 RUPT 1", [])
-    ∷ (codes "# keys;9 TIME1 PINC;4 RUPT 1;3 RUPT 1", codes "f:3:1: error E31: the cycle is below that of the input before it, on line 2;    3 | 4 RUPT 1;      | ^;      = inputs stand in the order of their cycles, and EVERY anywhere;")
-    ∷ (codes " 0 CDUX PINC # one", codes "f:1:9: error E33: the counter does not take PINC;    1 |  0 CDUX PINC # one;      |         ^^^^;      = CDUX takes PCDU and MCDU;")
-    ∷ (codes "START CA FIVE", codes "f:1:1: error E30: START is no cycle, which is 1 to 15 decimal digits;    1 | START CA FIVE;      | ^^^^^;f: this is a source, and no feed: it stands first;")
+    ∷ (
+      codes "# keys;9 TIME1 PINC;4 RUPT 1;3 RUPT 1",
+      (codes "f:3:1: error E31: the cycle is below that of the input before it, on line 2;    3 | 4 RUPT 1;      | ^;      = inputs "
+          ++ codes "stand in the order of their cycles, and EVERY anywhere;"),
+    )
+    ∷ (
+      codes " 0 CDUX PINC # one",
+      (codes "f:1:9: error E33: the counter does not take PINC;    1 |  0 CDUX PINC # one;      |         ^^^^;      = CDUX takes PCDU "
+          ++ codes "and MCDU;"),
+    )
+    ∷ (
+      codes "START CA FIVE",
+      (codes "f:1:1: error E30: START is no cycle, which is 1 to 15 decimal digits;    1 | START CA FIVE;      | ^^^^^;f: this is a "
+          ++ codes "source, and no feed: it stands first;"),
+    )
     ∷ []
 
 each_reported : map {B = List ℕ} (λ r. feed_report Text (codes "f") (text_of r.0)) reports ≡ map {B = List ℕ} (λ r. text_of r.1) reports
-unfolding feed_report kind_of_feed wrong_at inputs first_fault plain_from series_from statement_of parsed counters sequences runs lines digits operators roles
+unfolding feed_report kind_of_feed wrong_at inputs first_fault plain_from series_from statement_of parsed counters sequences runs lines
+    digits operators roles
 each_reported = refl
 
 -- an input, or the beginning of a series, makes a feed of a file; lines without a field do not count
-not_sources : map {B = List ℕ} (λ t. kind_of_source Text (codes "s") (text_of t)) (codes "# keys;;5 TIME1 PINC" ∷ codes "EVERY 5 0" ∷ codes " OCT 1;5 TIME1 PINC" ∷ [])
-    ≡ codes "s: this is a feed, and no source: it stands after the source\n" ∷ codes "s: this is a feed, and no source: it stands after the source\n" ∷ [] ∷ []
+not_sources : map {B = List ℕ} (λ t. kind_of_source Text (codes "s") (text_of t))
+    (codes "# keys;;5 TIME1 PINC" ∷ codes "EVERY 5 0" ∷ codes " OCT 1;5 TIME1 PINC" ∷ [])
+    ≡ codes "s: this is a feed, and no source: it stands after the source\n"
+    ∷ codes "s: this is a feed, and no source: it stands after the source\n" ∷ [] ∷ []
 unfolding kind_of_source parsed counters sequences runs lines
 not_sources = refl
 
 -- the third line with an input
-third : line_of_input 2 1 (codes "5 TIME1 PINC" ∷ codes "" ∷ codes "EVERY 0 853 1 5 TIME1 PINC" ∷ codes "5 RUPT 1" ∷ codes "5 RUPT 2" ∷ codes "5 RUPT 3" ∷ []) ≡ 5
+third : line_of_input 2 1 (codes "5 TIME1 PINC" ∷ codes "" ∷ codes "EVERY 0 853 1 5 TIME1 PINC" ∷ codes "5 RUPT 1" ∷ codes "5 RUPT 2"
+    ∷ codes "5 RUPT 3" ∷ []) ≡ 5
 unfolding parsed counters sequences runs
 third = refl

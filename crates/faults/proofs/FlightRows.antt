@@ -14,7 +14,8 @@ use Rattle.yayul.specs.Layout.{line_effect}
 use Rattle.yayul.specs.Operators.{operators}
 use Rattle.yayul.specs.Roles.{flight_roles, roles}
 use Rattle.yayul.specs.declared.faults.FaultKind.{FaultKind}
-use Rattle.yayul.specs.declared.faults.FaultKind.TheVariants.{BadLabel, BadOperand, LongLine, OutOfRange, TooManyLines, TwiceDefined, Undefined, UnknownOperator, UsedTooEarly, WrongKindOfAddress}
+use Rattle.yayul.specs.declared.faults.FaultKind.TheVariants.{BadLabel, BadOperand, LongLine, OutOfRange, TooManyLines, TwiceDefined}
+use Rattle.yayul.specs.declared.faults.FaultKind.TheVariants.{Undefined, UnknownOperator, UsedTooEarly, WrongKindOfAddress}
 use Rattle.yayul.specs.declared.finding.Finding.{Finding}
 use Rattle.yayul.specs.declared.language.Language.{Language}
 use Rattle.yayul.specs.declared.language.Language.TheVariants.{Flight, Standard}
@@ -47,36 +48,61 @@ row f = (f.line, f.kind)
 -- the faults that are told of a source of some lines
 abbrev told_faults : Language → List (List ℕ) → List Finding → List Finding
 told_faults language texts faults =
-    take (count_before_first language texts faults) faults ++ first_and_others texts (drop (count_before_first language texts faults) faults)
+    take (count_before_first language texts faults) faults
+    ++ first_and_others texts (drop (count_before_first language texts faults) faults)
 
 -- sources with some faults, and those that are told
 abbrev told_rows : List (List ℕ × List (ℕ × FaultKind) × List (ℕ × FaultKind))
 told_rows =
     (codes " CALL; FOO", (1, UnknownOperator) ∷ (2, UnknownOperator) ∷ [], (1, UnknownOperator) ∷ [])
-    ∷ (codes " STOVL RN;; # one; FOO +2D;X DOT;X VSL4 EXIT; VN", (1, UnknownOperator) ∷ (4, UnknownOperator) ∷ (5, TwiceDefined) ∷ (5, UnknownOperator) ∷ (6, UnknownOperator) ∷ (7, UnknownOperator) ∷ [], (1, UnknownOperator) ∷ (5, TwiceDefined) ∷ [])
+    ∷ (
+      codes " STOVL RN;; # one; FOO +2D;X DOT;X VSL4 EXIT; VN",
+      (1, UnknownOperator) ∷ (4, UnknownOperator) ∷ (5, TwiceDefined)
+          ∷ (5, UnknownOperator) ∷ (6, UnknownOperator) ∷ (7, UnknownOperator) ∷ [],
+      (1, UnknownOperator) ∷ (5, TwiceDefined) ∷ [],
+    )
     ∷ (codes " DLOAD; TC X; FOO", (1, UnknownOperator) ∷ (3, UnknownOperator) ∷ [], (1, UnknownOperator) ∷ (3, UnknownOperator) ∷ [])
     ∷ (codes " EXIT; RETRUN", (1, UnknownOperator) ∷ (2, UnknownOperator) ∷ [], (1, UnknownOperator) ∷ (2, UnknownOperator) ∷ [])
-    ∷ (codes " CALL;X FOO; CALL; FOO BAR; CALL; FOO +1 +1", (1, UnknownOperator) ∷ (2, UnknownOperator) ∷ (3, UnknownOperator) ∷ (4, UnknownOperator) ∷ (5, UnknownOperator) ∷ (6, UnknownOperator) ∷ [], (1, UnknownOperator) ∷ (2, UnknownOperator) ∷ (4, UnknownOperator) ∷ (6, UnknownOperator) ∷ [])
-    ∷ (codes " FROB;+3 STORE X;STORE X;  STORE", (1, UnknownOperator) ∷ (2, UnknownOperator) ∷ (3, UnknownOperator) ∷ (4, LongLine) ∷ [], (1, UnknownOperator) ∷ (2, UnknownOperator) ∷ (3, UnknownOperator) ∷ (4, LongLine) ∷ [])
+    ∷ (
+      codes " CALL;X FOO; CALL; FOO BAR; CALL; FOO +1 +1",
+      (1, UnknownOperator) ∷ (2, UnknownOperator) ∷ (3, UnknownOperator)
+          ∷ (4, UnknownOperator) ∷ (5, UnknownOperator) ∷ (6, UnknownOperator) ∷ [],
+      (1, UnknownOperator) ∷ (2, UnknownOperator)
+          ∷ (4, UnknownOperator) ∷ (6, UnknownOperator) ∷ [],
+    )
+    ∷ (
+      codes " FROB;+3 STORE X;STORE X;  STORE",
+      (1, UnknownOperator) ∷ (2, UnknownOperator) ∷ (3, UnknownOperator) ∷ (4, LongLine)
+          ∷ [],
+      (1, UnknownOperator) ∷ (2, UnknownOperator) ∷ (3, UnknownOperator) ∷ (4, LongLine) ∷ [],
+    )
     ∷ []
 
-each_told : map {B = List (ℕ × FaultKind)} (λ r. map row (told_faults Flight (lines (source r.0)) (map fault r.1))) told_rows ≡ map {B = List (ℕ × FaultKind)} (λ r. r.2) told_rows
+each_told : map {B = List (ℕ × FaultKind)} (λ r. map row (told_faults Flight (lines (source r.0)) (map fault r.1))) told_rows
+    ≡ map {B = List (ℕ × FaultKind)} (λ r. r.2) told_rows
 unfolding lines runs
 each_told = refl
 
 -- of a source of the standard language each fault is told
-all_told : map row (told_faults Standard (lines (source (codes " CALL; CALL"))) (fault (1, UnknownOperator) ∷ fault (2, UnknownOperator) ∷ [])) ≡ (1, UnknownOperator) ∷ (2, UnknownOperator) ∷ []
+all_told : map row (told_faults Standard (lines (source (codes " CALL; CALL")))
+    (fault (1, UnknownOperator) ∷ fault (2, UnknownOperator) ∷ [])) ≡ (1, UnknownOperator) ∷ (2, UnknownOperator) ∷ []
 unfolding lines runs
 all_told = refl
 
 -- the first is told in its place, and how many there are
-reported : report Text Flight (codes "a") (source (codes " FROB;+3 CALL; FOO; CA X; CALL")) (map fault ((1, UnknownOperator) ∷ (2, UnknownOperator) ∷ (3, UnknownOperator) ∷ (4, Undefined) ∷ (5, UnknownOperator) ∷ [])) (warned (2, 2) ∷ warned (3, 3) ∷ [])
+reported : report Text Flight (codes "a") (source (codes " FROB;+3 CALL; FOO; CA X; CALL"))
+    (map fault ((1, UnknownOperator) ∷ (2, UnknownOperator) ∷ (3, UnknownOperator) ∷ (4, Undefined) ∷ (5, UnknownOperator) ∷ []))
+    (warned (2, 2) ∷ warned (3, 3) ∷ [])
     ≡ source (codes "a:1:2: error E15: FROB is no operator;    1 |  FROB;      |  ^^;"
     ++ codes "a:2:2: error E15: the interpretive language is not taken: 3 lines from this one on;    2 | +3 CALL;      |  ^^;"
-    ++ codes "a:2:2: warning W2: an operand is an address:  is the register or the counter at place , and not the number;    2 | +3 CALL;      |  ^^;      = the number has a line of its own, behind the last jump: NAME OCT  (or DEC and decimal digits), and here CALL NAME;"
+    ++ (codes "a:2:2: warning W2: an operand is an address:  is the register or the counter at place , and not the number;    2 | +3 CALL; "
+    ++ (codes "     |  ^^;      = the number has a line of its own, behind the last jump: NAME OCT  (or DEC and decimal digits), and "
+    ++ codes "here CALL NAME;"))
     ++ codes "a:3:2: warning W3: FOO takes two words, and ERASE reserves one for ;    3 |  FOO;      |  ^^;      =  ERASE +1 reserves two;"
-    ++ codes "a:4:2: error E17: no line defines X;    4 |  CA X;      |  ^^;      = of a number: X DEC 5, behind the last jump, and of a word that changes: X ERASE, after SETLOC 100;")
-unfolding report told_text cause_of_kind shown_line beside_text warning_text kind_of_source lines digits runs operators parsed roles flight_roles
+    ++ (codes "a:4:2: error E17: no line defines X;    4 |  CA X;      |  ^^;      = of a number: X DEC 5, behind the last jump, and of a "
+    ++ codes "word that changes: X ERASE, after SETLOC 100;"))
+unfolding report told_text cause_of_kind shown_line beside_text warning_text kind_of_source lines digits runs operators parsed roles
+    flight_roles
 reported = refl
 
 -- none of its operators is one of a flight source
@@ -89,19 +115,22 @@ none_is_taken = refl
 abbrev warning : Warning → ℕ × ℕ × ℕ × ℕ
 warning w = (w.line, w.span.start + 1, w.span.width, w.number)
 
-counted : map warning (warnings Flight true (source (codes "+3 CA 5; -2D CA 5;-X CA -X;+4 DXCH -X;-X ERASE;+5"))) ≡ (1, 7, 1, 2) ∷ (2, 9, 1, 2) ∷ (4, 9, 2, 3) ∷ []
+counted : map warning (warnings Flight true (source (codes "+3 CA 5; -2D CA 5;-X CA -X;+4 DXCH -X;-X ERASE;+5")))
+    ≡ (1, 7, 1, 2) ∷ (2, 9, 1, 2) ∷ (4, 9, 2, 3) ∷ []
 unfolding warnings lines runs operators flight_operators roles flight_roles
 counted = refl
 
 -- names of operators that flight programs alone have, as labels
-named_as_operators : map warning (warnings Flight false (source (codes "OCTAL 5;+3 OCTAL 5;COUNT;-CCS TC COUNT;RETURN")) ++ warnings Standard false (source (codes "OCTAL 5;COUNT;RETURN")))
+named_as_operators : map warning (warnings Flight false (source (codes "OCTAL 5;+3 OCTAL 5;COUNT;-CCS TC COUNT;RETURN"))
+    ++ warnings Standard false (source (codes "OCTAL 5;COUNT;RETURN")))
     ≡ (1, 1, 5, 1) ∷ (3, 1, 5, 1) ∷ (4, 1, 4, 1) ∷ (5, 1, 6, 1) ∷ (3, 1, 6, 1) ∷ []
 unfolding warnings lines runs operators flight_operators roles flight_roles
 named_as_operators = refl
 
 -- an address is no instruction, COUNT gives no word, and 2DEC gives two
 by_roles : map {B = List (ℕ × ℕ × ℕ × ℕ)} (λ text. map warning (warnings Flight false (source text)))
-    (codes " SETLOC 1400;X ERASE; SETLOC 4000; GENADR X; CA X" ∷ codes " SETLOC 4004; COUNT* $$/X; CAF X; CAF X; CAF X; CAF X; CAF X" ∷ codes " SETLOC 4004; 2DEC 1.0; CAF X; CAF X; CAF X" ∷ [])
+    (codes " SETLOC 1400;X ERASE; SETLOC 4000; GENADR X; CA X" ∷ codes " SETLOC 4004; COUNT* $$/X; CAF X; CAF X; CAF X; CAF X; CAF X"
+    ∷ codes " SETLOC 4004; 2DEC 1.0; CAF X; CAF X; CAF X" ∷ [])
     ≡ ((5, 5, 1, 6) ∷ []) ∷ ((7, 2, 3, 5) ∷ []) ∷ ((5, 2, 3, 5) ∷ []) ∷ []
 unfolding warnings lines runs operators flight_operators roles flight_roles
 by_roles = refl
@@ -117,37 +146,91 @@ told r =
 abbrev lines_with_causes : List ((List ℕ × FaultKind) × (List ℕ × List ℕ))
 lines_with_causes =
     ((codes " MM 37", UnknownOperator), (codes "MM is not taken: what yaYUL makes of it is not known for sure", codes "OCT makes a word"))
-    ∷ ((codes "+3 DNPTR X", UnknownOperator), (codes "DNPTR is not taken: what yaYUL makes of it is not known for sure", codes "OCT makes a word"))
-    ∷ ((codes "X =MINUS Y", UnknownOperator), (codes "=MINUS is not taken: what yaYUL makes of it is not known for sure", codes "EQUALS gives X a value"))
+    ∷ (
+      (codes "+3 DNPTR X", UnknownOperator),
+      (
+        codes "DNPTR is not taken: what yaYUL makes of it is not known for sure",
+        codes "OCT makes a word",
+      ),
+    )
+    ∷ (
+      (codes "X =MINUS Y", UnknownOperator),
+      (
+        codes "=MINUS is not taken: what yaYUL makes of it is not known for sure",
+        codes "EQUALS gives X a value",
+      ),
+    )
     ∷ ((codes " SBANK= X", UnknownOperator), (codes "SBANK= is not taken: what yaYUL makes of it is not known for sure", []))
     ∷ ((codes "Y CHECK= X", UnknownOperator), (codes "CHECK= is not taken", codes "SYMBOLS in the listing has the values of Y and X"))
     ∷ ((codes " TFC LOOP", UnknownOperator), (codes "TFC is no operator", codes "did you mean TCF?"))
     ∷ ((codes "-LONGNAME OCT 1", BadLabel), (codes "-LONGNAME has more than 8 characters, the most of a label", []))
     ∷ ((codes "+ OCT 1", BadLabel), (codes "+ is a sign alone, and no label", []))
     ∷ ((codes "X$ OCT 1", BadLabel), (codes "X$ has a $, which no label may have", []))
-    ∷ ((codes "X ERASE 0 - 7", BadOperand), (codes "ERASE takes nothing, or a plus sign and a number: what yaYUL makes of a range is not known for sure", codes "ERASE reserves one word, ERASE +1 two"))
+    ∷ (
+      (codes "X ERASE 0 - 7", BadOperand),
+      (
+        codes "ERASE takes nothing, or a plus sign and a number: what yaYUL makes of a range is not known for sure",
+        codes "ERASE reserves one word, ERASE +1 two",
+      ),
+    )
     ∷ ((codes " BANK", BadOperand), (codes "BANK without a bank goes on in that of the location, which is in erasable memory", []))
-    ∷ ((codes " 2DEC 5", BadOperand), (codes "2DEC without a point and without B is not taken: what yaYUL makes of it is not known for sure", codes "B-28 behind 5 makes 5 the lower word"))
-    ∷ ((codes "+3 2DEC 5 B-36*", BadOperand), (codes "a scale with a star is not taken: what yaYUL makes of it is not known for sure", codes "work the constant out, and write it by OCT"))
+    ∷ (
+      (codes " 2DEC 5", BadOperand),
+      (
+        codes "2DEC without a point and without B is not taken: what yaYUL makes of it is not known for sure",
+        codes "B-28 behind 5 makes 5 the lower word",
+      ),
+    )
+    ∷ (
+      (codes "+3 2DEC 5 B-36*", BadOperand),
+      (
+        codes "a scale with a star is not taken: what yaYUL makes of it is not known for sure",
+        codes "work the constant out, and write it by OCT",
+      ),
+    )
     ∷ ((codes " DEC 5 B", BadOperand), (codes "this is no decimal constant, as .75, 5 B-14 and 1.5 E3 B-14 are", []))
-    ∷ ((codes " OCT -9", BadOperand), (codes "OCT takes octal digits, 0 to 7, or a sign and such digits, and -9 is neither", codes "DEC takes decimal digits"))
+    ∷ (
+      (codes " OCT -9", BadOperand),
+      (
+        codes "OCT takes octal digits, 0 to 7, or a sign and such digits, and -9 is neither",
+        codes "DEC takes decimal digits",
+      ),
+    )
     ∷ ((codes " 2OCT 123", BadOperand), (codes "2OCT takes ten octal digits, 0 to 7, in one field", []))
     ∷ ((codes " VN 12", BadOperand), (codes "VN takes four decimal digits, two of the verb and two of the noun", []))
     ∷ ((codes " CA -LONGNAME", BadOperand), (codes "-LONGNAME is no symbol, which has 8 characters at most, and no number", []))
     ∷ ((codes "-1 CA 18", BadOperand), (codes "numbers are octal, and 18 has a digit 8 or 9", codes "18D is decimal"))
     ∷ ((codes "-1 CA", BadOperand), (codes "CA needs an operand", []))
-    ∷ ((codes "X EQUALS Y", UsedTooEarly), (codes "Y has no value: no line defines it, or names wait for one another in a circle, or in a chain of more than eight", []))
+    ∷ (
+      (codes "X EQUALS Y", UsedTooEarly),
+      (codes "Y has no value: no line defines it, or names wait for one another in a circle, or in a chain of more than eight", []),
+    )
     ∷ ((codes " SETLOC Y", UsedTooEarly), (codes "SETLOC needs the value of Y here, and no earlier line defines it", []))
-    ∷ ((codes " CAF 0", WrongKindOfAddress), (codes "CAF of an erasable place is not taken: what yaYUL makes of it is not known for sure", codes "CA 0"))
+    ∷ (
+      (codes " CAF 0", WrongKindOfAddress),
+      (
+        codes "CAF of an erasable place is not taken: what yaYUL makes of it is not known for sure",
+        codes "CA 0",
+      ),
+    )
     ∷ ((codes " CAF X", WrongKindOfAddress), (codes "CAF takes a fixed place, and X is none", []))
-    ∷ ((codes " BBCON X", WrongKindOfAddress), (codes "BBCON takes a fixed place of a bank below 30, and X is none: what yaYUL adds from bank 30 on is not known for sure", []))
+    ∷ (
+      (codes " BBCON X", WrongKindOfAddress),
+      (codes "BBCON takes a fixed place of a bank below 30, and X is none: what yaYUL adds from bank 30 on is not known for sure", []),
+    )
     ∷ ((codes "+2 2DNADR X", WrongKindOfAddress), (codes "2DNADR takes an erasable place, and X is none", []))
     ∷ ((codes " DNCHAN 1000", WrongKindOfAddress), (codes "DNCHAN takes a channel, 0 to 777, and 1000 is none", []))
     ∷ ((codes " -CADR 100", WrongKindOfAddress), (codes "-CADR takes a fixed place, and 100 is none", []))
     ∷ ((codes " -CCS X", WrongKindOfAddress), (codes "-CCS takes a word of erasable memory, and X is not there", []))
     ∷ ((codes " LXCH 0 -1", OutOfRange), (codes "an address below 0 is not taken: what yaYUL makes of it is not known for sure", []))
     ∷ ((codes " TC X -1", OutOfRange), (codes "this leads out of its bank, or of the numbers", []))
-    ∷ ((codes " TC 14000", OutOfRange), (codes "14000 names no place: from 14000 to 17777 the order of the banks is not known for sure", []))
+    ∷ (
+      (codes " TC 14000", OutOfRange),
+      (
+        codes "14000 names no place: from 14000 to 17777 the order of the banks is not known for sure",
+        [],
+      ),
+    )
     ∷ ((codes " TC 100000", OutOfRange), (codes "100000 is past the last address or number", []))
     ∷ ((codes " 2DEC 5.0 B-1", OutOfRange), (codes "this is more than 2DEC holds: what yaYUL makes of it is not known for sure", []))
     ∷ ((codes " OCTAL -100000", OutOfRange), (codes "a word holds 77777 at most, and -100000 is more", []))
@@ -176,7 +259,10 @@ lines_with_cures =
     ∷ ((codes " 2DEC 5", UnknownOperator), codes "      = two words: a DEC for each\n")
     ∷ ((codes " COUNT* $$/EXEC", UnknownOperator), codes "      = with --flight this is taken\n")
     ∷ ((codes "+3 OCT 1", BadLabel), codes "      = with --flight this is taken\n")
-    ∷ ((codes " +3 OCT 1", UnknownOperator), codes "      = a label begins in the first column: no blank before +3; with --flight this is taken\n")
+    ∷ (
+      (codes " +3 OCT 1", UnknownOperator),
+      codes "      = a label begins in the first column: no blank before +3; with --flight this is taken\n",
+    )
     ∷ ((codes "-PHASE1 ERASE", BadLabel), codes "      = with --flight this is taken\n")
     ∷ ((codes " BANK", BadOperand), codes "      = with --flight this is taken\n")
     ∷ ((codes "X BANK", BadLabel), codes "      = put X on the next line\n")
@@ -189,15 +275,20 @@ lines_with_cures =
     ∷ ((codes " TFC LOOP", UnknownOperator), codes "      = did you mean TCF?\n")
     ∷ ((codes " XYZZY LOOP", UnknownOperator), [])
     ∷ ((codes " MM 37", UnknownOperator), [])
-    ∷ ((codes "+3 CA X", Undefined), codes "      = of a number: X DEC 5, behind the last jump, and of a word that changes: X ERASE, after SETLOC 100\n")
+    ∷ (
+      (codes "+3 CA X", Undefined),
+      codes "      = of a number: X DEC 5, behind the last jump, and of a word that changes: X ERASE, after SETLOC 100\n",
+    )
     ∷ ((codes "+3 CADR X", Undefined), [])
     ∷ []
 
 each_cure : map {B = List ℕ} (λ r. cure_row r.0) lines_with_cures ≡ map {B = List ℕ} (λ r. r.1) lines_with_cures
-unfolding cause_of_kind has_flight_form statement_of line_effect uncounted_statement runs operators flight_operators digits roles flight_roles
+unfolding cause_of_kind has_flight_form statement_of line_effect uncounted_statement runs operators flight_operators digits roles
+    flight_roles
 each_cure = refl
 
 -- nothing is told so of a flight source
-none_of_flight : list_any (λ r. (told_cause Flight false r.0.0 (parts_for Flight r.0.0) (fault (1, r.0.1))).flight) lines_with_causes ≡ false
+none_of_flight : list_any (λ r. (told_cause Flight false r.0.0 (parts_for Flight r.0.0) (fault (1, r.0.1))).flight) lines_with_causes
+    ≡ false
 unfolding cause_of_kind runs operators digits roles flight_roles
 none_of_flight = refl

@@ -1,5 +1,6 @@
 -- Lists that are gone through, and what is appended on the way.
-use Rattle.std.proofs.Common.{◌≡◌, ◌∙◌, ℕ, ◌+◌, ◌≤◌, length, arith, Bool, true, not, List, [], ◌∷◌, ◌++◌, map, take, drop, suc, is_some, ap, sym, inl, inr, append_assoc}
+use Rattle.std.proofs.Common.{◌≡◌, ◌∙◌, ℕ, ◌+◌, ◌≤◌, length, arith, Bool, true, not, List, [], ◌∷◌, ◌++◌, map, take, drop, suc, is_some, ap}
+use Rattle.std.proofs.Common.{sym, inl, inr, append_assoc}
 use Rattle.std.specs.Prelude.{flat_map, if◌then◌else◌}
 use Rattle.std.proofs.lemmas.Bool.{cases_Bool}
 use Rattle.std.proofs.lemmas.Bool.Decides.{nat_tests}
@@ -19,26 +20,31 @@ use Rattle.faults.specs.Warnings.{is_short, is_among, with_name, before_next, li
 
 -- a fault, after the warnings of earlier lines
 pub merged_step :
-    (error : Finding → List ℕ) (warning : Warning → List ℕ) (faults rest : List Finding) (warnings : List Warning) (f : Finding) (o0 o1 o2 : List ℕ) → faults ≡ f ∷ rest
+    (error : Finding → List ℕ) (warning : Warning → List ℕ) (faults rest : List Finding) (warnings : List Warning) (f : Finding)
+    (o0 o1 o2 : List ℕ) → faults ≡ f ∷ rest
     → o1 ≡ o0 ++ flat_map warning (take (count_before f.line warnings) warnings) → o2 ≡ o1 ++ error f
     → o2 ++ merged error warning rest (drop (count_before f.line warnings) warnings) ≡ o0 ++ merged error warning faults warnings
 merged_step error warning faults rest warnings f o0 o1 o2 next e1 e2 =
     let n = count_before f.line warnings in
     let early = flat_map warning (take n warnings) in
     let later = merged error warning rest (drop n warnings) in
-    let whole : o0 ++ (early ++ error f ++ later) ≡ o0 ++ merged error warning faults warnings = ap (λ (fs : List Finding). o0 ++ merged error warning fs warnings) (sym next) in
+    let whole : o0 ++ (early ++ error f ++ later)
+    ≡ o0 ++ merged error warning faults warnings = ap (λ (fs : List Finding). o0 ++ merged error warning fs warnings) (sym next) in
     ap (λ o. o ++ later) (e2 ∙ ap (λ o. o ++ error f) e1 ∙ append_assoc o0 early (error f))
     ∙ append_assoc o0 (early ++ error f) later
     ∙ whole
 
 -- the warnings of a line, and of those after it
 pub warned_step :
-    (language : Language) (unused : Bool) (names : Names) (before : Before) (line : ℕ) (lines rest : List Parts) (parts : Parts) (o0 o1 : List Warning)
+    (language : Language) (unused : Bool) (names : Names) (before : Before) (line : ℕ) (lines rest : List Parts) (parts : Parts)
+    (o0 o1 : List Warning)
     → lines ≡ parts ∷ rest → o1 ≡ o0 ++ line_warnings language unused names before rest line parts
-    → o1 ++ warned_lines language unused names (before_next before parts) (line + 1) rest ≡ o0 ++ warned_lines language unused names before line lines
+    → o1 ++ warned_lines language unused names (before_next before parts) (line + 1) rest
+    ≡ o0 ++ warned_lines language unused names before line lines
 warned_step language unused names before line lines rest parts o0 o1 next e =
     ap (λ o. o ++ warned_lines language unused names (before_next before parts) (line + 1) rest) e
-    ∙ append_assoc o0 (line_warnings language unused names before rest line parts) (warned_lines language unused names (before_next before parts) (line + 1) rest)
+    ∙ append_assoc o0 (line_warnings language unused names before rest line parts)
+    (warned_lines language unused names (before_next before parts) (line + 1) rest)
     ∙ ap (λ t. o0 ++ warned_lines language unused names before line t) (sym next)
 
 -- so many of some lines, where a line stands first
@@ -49,7 +55,8 @@ take_first n m here after text count lines =
 
 -- one line more that is taken apart
 pub apart_step :
-    (language : Language) (made now : List Reading) (parts : Reading) (n m : ℕ) (here after : List (List ℕ)) (text : List ℕ) → n ≡ m + 1 → here ≡ text ∷ after
+    (language : Language) (made now : List Reading) (parts : Reading) (n m : ℕ) (here after : List (List ℕ)) (text : List ℕ) → n ≡ m + 1
+    → here ≡ text ∷ after
     → now ≡ made ++ parts ∷ [] → parts_in parts ≡ parts_for language text
     → map parts_in now ++ map (parts_for language) (take m after) ≡ map parts_in made ++ map (parts_for language) (take n here)
 apart_step language made now parts n m here after text count lines grows same =
@@ -61,22 +68,27 @@ apart_step language made now parts n m here after text count lines grows same =
 
 -- a name that is defined in a table where it is not there yet
 pub name_added :
-    (table after : List (List ℕ × Value)) (text : List ℕ) (added : Bool) (value : Value) → is_short text ≡ true → added ≡ not (is_some (value_in table text))
+    (table after : List (List ℕ × Value)) (text : List ℕ) (added : Bool) (value : Value) → is_short text ≡ true
+    → added ≡ not (is_some (value_in table text))
     → after ≡ (if added then table ++ (text, value) ∷ [] else table) → map (λ e. e.0) after ≡ with_name (map (λ e. e.0) table) text
 name_added table after text added value short says is =
     let names = map {B = List ℕ} (λ e. e.0) table in
     let there : is_some (value_in table text) ≡ is_among names text = is_some-lookup (same_name text) table in
     elim (cases_Bool (is_some (value_in table text))) [
-      | inl found ↦ rw short (rw (sym there ∙ found) (ap (map (λ e. e.0)) (is ∙ ap (λ b. if b then table ++ (text, value) ∷ [] else table) (says ∙ ap not found))))
-      | inr lacks ↦ rw short (rw (sym there ∙ lacks) (ap (map (λ e. e.0)) (is ∙ ap (λ b. if b then table ++ (text, value) ∷ [] else table) (says ∙ ap not lacks))
+      | inl found ↦ rw short (rw (sym there ∙ found)
+          (ap (map (λ e. e.0)) (is ∙ ap (λ b. if b then table ++ (text, value) ∷ [] else table) (says ∙ ap not found))))
+      | inr lacks ↦ rw short (rw (sym there ∙ lacks)
+          (ap (map (λ e. e.0)) (is ∙ ap (λ b. if b then table ++ (text, value) ∷ [] else table) (says ∙ ap not lacks))
           ∙ map-append (λ e. e.0) table ((text, value) ∷ [])))
     ]
 
 -- five texts appended
 pub five_appended :
-    (out a b c d e o1 o2 o3 o4 o5 : List ℕ) → o1 ≡ out ++ a → o2 ≡ o1 ++ b → o3 ≡ o2 ++ c → o4 ≡ o3 ++ d → o5 ≡ o4 ++ e → o5 ≡ out ++ (a ++ b ++ c ++ d ++ e)
+    (out a b c d e o1 o2 o3 o4 o5 : List ℕ) → o1 ≡ out ++ a → o2 ≡ o1 ++ b → o3 ≡ o2 ++ c → o4 ≡ o3 ++ d → o5 ≡ o4 ++ e
+    → o5 ≡ out ++ (a ++ b ++ c ++ d ++ e)
 five_appended out a b c d e o1 o2 o3 o4 o5 e1 e2 e3 e4 e5 =
-    e5 ∙ ap (λ o. o ++ e) (e4 ∙ ap (λ o. o ++ d) (e3 ∙ ap (λ o. o ++ c) (e2 ∙ ap (λ o. o ++ b) e1 ∙ append_assoc out a b) ∙ append_assoc out (a ++ b) c)
+    e5 ∙ ap (λ o. o ++ e) (e4 ∙ ap (λ o. o ++ d) (e3 ∙ ap (λ o. o ++ c) (e2 ∙ ap (λ o. o ++ b) e1 ∙ append_assoc out a b)
+    ∙ append_assoc out (a ++ b) c)
     ∙ append_assoc out (a ++ b ++ c) d) ∙ append_assoc out (a ++ b ++ c ++ d) e
 
 -- a name that is a text which is no longer than a label

@@ -1,5 +1,6 @@
 -- The fields of a line, one after another.
-use Rattle.std.proofs.Common.{◌≡◌, ◌∙◌, ℕ, zero, suc, ◌+◌, ◌-◌, ◌≤◌, nat_le, List, [], ◌∷◌, Some, None, length, drop, find, slice_get, refl, ap, sym, inl, inr, arith}
+use Rattle.std.proofs.Common.{◌≡◌, ◌∙◌, ℕ, zero, suc, ◌+◌, ◌-◌, ◌≤◌, nat_le, List, [], ◌∷◌, Some, None, length, drop, find, slice_get, refl}
+use Rattle.std.proofs.Common.{ap, sym, inl, inr, arith}
 use Rattle.std.proofs.lemmas.Bool.{cases_Bool}
 use Rattle.agc_text.specs.Fields.{before_comment, fields, is_run_start, run_at, runs, runs_after}
 use Rattle.agc_text.specs.Views.{piece, end_of}
@@ -21,7 +22,8 @@ stepped zero text from f e h =
 stepped (suc n) text from f e h =
     elim (cases_Bool (is_run_start text from)) [
       | inl here ↦
-          let is : run_at text from ≡ piece f = same_some (run_at text from) (piece f) (sym (first_of _ _ _ (runs_after_take text from (omega (arith, e)) here)) ∙ h) in
+          let is : run_at text from ≡ piece f = same_some (run_at text from) (piece f)
+          (sym (first_of _ _ _ (runs_after_take text from (omega (arith, e)) here)) ∙ h) in
           take_at text from f (omega (arith, e)) here (sym is)
       | inr gone ↦
           let skip : runs_after text from ≡ runs_after text (from + 1) = runs_after_skip text from (from + 1) (omega arith)
@@ -30,7 +32,8 @@ stepped (suc n) text from f e h =
     ]
 
 pub walked :
-    (text : List ℕ) (from : ℕ) (f : Field) → Some (piece f) ≡ find (λ g. nat_le from g.start) (runs text) → runs_after text from ≡ piece f ∷ runs_after text (end_of f)
+    (text : List ℕ) (from : ℕ) (f : Field) → Some (piece f) ≡ find (λ g. nat_le from g.start) (runs text)
+    → runs_after text from ≡ piece f ∷ runs_after text (end_of f)
 walked text from f found = stepped (length text - from) text from f refl (sym (find_run text from) ∙ sym found)
 
 dropped : {A : Type 0} (xs rest : List A) (x : A) (i : ℕ) → drop i xs ≡ x ∷ rest → drop (suc i) xs ≡ rest

@@ -55,14 +55,19 @@ warned_rows =
     ∷ (codes " SETLOC 2000;V ERASE; SETLOC 4000; TS 3; TS V;D TCF D", [])
     ∷ (codes "EB EQUALS 3; SETLOC 2000;V ERASE; SETLOC 4000; TS EB; TS V;D TCF D", [])
     -- channels that are registers, by number and by name, and others
-    ∷ (codes " WRITE 1; WAND 2; WOR 02; WRITE 10; WRITE 3; WRITE 0; READ 1; ROR 2; WRITE L;L EQUALS 1;D TCF D", (1, 8, 1, 10) ∷ (2, 7, 1, 10) ∷ (3, 6, 2, 10) ∷ [])
+    ∷ (
+      codes " WRITE 1; WAND 2; WOR 02; WRITE 10; WRITE 3; WRITE 0; READ 1; ROR 2; WRITE L;L EQUALS 1;D TCF D",
+      (1, 8, 1, 10)
+          ∷ (2, 7, 1, 10) ∷ (3, 6, 2, 10) ∷ [],
+    )
     -- names of registers
     ∷ (codes " SETLOC 100;Q ERASE; SETLOC 4000; TS Q;D TCF D", (2, 1, 1, 7) ∷ [])
     ∷ (codes " SETLOC 0;A ERASE;Q ERASE; SETLOC 4000; TC A; TC Q", (3, 1, 1, 7) ∷ [])
     ∷ (codes "Q EQUALS 2;L EQUALS 00001;Z EQUALS 6; TC Q; TC L; TC Z", (3, 1, 1, 7) ∷ [])
     ∷ []
 
-each_warned : map {B = List (ℕ × ℕ × ℕ × ℕ)} (λ r. map row (warnings Standard true (source r.0))) warned_rows ≡ map {B = List (ℕ × ℕ × ℕ × ℕ)} (λ r. r.1) warned_rows
+each_warned : map {B = List (ℕ × ℕ × ℕ × ℕ)} (λ r. map row (warnings Standard true (source r.0))) warned_rows
+    ≡ map {B = List (ℕ × ℕ × ℕ × ℕ)} (λ r. r.1) warned_rows
 unfolding warnings runs operators lines roles
 each_warned = refl
 
@@ -74,19 +79,24 @@ abbrev warned : ℕ → ℕ → Warning
 warned line number = record { line = line; number = number; span = record { start = 1; width = 2 } }
 
 -- the faults of a line stand before its warnings, and the warnings of earlier lines before both
-shown_in_order : report Text Standard (codes "a") (source (codes " CA 5; TS FIV;Z")) (placed 2 Undefined ∷ placed 2 WrongKindOfAddress ∷ []) (warned 1 2 ∷ warned 2 3 ∷ warned 3 8 ∷ [])
-    ≡ source (codes "a:1:2: warning W2: an operand is an address: 5 is the register or the counter at place 5, and not the number;    1 |  CA 5;      |  ^^;"
+shown_in_order : report Text Standard (codes "a") (source (codes " CA 5; TS FIV;Z")) (placed 2 Undefined ∷ placed 2 WrongKindOfAddress ∷ [])
+    (warned 1 2 ∷ warned 2 3 ∷ warned 3 8 ∷ [])
+    ≡ source ((codes "a:1:2: warning W2: an operand is an address: 5 is the register or the counter at place 5, and not the number;    1 | "
+    ++ codes " CA 5;      |  ^^;")
     ++ codes "      = the number has a line of its own, behind the last jump: NAME OCT 5 (or DEC and decimal digits), and here CA NAME;"
-    ++ codes "a:2:2: error E17: no line defines FIV;    2 |  TS FIV;      |  ^^;      = FIV ERASE, among lines after SETLOC 100, reserves a word of this name;"
+    ++ (codes "a:2:2: error E17: no line defines FIV;    2 |  TS FIV;      |  ^^;      = FIV ERASE, among lines after SETLOC 100, reserves "
+    ++ codes "a word of this name;")
     ++ codes "a:2:2: error E25: TS writes to erasable memory, and FIV is not there;    2 |  TS FIV;      |  ^^;"
     ++ codes "      = reserve the word there: SETLOC and a place below 4000, and ERASE;"
-    ++ codes "a:2:2: warning W3: TS takes two words, and ERASE reserves one for FIV;    2 |  TS FIV;      |  ^^;      = FIV ERASE +1 reserves two;"
+    ++ (codes "a:2:2: warning W3: TS takes two words, and ERASE reserves one for FIV;    2 |  TS FIV;      |  ^^;      = FIV ERASE +1 "
+    ++ codes "reserves two;")
     ++ codes "a:3:2: warning W8: no operand names Z;    3 | Z;      |  ^;")
 unfolding report told_text cause_of_kind shown_line beside_text warning_text kind_of_source lines digits runs operators parsed roles
 shown_in_order = refl
 
 -- a symbol of the wrong kind is told with its line, and one that a later line defines is not taken for another
-told_with_lines : report Text Standard (codes "a") (source (codes " TS SUM;SUM OCT 0; SETLOC SUX;SUX OCT 1")) (placed 1 WrongKindOfAddress ∷ placed 3 UsedTooEarly ∷ []) []
+told_with_lines : report Text Standard (codes "a") (source (codes " TS SUM;SUM OCT 0; SETLOC SUX;SUX OCT 1"))
+    (placed 1 WrongKindOfAddress ∷ placed 3 UsedTooEarly ∷ []) []
     ≡ source (codes "a:1:2: error E25: TS writes to erasable memory, and SUM, of line 2, is not there;    1 |  TS SUM;      |  ^^;"
     ++ codes "      = reserve the word there: SETLOC and a place below 4000, and ERASE;"
     ++ codes "a:3:2: error E18: SETLOC needs the value of SUX here, and line 4 defines it, which is below;    3 |  SETLOC SUX;      |  ^^;")
@@ -94,14 +104,17 @@ unfolding report told_text cause_of_kind shown_line beside_text warning_text kin
 told_with_lines = refl
 
 -- an E18 names the first of two lines below that define its symbol; one that its own line defines names none
-told_below : report Text Standard (codes "a") (source (codes " SETLOC SUX; OCT 1;SUX OCT 1;SUX OCT 2;P EQUALS P")) (placed 1 UsedTooEarly ∷ placed 5 UsedTooEarly ∷ []) []
-    ≡ source (codes "a:1:2: error E18: SETLOC needs the value of SUX here, and line 3 defines it, which is below;    1 |  SETLOC SUX;      |  ^^;"
+told_below : report Text Standard (codes "a") (source (codes " SETLOC SUX; OCT 1;SUX OCT 1;SUX OCT 2;P EQUALS P"))
+    (placed 1 UsedTooEarly ∷ placed 5 UsedTooEarly ∷ []) []
+    ≡ source ((codes "a:1:2: error E18: SETLOC needs the value of SUX here, and line 3 defines it, which is below;    1 |  SETLOC SUX;     "
+    ++ codes " |  ^^;")
     ++ codes "a:5:2: error E18: EQUALS needs the value of P here, and no earlier line defines it;    5 | P EQUALS P;      |  ^^;")
 unfolding report told_text cause_of_kind shown_line beside_text warning_text kind_of_source lines digits runs operators parsed roles
 told_below = refl
 
 -- a label of a line that takes none defines nothing: neither above the line that does, nor below
-told_without_bare : report Text Standard (codes "a") (source (codes "SUM SETLOC 4000;SUM OCT 0; TS SUM; EBANK= P;P BANK 5")) (placed 3 WrongKindOfAddress ∷ placed 4 UsedTooEarly ∷ []) []
+told_without_bare : report Text Standard (codes "a") (source (codes "SUM SETLOC 4000;SUM OCT 0; TS SUM; EBANK= P;P BANK 5"))
+    (placed 3 WrongKindOfAddress ∷ placed 4 UsedTooEarly ∷ []) []
     ≡ source (codes "a:3:2: error E25: TS writes to erasable memory, and SUM, of line 2, is not there;    3 |  TS SUM;      |  ^^;"
     ++ codes "      = reserve the word there: SETLOC and a place below 4000, and ERASE;"
     ++ codes "a:4:2: error E18: EBANK= needs the value of P here, and no earlier line defines it;    4 |  EBANK= P;      |  ^^;")
@@ -109,7 +122,8 @@ unfolding report told_text cause_of_kind shown_line beside_text warning_text kin
 told_without_bare = refl
 
 -- of a place that is taken the line is told whose word stands there, and where none is known what the fault is
-told_taken : report Text Standard (codes "a") (source (codes " OCT 1;X OCT 2; SETLOC 4000;X OCT 3")) (record (placed 4 PlaceTaken) { taken_by = Some 1 } ∷ placed 4 TwiceDefined ∷ placed 4 PlaceTaken ∷ []) []
+told_taken : report Text Standard (codes "a") (source (codes " OCT 1;X OCT 2; SETLOC 4000;X OCT 3"))
+    (record (placed 4 PlaceTaken) { taken_by = Some 1 } ∷ placed 4 TwiceDefined ∷ placed 4 PlaceTaken ∷ []) []
     ≡ source (codes "a:4:2: error E21: line 1 has a word at this place already;    4 | X OCT 3;      |  ^^;"
     ++ codes "a:4:2: error E14: line 2 has the label X already;    4 | X OCT 3;      |  ^^;"
     ++ codes "a:4:2: error E21: a word stands at this place already;    4 | X OCT 3;      |  ^^;")
@@ -117,7 +131,8 @@ unfolding report told_text cause_of_kind shown_line beside_text warning_text kin
 told_taken = refl
 
 -- however many faults there are: without the labels of other lines too
-taken_alone : shown_error Text Standard (codes "a") [] (lines (source (codes " 2CADR 4000; SETLOC 4001; OCT 2"))) (record (placed 3 PlaceTaken) { taken_by = Some 1 })
+taken_alone : shown_error Text Standard (codes "a") [] (lines (source (codes " 2CADR 4000; SETLOC 4001; OCT 2")))
+    (record (placed 3 PlaceTaken) { taken_by = Some 1 })
     ≡ source (codes "a:3:2: error E21: line 1 has a word at this place already;    3 |  OCT 2;      |  ^^;")
 unfolding cause_of_kind shown_line beside_text lines digits runs roles
 taken_alone = refl

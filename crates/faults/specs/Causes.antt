@@ -1,5 +1,6 @@
 -- What a fault is in words, by its cause: a text with marks for the fields of its line, and its cure where one is sure.
-use Rattle.std.specs.Prelude.{ℕ, ◌+◌, ◌-◌, ◌==◌, ◌&&◌, ◌||◌, not, Bool, true, false, nat_lt, nat_le, List, [], ◌∷◌, ◌++◌, length, map, take, drop, Option, None, is_some, unwrap_or, codes, flat_map, slice_get, if◌then◌else◌}
+use Rattle.std.specs.Prelude.{ℕ, ◌+◌, ◌-◌, ◌==◌, ◌&&◌, ◌||◌, not, Bool, true, false, nat_lt, nat_le, List, [], ◌∷◌, ◌++◌, length, map, take}
+use Rattle.std.specs.Prelude.{drop, Option, None, is_some, unwrap_or, codes, flat_map, slice_get, if◌then◌else◌}
 use Rattle.std.specs.List.{find, list_any}
 use Rattle.std.specs.Option.{option_map_or, option_or}
 use Rattle.agc_text.specs.Bytes.{line_length}
@@ -8,10 +9,15 @@ use Rattle.agc_text.specs.Fields.{Piece}
 use Rattle.agc_text.specs.Tables.{same_name, value_in}
 use Rattle.yayul.specs.Forms.{is_digits}
 use Rattle.yayul.specs.declared.faults.FaultKind.{FaultKind}
-use Rattle.yayul.specs.declared.faults.FaultKind.TheVariants.{BadBank, BadLabel, BadOperand, BankFull, CodeInErasable, LongLine, NeedsExtend, NoMemory, NotAscii, NotExtracode, OutOfRange, PlaceTaken, TooManyLines, TwiceDefined, Undefined, UnknownOperator, UsedTooEarly, WrongKindOfAddress}
+use Rattle.yayul.specs.declared.faults.FaultKind.TheVariants.{BadBank, BadLabel, BadOperand, BankFull, CodeInErasable, LongLine}
+use Rattle.yayul.specs.declared.faults.FaultKind.TheVariants.{NeedsExtend, NoMemory, NotAscii, NotExtracode, OutOfRange, PlaceTaken}
+use Rattle.yayul.specs.declared.faults.FaultKind.TheVariants.{TooManyLines, TwiceDefined, Undefined, UnknownOperator, UsedTooEarly}
+use Rattle.yayul.specs.declared.faults.FaultKind.TheVariants.{WrongKindOfAddress}
 use Rattle.yayul.specs.declared.finding.Finding.{Finding}
 use Rattle.yayul.specs.declared.language.Language.TheVariants.{Standard}
-use Rattle.faults.specs.Roles.{is_block, is_decimal, is_erase, is_octal, leads_on_to, leads_to_fixed, names_bank, reads, reads_erasable, refuses_label, subtracts, takes_channel, takes_erasable_place, takes_fixed_place, takes_nothing, writes_erasable}
+use Rattle.faults.specs.Roles.{is_block, is_decimal, is_erase, is_octal, leads_on_to, leads_to_fixed, names_bank, reads, reads_erasable}
+use Rattle.faults.specs.Roles.{refuses_label, subtracts, takes_channel, takes_erasable_place, takes_fixed_place, takes_nothing}
+use Rattle.faults.specs.Roles.{writes_erasable}
 use Rattle.yayul.specs.Readings.{Parts}
 use Rattle.yayul.specs.Roles.{is_operator_of, names_of_length}
 use Rattle.faults.specs.Refusals.{meaning}
@@ -54,7 +60,8 @@ of_line digits = if length digits == 0 then [] else codes ", of line " ++ digits
 abbrev pub is_mark : ℕ → Bool
 is_mark byte = byte == 0o46 || byte == 0o45 || byte == 0o100 || byte == 0o41 || byte == 0o176 || byte == 0o136
 
--- what a byte of a text stands for: `&` for the label, `%` for the operator, `@` for the operand, `!` for another text, `~` for a text from other lines, `^` for the line that it is the number of
+-- what a byte of a text stands for: `&` for the label, `%` for the operator, `@` for the operand, `!` for another text, `~` for a text from
+-- other lines, `^` for the line that it is the number of
 abbrev pub filled_byte : Parts → List ℕ → List ℕ → ℕ → List ℕ
 filled_byte parts other beside byte =
     if byte == 0o46 then shown_field parts.label
@@ -182,12 +189,14 @@ has_parted_offset parts = parts.more && (same_name (text_of parts.offset) (codes
 
 -- several numbers stand for one: with a comma behind the first, or with blanks between them
 abbrev pub lists_numbers : Parts → Bool
-lists_numbers parts = (is_octal parts.role || is_decimal parts.role) && (holds 0o54 (text_of parts.operand) || is_digits (text_of parts.offset))
+lists_numbers parts = (is_octal parts.role || is_decimal parts.role)
+    && (holds 0o54 (text_of parts.operand) || is_digits (text_of parts.offset))
 
 -- ## Causes
 -- E11: a line that is too long; a comment that begins where a line may still go on can be parted
 abbrev pub long_cause : List ℕ → Cause
-long_cause text = if holds 0o43 (take line_length text) then cured (meaning 11) (codes "part the comment into two lines") else said (meaning 11)
+long_cause text = if holds 0o43 (take line_length text) then cured (meaning 11) (codes "part the comment into two lines") else said
+    (meaning 11)
 
 -- the bytes of a byte order mark stand in front
 abbrev pub begins_with_mark : List ℕ → Bool
@@ -197,18 +206,22 @@ begins_with_mark _ = false
 -- E10: the byte at a place of a line
 abbrev pub byte_cause : List ℕ → ℕ → Cause
 byte_cause text place =
-    if place == 0 && begins_with_mark text then cured (codes "a byte order mark stands in front of the line, and a line holds ASCII alone") (codes "tail -c +4 FILE > NEW")
+    if place == 0 && begins_with_mark text then cured (codes "a byte order mark stands in front of the line, and a line holds ASCII alone")
+    (codes "tail -c +4 FILE > NEW")
     else if option_map_or (λ byte. byte == 0o15) (slice_get text place) false then
-    (if place + 1 == length text then said (codes "a carriage return ends the line; only a line feed may") else said (codes "a carriage return stands in the line"))
+    (if place + 1 == length text then said (codes "a carriage return ends the line; only a line feed may") else said
+    (codes "a carriage return stands in the line"))
     else if option_map_or (λ byte. byte == 0o14) (slice_get text place) false then said (codes "a form feed stands in the line")
-    else if option_map_or (λ byte. nat_le 0o200 byte) (slice_get text place) false then said (codes "this byte is not ASCII, and a line holds ASCII alone, its comment too")
+    else if option_map_or (λ byte. nat_le 0o200 byte) (slice_get text place) false then said
+    (codes "this byte is not ASCII, and a line holds ASCII alone, its comment too")
     else said (codes "this byte is no character that prints, no blank and no tab")
 
 -- E13: a label that is missing, is not taken or has no label's form
 abbrev pub label_cause : Parts → Cause
 label_cause parts =
     if not (is_some parts.label) then cured (codes "% gives a name its value, and no name stands in the first column") (codes "NAME % @")
-    else if refuses_label parts.role then (if is_label (text_of parts.label) then cured (codes "% takes no label") (codes "put & on the next line") else said (codes "% takes no label"))
+    else if refuses_label parts.role then (if is_label (text_of parts.label) then cured (codes "% takes no label")
+    (codes "put & on the next line") else said (codes "% takes no label"))
     else if holds 0o44 (text_of parts.label) then said (codes "& has a $, which no label may have")
     else if is_signed (text_of parts.label) then said (codes "& begins with a sign, as no label may")
     else if is_short (text_of parts.label) then said (codes "& is a number, and no label")
@@ -217,11 +230,15 @@ label_cause parts =
 -- E15: what is no operator
 abbrev pub operator_cause : Parts → Cause
 operator_cause parts =
-    if is_operator_of Standard (text_of parts.label) then cured (codes "& stands in the first column, so it is a label, and % is taken for the operator") (codes "put a blank before &")
+    if is_operator_of Standard (text_of parts.label) then cured
+    (codes "& stands in the first column, so it is a label, and % is taken for the operator") (codes "put a blank before &")
     else if is_foreign_comment (text_of parts.operator) then cured (codes "% is no operator") (codes "a comment begins with #")
-    else if not (is_some parts.label) && is_operator_of Standard (text_of parts.operand) then cured (codes "% is no operator") (codes "a label begins in the first column: no blank before %")
-    else if is_some (value_in foreign_operators (text_of parts.operator)) then cured_by (codes "% is no operator of this assembler") (codes "!") (unwrap_or (value_in foreign_operators (text_of parts.operator)) [])
-    else if is_some (near_operator (text_of parts.operator)) then cured_by (codes "% is no operator") (codes "did you mean !?") (unwrap_or (near_operator (text_of parts.operator)) [])
+    else if not (is_some parts.label) && is_operator_of Standard (text_of parts.operand) then cured (codes "% is no operator")
+    (codes "a label begins in the first column: no blank before %")
+    else if is_some (value_in foreign_operators (text_of parts.operator)) then cured_by (codes "% is no operator of this assembler")
+    (codes "!") (unwrap_or (value_in foreign_operators (text_of parts.operator)) [])
+    else if is_some (near_operator (text_of parts.operator)) then cured_by (codes "% is no operator") (codes "did you mean !?")
+    (unwrap_or (near_operator (text_of parts.operator)) [])
     else said (codes "% is no operator")
 
 -- E16, of an operator that takes digits, or a bank
@@ -229,30 +246,39 @@ abbrev pub digits_cause : Parts → Cause
 digits_cause parts =
     if lists_numbers parts then cured (codes "% takes one number, and nothing after it") (codes "a line for each number")
     else if is_some parts.offset then cured (codes "% takes one number, and nothing after it") (codes "a comment begins with #")
-    else if is_octal parts.role && is_signed (text_of parts.operand) then cured (codes "OCT takes no sign") (codes "DEC takes one; a minus complements the word")
-    else if is_octal parts.role then cured (codes "OCT takes octal digits, 0 to 7, and @ is no such number") (codes "DEC takes decimal digits")
+    else if is_octal parts.role && is_signed (text_of parts.operand) then cured (codes "OCT takes no sign")
+    (codes "DEC takes one; a minus complements the word")
+    else if is_octal parts.role then cured (codes "OCT takes octal digits, 0 to 7, and @ is no such number")
+    (codes "DEC takes decimal digits")
     else if is_decimal parts.role then said (codes "DEC takes a whole number, or a fraction of 1 to 9 decimals as .75, and @ is neither")
     else if is_beyond_octal (text_of parts.operand) then
-    (if is_decimal_bank parts && not (is_block parts.role) then cured (codes "banks are octal, and @ has a digit 8 or 9") (codes "% @D takes it as decimal") else said (codes "banks are octal, and @ has a digit 8 or 9"))
+    (if is_decimal_bank parts && not (is_block parts.role) then cured (codes "banks are octal, and @ has a digit 8 or 9")
+    (codes "% @D takes it as decimal") else said (codes "banks are octal, and @ has a digit 8 or 9"))
     else said (codes "% takes a bank's number, and @ is none")
 
 -- E16, of an operator that takes a place or a value
 abbrev pub place_cause : Parts → Cause
 place_cause parts =
-    if has_parted_offset parts then cured (codes "after @ only an offset may stand, a sign and an octal number") (codes "no blank stands between both")
+    if has_parted_offset parts then cured (codes "after @ only an offset may stand, a sign and an octal number")
+    (codes "no blank stands between both")
     else if parts.more then cured (codes "after the operand only one offset may stand") (codes "a comment begins with #")
     else if is_beyond_octal (text_of parts.operand) then cured (codes "numbers are octal, and @ has a digit 8 or 9") (codes "@D is decimal")
-    else if is_signed (text_of parts.operand) then cured (codes "@ is no sign with a number, which stands alone and moves on from this line") (codes "NAME +1 is the word after NAME; CS loads a complement")
-    else if is_some parts.offset then cured (codes "after @ only an offset may stand, a sign and an octal number") (codes "NAME +1; a comment begins with #")
+    else if is_signed (text_of parts.operand) then cured
+    (codes "@ is no sign with a number, which stands alone and moves on from this line")
+    (codes "NAME +1 is the word after NAME; CS loads a complement")
+    else if is_some parts.offset then cured (codes "after @ only an offset may stand, a sign and an octal number")
+    (codes "NAME +1; a comment begins with #")
     else if holds 0o44 (text_of parts.operand) then said (codes "@ has a $, which no symbol may have")
     else said (codes "@ is no symbol, which has 8 characters at most, and no number")
 
 -- E16: an operand that is missing, is not taken or has no operand's form
 abbrev pub operand_cause : Parts → Cause
 operand_cause parts =
-    if has_foreign_comment parts then cured (codes "the operand does not end where a comment was meant to begin") (codes "a comment begins with #")
+    if has_foreign_comment parts then cured (codes "the operand does not end where a comment was meant to begin")
+    (codes "a comment begins with #")
     else if takes_nothing parts.role then cured (codes "% takes no operand") (codes "a comment begins with #")
-    else if is_erase parts.role then cured (codes "ERASE takes nothing, or a plus sign and a number") (codes "ERASE reserves one word, ERASE +1 two")
+    else if is_erase parts.role then cured (codes "ERASE takes nothing, or a plus sign and a number")
+    (codes "ERASE reserves one word, ERASE +1 two")
     else if not (is_some parts.operand) then said (codes "% needs an operand")
     else if is_octal parts.role || is_decimal parts.role || names_bank parts.role then digits_cause parts
     else place_cause parts
@@ -264,7 +290,9 @@ holds_sign text = holds 0o53 (drop 1 text) || holds 0o55 (drop 1 text)
 -- E17 and E18: a symbol that no line, or no earlier one, defines, where a label is near to it or none is
 abbrev pub symbol_cause : List ℕ → Bool → Parts → Cause
 symbol_cause words near parts =
-    if is_some (value_in registers (text_of parts.operand)) then cured_by words (codes "no register has a name beforehand; this line gives it one: @ EQUALS !") (unwrap_or (value_in registers (text_of parts.operand)) [])
+    if is_some (value_in registers (text_of parts.operand)) then cured_by words
+    (codes "no register has a name beforehand; this line gives it one: @ EQUALS !")
+    (unwrap_or (value_in registers (text_of parts.operand)) [])
     else if holds 0o54 (text_of parts.operand) then cured words (codes "@ is one name; INDEX on the line before adds to an address")
     else if begins 0o75 (text_of parts.operand) then cured words (codes "a constant has a line of its own, whose label is the operand")
     else if holds_sign (text_of parts.operand) then cured words (codes "@ is one name; a blank stands before an offset")
@@ -275,23 +303,28 @@ symbol_cause words near parts =
 -- the cure of a symbol that a label with a colon is near to: not that name, where the symbol has no colon
 abbrev pub without_colon : List ℕ → Parts → Cause → Cause
 without_colon near parts c =
-    if holds 0o72 near && not (holds 0o72 (text_of parts.operand)) then cured c.words (codes "~ is one name, its colon too; a label has no colon") else c
+    if holds 0o72 near && not (holds 0o72 (text_of parts.operand)) then cured c.words
+    (codes "~ is one name, its colon too; a label has no colon") else c
 
 -- a register's name, or a text that is told by a byte in it to be meant otherwise
 abbrev pub is_another_form : Parts → Bool
-is_another_form parts = is_some (value_in registers (text_of parts.operand)) || holds 0o54 (text_of parts.operand) || begins 0o75 (text_of parts.operand) || holds_sign (text_of parts.operand) || holds 0o72 (text_of parts.operand)
+is_another_form parts = is_some (value_in registers (text_of parts.operand)) || holds 0o54 (text_of parts.operand)
+    || begins 0o75 (text_of parts.operand) || holds_sign (text_of parts.operand) || holds 0o72 (text_of parts.operand)
 
 -- E17: how a symbol is defined, by the operator that takes it
 abbrev pub definition_cause : Parts → Cause
 definition_cause parts =
-    if writes_erasable parts.role || reads_erasable parts.role then cured (codes "no line defines @") (codes "@ ERASE, among lines after SETLOC 100, reserves a word of this name")
+    if writes_erasable parts.role || reads_erasable parts.role then cured (codes "no line defines @")
+    (codes "@ ERASE, among lines after SETLOC 100, reserves a word of this name")
     else if takes_channel parts.role then cured (codes "no line defines @") (codes "@ EQUALS and an octal number give a channel this name")
     else if leads_on_to parts.role then cured (codes "no line defines @") (codes "@ in the first column of the line to which % is to lead")
-    else if reads parts.role then cured (codes "no line defines @") (codes "of a number: @ DEC 5, behind the last jump, and of a word that changes: @ ERASE, after SETLOC 100")
+    else if reads parts.role then cured (codes "no line defines @")
+    (codes "of a number: @ DEC 5, behind the last jump, and of a word that changes: @ ERASE, after SETLOC 100")
     else said (codes "no line defines @")
 
 abbrev pub undefined_cause : Bool → Parts → Cause
-undefined_cause near parts = if near || is_another_form parts then symbol_cause (codes "no line defines @") near parts else definition_cause parts
+undefined_cause near parts = if near || is_another_form parts then symbol_cause (codes "no line defines @") near parts else definition_cause
+    parts
 
 abbrev pub early_cause : Bool → Parts → Cause
 early_cause near parts = symbol_cause (codes "% needs the value of @ here, and no earlier line defines it") near parts
@@ -303,7 +336,8 @@ below_cause = said (codes "% needs the value of @ here, and line ~ defines it, w
 -- E19: a bank that the operator does not take
 abbrev pub bank_cause : Parts → Cause
 bank_cause parts =
-    if is_block parts.role then (if is_octal_bank parts then cured (codes "BLOCK takes 2 and 3, and @ is neither") (codes "BANK @") else said (codes "BLOCK takes 2 and 3, and @ is neither"))
+    if is_block parts.role then (if is_octal_bank parts then cured (codes "BLOCK takes 2 and 3, and @ is neither") (codes "BANK @") else
+    said (codes "BLOCK takes 2 and 3, and @ is neither"))
     else said (codes "banks are 0 to 43 in octal, and @ is none")
 
 -- E20: past the end
@@ -316,21 +350,26 @@ room_cause parts =
 -- E25: another kind of place, or a channel
 abbrev pub kind_cause : Parts → Cause
 kind_cause parts =
-    if is_erase parts.role then cured (codes "ERASE reserves erasable words, and the location is in fixed memory") (codes "SETLOC and a place below 4000 before it")
+    if is_erase parts.role then cured (codes "ERASE reserves erasable words, and the location is in fixed memory")
+    (codes "SETLOC and a place below 4000 before it")
     else if takes_channel parts.role then said (codes "% takes a channel, 0 to 777, and @^ is none")
     else if takes_erasable_place parts.role then said (codes "% takes an erasable place, and @^ is none")
     else if takes_fixed_place parts.role then said (codes "% takes a fixed place, and @^ is none")
     else if leads_to_fixed parts.role then said (codes "% leads to fixed memory, 2000 and up, and @^ is not there")
-    else if writes_erasable parts.role then cured (codes "% writes to erasable memory, and @^ is not there") (codes "reserve the word there: SETLOC and a place below 4000, and ERASE")
-    else if subtracts parts.role then cured (codes "% takes a word of erasable memory, and @^ is not there") (codes "CS @ and AD subtract a constant: X less @ is CS @, AD X, without EXTEND")
-    else if reads_erasable parts.role then cured (codes "% takes a word of erasable memory, and @^ is not there") (codes "copy the word to erasable memory first")
+    else if writes_erasable parts.role then cured (codes "% writes to erasable memory, and @^ is not there")
+    (codes "reserve the word there: SETLOC and a place below 4000, and ERASE")
+    else if subtracts parts.role then cured (codes "% takes a word of erasable memory, and @^ is not there")
+    (codes "CS @ and AD subtract a constant: X less @ is CS @, AD X, without EXTEND")
+    else if reads_erasable parts.role then cured (codes "% takes a word of erasable memory, and @^ is not there")
+    (codes "copy the word to erasable memory first")
     else said (meaning 25)
 
 -- E26: a number out of its range
 abbrev pub range_cause : Parts → Cause
 range_cause parts =
     if is_octal parts.role then said (codes "a word holds 77777 at most, and @ is more")
-    else if is_decimal parts.role && holds 0o56 (text_of parts.operand) then said (codes "a fraction of a word comes to less than 1 in 14 bits, and @ does not")
+    else if is_decimal parts.role && holds 0o56 (text_of parts.operand) then said
+    (codes "a fraction of a word comes to less than 1 in 14 bits, and @ does not")
     else if is_decimal parts.role then said (codes "a word holds -16383 to 16383, and @ is beyond")
     else if takes_nothing parts.role then said (codes "% goes to the next word, and this is the last of its bank")
     else if is_some parts.offset || is_signed (text_of parts.operand) then said (codes "this leads out of its bank, or of the numbers")
@@ -354,7 +393,8 @@ cause_of_kind near text parts place NotAscii = byte_cause text place
 cause_of_kind near text parts place LongLine = long_cause text
 cause_of_kind near text parts place TooManyLines = said (meaning 12)
 cause_of_kind near text parts place BadLabel = label_cause parts
-cause_of_kind near text parts place TwiceDefined = if near then said (codes "line ~ has the label & already") else said (codes "an earlier line has the label &")
+cause_of_kind near text parts place TwiceDefined = if near then said (codes "line ~ has the label & already") else said
+    (codes "an earlier line has the label &")
 cause_of_kind near text parts place UnknownOperator = operator_cause parts
 cause_of_kind near text parts place BadOperand = operand_cause parts
 cause_of_kind near text parts place Undefined = undefined_cause near parts
@@ -363,7 +403,8 @@ cause_of_kind near text parts place BadBank = bank_cause parts
 cause_of_kind near text parts place BankFull = room_cause parts
 cause_of_kind near text parts place PlaceTaken = if near then said (codes "line ~ has a word at this place already") else said (meaning 21)
 cause_of_kind near text parts place CodeInErasable = cured (meaning 22) (codes "SETLOC and a fixed place, or BANK, before it")
-cause_of_kind near text parts place NeedsExtend = cured (codes "% is an extracode, and EXTEND does not stand before it") (codes "EXTEND on the line before, behind a blank")
+cause_of_kind near text parts place NeedsExtend = cured (codes "% is an extracode, and EXTEND does not stand before it")
+    (codes "EXTEND on the line before, behind a blank")
 cause_of_kind near text parts place NotExtracode = cured (codes "EXTEND stands before %, which is no extracode") (codes "take EXTEND out")
 cause_of_kind near text parts place WrongKindOfAddress = kind_cause parts
 cause_of_kind near text parts place OutOfRange = range_cause parts
@@ -375,8 +416,11 @@ fault_cause near text parts f = cause_of_kind near text parts f.span.start f.kin
 -- 2: a number that is read as a register; some operators take no constant, which stands in fixed memory
 abbrev pub number_cause : Parts → Cause
 number_cause parts =
-    if reads_erasable parts.role then cured (codes "an operand is an address: @ is the register or the counter at place @, and not the number") (codes "the number has a line of its own, behind the last jump: NAME OCT @, and CA NAME and TS copy it to where % takes it")
-    else cured (codes "an operand is an address: @ is the register or the counter at place @, and not the number") (codes "the number has a line of its own, behind the last jump: NAME OCT @ (or DEC and decimal digits), and here % NAME")
+    if reads_erasable parts.role then cured
+    (codes "an operand is an address: @ is the register or the counter at place @, and not the number")
+    (codes "the number has a line of its own, behind the last jump: NAME OCT @, and CA NAME and TS copy it to where % takes it")
+    else cured (codes "an operand is an address: @ is the register or the counter at place @, and not the number")
+    (codes "the number has a line of its own, behind the last jump: NAME OCT @ (or DEC and decimal digits), and here % NAME")
 
 -- a warning of a line with some fields in words
 abbrev pub warning_cause : Parts → ℕ → Cause
@@ -384,11 +428,17 @@ warning_cause parts number =
     if number == 1 then cured (codes "& is an operator's name, and in the first column it is a label") (codes "put a blank before &")
     else if number == 2 then number_cause parts
     else if number == 3 then cured (codes "% takes two words, and ERASE reserves one for @") (codes "@ ERASE +1 reserves two")
-    else if number == 4 then cured (codes "after % the program runs on to a constant, or where no word stands") (codes "TCF or RETURN behind it, and constants elsewhere")
-    else if number == 5 then cured (codes "a vector has four words, and with this one the next vector begins") (codes "TCF as the fourth, and the routine elsewhere")
-    else if number == 6 then cured (codes "@ stands in a switched erasable bank, and no line sets EB") (codes "NAME ECADR @ on a line of its own; before this CA NAME, and TS 3, which is EB")
-    else if number == 7 then cured_by (codes "& is a register's name, and stands for another place here") (codes "& EQUALS ! is the register") (unwrap_or (value_in registers (text_of parts.label)) [])
+    else if number == 4 then cured (codes "after % the program runs on to a constant, or where no word stands")
+    (codes "TCF or RETURN behind it, and constants elsewhere")
+    else if number == 5 then cured (codes "a vector has four words, and with this one the next vector begins")
+    (codes "TCF as the fourth, and the routine elsewhere")
+    else if number == 6 then cured (codes "@ stands in a switched erasable bank, and no line sets EB")
+    (codes "NAME ECADR @ on a line of its own; before this CA NAME, and TS 3, which is EB")
+    else if number == 7 then cured_by (codes "& is a register's name, and stands for another place here")
+    (codes "& EQUALS ! is the register") (unwrap_or (value_in registers (text_of parts.label)) [])
     else if number == 8 then said (codes "no operand names &")
-    else if number == 9 then cured (codes "@ stands in a switched bank of fixed memory, and no line sets FB") (codes "NAME FCADR @ on a line of its own; before this CA NAME, and TS 4, which is FB; for banks 40 to 43 WRITE 7 of 100 too")
-    else if number == 10 then cured (codes "channel @ is a register, L or Q, and nothing goes out") (codes "another channel, or, where the register is meant, its name: L EQUALS 1, Q EQUALS 2")
+    else if number == 9 then cured (codes "@ stands in a switched bank of fixed memory, and no line sets FB")
+    (codes "NAME FCADR @ on a line of its own; before this CA NAME, and TS 4, which is FB; for banks 40 to 43 WRITE 7 of 100 too")
+    else if number == 10 then cured (codes "channel @ is a register, L or Q, and nothing goes out")
+    (codes "another channel, or, where the register is meant, its name: L EQUALS 1, Q EQUALS 2")
     else said []

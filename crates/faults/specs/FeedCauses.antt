@@ -6,7 +6,8 @@ use Rattle.feed.specs.Names.{counters}
 use Rattle.feed.specs.declared.input.Counter.{Counter}
 use Rattle.feed.specs.declared.input.Sequence.TheVariants.{Dinc, Minc, Pcdu, Shinc}
 use Rattle.feed.specs.declared.slip.Why.{Why}
-use Rattle.feed.specs.declared.slip.Why.TheVariants.{Taken, Cycle, First, Factor, MissingFactor, Name, Channel, Word, Request, NotTaken, Missing, Surplus}
+use Rattle.feed.specs.declared.slip.Why.TheVariants.{Taken, Cycle, First, Factor, MissingFactor, Name, Channel, Word, Request, NotTaken}
+use Rattle.feed.specs.declared.slip.Why.TheVariants.{Missing, Surplus}
 use Rattle.faults.specs.Causes.{Cause, cured, cured_by, is_beyond_octal, is_in_capitals, near_name, said}
 use Rattle.faults.specs.Refusals.{meaning}
 use Rattle.faults.specs.Warnings.{is_among}
@@ -30,12 +31,14 @@ cycle_cause text =
 
 -- what stands for FIRST of a series
 abbrev pub first_cause : List ℕ → Cause
-first_cause text = if is_among input_names text then cured (codes "a number is missing before ~") (codes "EVERY FIRST NUM DEN COUNT, and an input without its cycle") else cycle_cause text
+first_cause text = if is_among input_names text then cured (codes "a number is missing before ~")
+    (codes "EVERY FIRST NUM DEN COUNT, and an input without its cycle") else cycle_cause text
 
 -- what stands for NUM, DEN or COUNT of a series
 abbrev pub factor_cause : List ℕ → Cause
 factor_cause text =
-    if is_among input_names text then cured (codes "a number is missing before ~") (codes "EVERY FIRST NUM DEN COUNT, and an input without its cycle")
+    if is_among input_names text then cured (codes "a number is missing before ~")
+    (codes "EVERY FIRST NUM DEN COUNT, and an input without its cycle")
     else if not (is_decimal text) then said (codes "~ is no number, which is 1 to 9 decimal digits")
     else if nat_le (length text) 9 then said (codes "NUM, DEN and COUNT are 1 or more")
     else said (codes "NUM, DEN and COUNT have 9 digits at most")
@@ -43,8 +46,10 @@ factor_cause text =
 -- what stands for CHAN, RUPT or a counter
 abbrev pub name_cause : List ℕ → Cause
 name_cause text =
-    if is_decimal text then cured (codes "~ stands where CHAN, RUPT or a counter does") (codes "one cycle stands before an input, and none before that of a series")
-    else if is_some (near_name input_names text) then cured_by (codes "~ is no counter, and neither CHAN nor RUPT") (codes "did you mean !?") (unwrap_or (near_name input_names text) [])
+    if is_decimal text then cured (codes "~ stands where CHAN, RUPT or a counter does")
+    (codes "one cycle stands before an input, and none before that of a series")
+    else if is_some (near_name input_names text) then cured_by (codes "~ is no counter, and neither CHAN nor RUPT")
+    (codes "did you mean !?") (unwrap_or (near_name input_names text) [])
     else said (codes "~ is no counter, and neither CHAN nor RUPT")
 
 abbrev pub channel_cause : List ℕ → Cause

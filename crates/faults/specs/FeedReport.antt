@@ -1,5 +1,6 @@
 -- The first fault of a feed as lines of text.
-use Rattle.std.specs.Prelude.{ℕ, ◌+◌, ◌-◌, ◌==◌, ◌&&◌, not, Bool, nat_lt, List, [], ◌∷◌, ◌++◌, length, codes, decimal, Option, Some, None, Result, Ok, Err, slice_get, if◌then◌else◌}
+use Rattle.std.specs.Prelude.{ℕ, ◌+◌, ◌-◌, ◌==◌, ◌&&◌, not, Bool, nat_lt, List, [], ◌∷◌, ◌++◌, length, codes, decimal, Option, Some, None}
+use Rattle.std.specs.Prelude.{Result, Ok, Err, slice_get, if◌then◌else◌}
 use Rattle.std.specs.List.{list_all}
 use Rattle.std.specs.Option.{option_map_or}
 use Rattle.agc_text.specs.Bytes.{is_text_byte, line_length}
@@ -10,7 +11,8 @@ use Rattle.feed.specs.Slips.{line_slip}
 use Rattle.feed.specs.declared.entry.Entry.{Entry}
 use Rattle.feed.specs.declared.fault.FeedFault.{FeedFault}
 use Rattle.feed.specs.declared.slip.Slip.{Slip}
-use Rattle.feed.specs.declared.fault.FeedFault.TheVariants.{NoMemory, ReadFailed, BadLine, OutOfOrder, TooMany, WrongCounter, TooLong, TooManySeries}
+use Rattle.feed.specs.declared.fault.FeedFault.TheVariants.{NoMemory, ReadFailed, BadLine, OutOfOrder, TooMany, WrongCounter, TooLong}
+use Rattle.feed.specs.declared.fault.FeedFault.TheVariants.{TooManySeries}
 use Rattle.yayul.specs.Survey.{span_of, wrong_place}
 use Rattle.yayul.specs.declared.finding.Span.{Span}
 use Rattle.yayul.specs.Readings.{Parts, parts_for}
@@ -46,15 +48,18 @@ slipped text slip = wrong_field text slip.field (slip_cause slip.why (text_of (s
 -- a line that is no input and no series, or whose counter does not take the sequence
 abbrev pub wrong_line : List ℕ → Wrong
 wrong_line text =
-    if not (list_all is_text_byte text) then record { span = record { start = wrong_place text; width = 1 }; beside = []; cause = byte_cause text (wrong_place text) }
-    else if nat_lt line_length (length text) then record { span = record { start = line_length; width = length text - line_length }; beside = []; cause = long_cause text }
+    if not (list_all is_text_byte text) then record
+    { span = record { start = wrong_place text; width = 1 }; beside = []; cause = byte_cause text (wrong_place text) }
+    else if nat_lt line_length (length text) then record
+    { span = record { start = line_length; width = length text - line_length }; beside = []; cause = long_cause text }
     else slipped text (line_slip (texts (fields text)))
 
 -- an input stands on a line of a number before another
 abbrev pub is_earlier_input : ℕ → ℕ → List ℕ → Bool
 is_earlier_input line end text = nat_lt line end && is_input text
 
--- the number of the last line with an input before another, of some lines the first of which has a number; else a number that is told so far
+-- the number of the last line with an input before another, of some lines the first of which has a number; else a number that is told so
+-- far
 abbrev pub last_before : ℕ → ℕ → ℕ → List (List ℕ) → ℕ
 last_before end line last [] = last
 last_before end line last (text ∷ texts) = last_before end (line + 1) (if is_earlier_input line end text then line else last) texts
@@ -72,7 +77,8 @@ abbrev pub early_line : List ℕ → List ℕ → Wrong
 early_line text digits = record {
   span = field_span text 0;
   beside = digits;
-  cause = cured (codes "the cycle is below that of the input before it, on line ~") (codes "inputs stand in the order of their cycles, and EVERY anywhere");
+  cause = cured (codes "the cycle is below that of the input before it, on line ~")
+      (codes "inputs stand in the order of their cycles, and EVERY anywhere");
 }
 
 abbrev pub early : List (List ℕ) → ℕ → Wrong
@@ -85,10 +91,12 @@ earlier_place texts line = place_of Standard texts (last_before line 1 0 texts)
 -- the lines of a fault of a number on a line, which has a number too and some fields
 unfoldable pub wrong_at : Notation → List ℕ → List ℕ → Parts → ℕ → ℕ → Wrong → Option Place → List ℕ
 wrong_at notation name text parts line number wrong other =
-    told_in notation name text parts wrong.beside other (record { severity = Severity.Error; number = number; line = line; span = wrong.span }) wrong.cause
+    told_in notation name text parts wrong.beside other
+    (record { severity = Severity.Error; number = number; line = line; span = wrong.span }) wrong.cause
 
 abbrev pub wrong_text : Notation → List ℕ → List (List ℕ) → ℕ → ℕ → Wrong → Option Place → List ℕ
-wrong_text notation name texts line number wrong other = wrong_at notation name (text_at texts line) (parts_for Standard (text_at texts line)) line number wrong other
+wrong_text notation name texts line number wrong other = wrong_at notation name (text_at texts line)
+    (parts_for Standard (text_at texts line)) line number wrong other
 
 -- the line that has one input too many
 abbrev pub surplus_line : List (List ℕ) → ℕ
@@ -100,10 +108,13 @@ fault_text notation name texts NoMemory = []
 fault_text notation name texts ReadFailed = []
 fault_text notation name texts TooLong = []
 fault_text notation name texts (BadLine line) = wrong_text notation name texts line 30 (wrong_line (text_at texts line)) None
-fault_text notation name texts (OutOfOrder line) = wrong_text notation name texts line 31 (early texts line) (Some (earlier_place texts line))
-fault_text notation name texts TooMany = wrong_text notation name texts (surplus_line texts) 32 (wrong_field (text_at texts (surplus_line texts)) 0 (said (meaning 32))) None
+fault_text notation name texts (OutOfOrder line) = wrong_text notation name texts line 31 (early texts line)
+    (Some (earlier_place texts line))
+fault_text notation name texts TooMany = wrong_text notation name texts (surplus_line texts) 32
+    (wrong_field (text_at texts (surplus_line texts)) 0 (said (meaning 32))) None
 fault_text notation name texts (WrongCounter line) = wrong_text notation name texts line 33 (wrong_line (text_at texts line)) None
-fault_text notation name texts (TooManySeries line) = wrong_text notation name texts line 35 (wrong_field (text_at texts line) 0 (said (meaning 35))) None
+fault_text notation name texts (TooManySeries line) = wrong_text notation name texts line 35
+    (wrong_field (text_at texts line) 0 (said (meaning 35))) None
 
 -- ## A feed
 -- the first fault of a feed
@@ -113,7 +124,8 @@ fault_of (Err fault) = Some fault
 
 -- what is told of a feed: its first fault, and that it is of another kind; nothing of one without a fault
 unfoldable pub feed_report : Notation → List ℕ → List ℕ → List ℕ
-feed_report notation name text = option_map_or (λ fault. fault_text notation name (lines text) fault ++ kind_of_feed notation name text) (fault_of (inputs text)) []
+feed_report notation name text = option_map_or (λ fault. fault_text notation name (lines text) fault ++ kind_of_feed notation name text)
+    (fault_of (inputs text)) []
 
 -- how many faults are told of a feed
 unfoldable pub feed_faults : List ℕ → ℕ

@@ -1,5 +1,5 @@
--- What a fault of a flight source is in words, where these are others than those of the standard language: of a form that is not taken, since what yaYUL makes of it is not known for sure, that
--- this is so.
+-- What a fault of a flight source is in words, where these are others than those of the standard language: of a form that is not taken,
+-- since what yaYUL makes of it is not known for sure, that this is so.
 use Rattle.std.specs.Prelude.{ℕ, ◌&&◌, not, Bool, true, false, nat_le, nat_lt, List, [], ◌∷◌, codes, is_some, unwrap_or, if◌then◌else◌}
 use Rattle.std.specs.Option.{option_map_or}
 use Rattle.agc_text.specs.Digits.{digits_value}
@@ -7,11 +7,13 @@ use Rattle.agc_text.specs.Tables.{same_name, value_in}
 use Rattle.yayul.specs.Flight.{is_count}
 use Rattle.yayul.specs.FlightForms.{has_flight_form}
 use Rattle.yayul.specs.declared.faults.FaultKind.{FaultKind}
-use Rattle.yayul.specs.declared.faults.FaultKind.TheVariants.{BadLabel, BadOperand, LongLine, OutOfRange, TooManyLines, UnknownOperator, UsedTooEarly, WrongKindOfAddress}
+use Rattle.yayul.specs.declared.faults.FaultKind.TheVariants.{BadLabel, BadOperand, LongLine, OutOfRange, TooManyLines, UnknownOperator}
+use Rattle.yayul.specs.declared.faults.FaultKind.TheVariants.{UsedTooEarly, WrongKindOfAddress}
 use Rattle.yayul.specs.declared.finding.Finding.{Finding}
 use Rattle.yayul.specs.declared.language.Language.{Language}
 use Rattle.yayul.specs.declared.language.Language.TheVariants.{Flight, Standard}
-use Rattle.faults.specs.Roles.{is_count_complement, is_decimal_pair, is_equals, is_erase, is_octal, is_octal_pair, is_read_fixed, is_verb_noun, names_bank, refuses_label, takes_decimal, takes_low_bank}
+use Rattle.faults.specs.Roles.{is_count_complement, is_decimal_pair, is_equals, is_erase, is_octal, is_octal_pair, is_read_fixed}
+use Rattle.faults.specs.Roles.{is_verb_noun, names_bank, refuses_label, takes_decimal, takes_low_bank}
 use Rattle.yayul.specs.Readings.{Parts}
 use Rattle.faults.specs.Causes.{Cause, begins, cured, fault_cause, has_foreign_comment, holds, is_signed, said, symbol_cause, text_of}
 use Rattle.faults.specs.Warnings.{is_short}
@@ -52,9 +54,11 @@ has_signed_label parts = is_signed (text_of parts.label) && not (refuses_label p
 -- E16 of a decimal constant
 abbrev pub decimal_cause : Parts → Cause
 decimal_cause parts =
-    if holds 0o52 (text_of parts.offset) then cured (codes "a scale with a star is not taken: what yaYUL makes of it is not known for sure") (codes "work the constant out, and write it by OCT")
+    if holds 0o52 (text_of parts.offset) then cured (codes "a scale with a star is not taken: what yaYUL makes of it is not known for sure")
+    (codes "work the constant out, and write it by OCT")
     else if is_decimal_pair parts.role && is_some (digits_value 10 (text_of parts.operand)) && not (is_some parts.offset) then
-    cured (codes "2DEC without a point and without B is not taken: what yaYUL makes of it is not known for sure") (codes "B-28 behind @ makes @ the lower word")
+    cured (codes "2DEC without a point and without B is not taken: what yaYUL makes of it is not known for sure")
+    (codes "B-28 behind @ makes @ the lower word")
     else said (codes "this is no decimal constant, as .75, 5 B-14 and 1.5 E3 B-14 are")
 
 -- an operator that takes octal digits, without an offset
@@ -69,7 +73,8 @@ has_signed_alone parts = is_signed (text_of parts.operand) && not (is_count (tex
 abbrev pub form_cause : Bool → List ℕ → Parts → Finding → Cause
 form_cause near text parts f =
     if takes_decimal parts.role then decimal_cause parts
-    else if has_octal_alone parts then cured (codes "% takes octal digits, 0 to 7, or a sign and such digits, and @ is neither") (codes "DEC takes decimal digits")
+    else if has_octal_alone parts then cured (codes "% takes octal digits, 0 to 7, or a sign and such digits, and @ is neither")
+    (codes "DEC takes decimal digits")
     else if is_octal_pair parts.role then said (codes "2OCT takes ten octal digits, 0 to 7, in one field")
     else if is_verb_noun parts.role then said (codes "VN takes four decimal digits, two of the verb and two of the noun")
     else if has_signed_alone parts then said (codes "@ is no symbol, which has 8 characters at most, and no number")
@@ -80,31 +85,37 @@ abbrev pub flight_operand_cause : Bool → List ℕ → Parts → Finding → Ca
 flight_operand_cause near text parts f =
     if has_foreign_comment parts then fault_cause near text parts f
     else if is_erase parts.role then
-    cured (codes "ERASE takes nothing, or a plus sign and a number: what yaYUL makes of a range is not known for sure") (codes "ERASE reserves one word, ERASE +1 two")
-    else if names_bank parts.role && not (is_some parts.operand) then said (codes "% without a bank goes on in that of the location, which is in erasable memory")
+    cured (codes "ERASE takes nothing, or a plus sign and a number: what yaYUL makes of a range is not known for sure")
+    (codes "ERASE reserves one word, ERASE +1 two")
+    else if names_bank parts.role && not (is_some parts.operand) then said
+    (codes "% without a bank goes on in that of the location, which is in erasable memory")
     else if not (is_some parts.operand) then fault_cause near text parts f
     else form_cause near text parts f
 
 -- E18 of a name that waits
 abbrev pub waiting_cause : Bool → Parts → Cause
-waiting_cause near parts = symbol_cause (codes "@ has no value: no line defines it, or names wait for one another in a circle, or in a chain of more than eight") near parts
+waiting_cause near parts = symbol_cause
+    (codes "@ has no value: no line defines it, or names wait for one another in a circle, or in a chain of more than eight") near parts
 
 -- E25 of operators that flight sources alone have
 abbrev pub flight_kind_cause : Bool → List ℕ → Parts → Finding → Cause
 flight_kind_cause near text parts f =
     if is_read_fixed parts.role && is_some (digits_value 8 (text_of parts.operand)) then
     cured (codes "CAF of an erasable place is not taken: what yaYUL makes of it is not known for sure") (codes "CA @")
-    else if takes_low_bank parts.role then said (codes "% takes a fixed place of a bank below 30, and @^ is none: what yaYUL adds from bank 30 on is not known for sure")
+    else if takes_low_bank parts.role then said
+    (codes "% takes a fixed place of a bank below 30, and @^ is none: what yaYUL adds from bank 30 on is not known for sure")
     else if is_count_complement parts.role then said (codes "% takes a word of erasable memory, and @^ is not there")
     else fault_cause near text parts f
 
 -- octal digits of an address in the window, moved back
 abbrev pub is_moved_back : Parts → Bool
-is_moved_back parts = option_map_or (λ n. nat_lt n 0o10000) (digits_value 8 (text_of parts.operand)) false && begins 0o55 (text_of parts.offset)
+is_moved_back parts = option_map_or (λ n. nat_lt n 0o10000) (digits_value 8 (text_of parts.operand)) false
+    && begins 0o55 (text_of parts.offset)
 
 -- octal digits that name no place, between those of bank 1 and those of bank 4
 abbrev pub is_between_banks : Parts → Bool
-is_between_banks parts = option_map_or (λ n. nat_le 0o14000 n && nat_lt n 0o20000) (digits_value 8 (text_of parts.operand)) false && not (is_some parts.offset)
+is_between_banks parts = option_map_or (λ n. nat_le 0o14000 n && nat_lt n 0o20000) (digits_value 8 (text_of parts.operand)) false
+    && not (is_some parts.offset)
 
 -- E26: a number out of its range
 abbrev pub flight_range_cause : Bool → List ℕ → Parts → Finding → Cause
@@ -123,7 +134,8 @@ flight_label_cause near text parts f = if has_signed_label parts then signed_lab
 abbrev pub flight_operator_cause : Bool → List ℕ → Parts → Finding → Cause
 flight_operator_cause near text parts f =
     if is_some (value_in unsure_operators (text_of parts.operator)) then
-    cured (codes "% is not taken: what yaYUL makes of it is not known for sure") (unwrap_or (value_in unsure_operators (text_of parts.operator)) [])
+    cured (codes "% is not taken: what yaYUL makes of it is not known for sure")
+    (unwrap_or (value_in unsure_operators (text_of parts.operator)) [])
     else if compares parts then cured (codes "% is not taken") (codes "SYMBOLS in the listing has the values of & and @")
     else fault_cause near text parts f
 

@@ -16,25 +16,35 @@ use Rattle.faults.specs.Shown.{text_at}
 use Rattle.faults.specs.Warnings.{has_operator}
 
 -- ## Operators
--- the operators of the interpretive language that are known for sure: those that store, those that load, those of numbers, those of vectors, those that shift, those that go on elsewhere,
--- those of switches, and those of index registers
+-- the operators of the interpretive language that are known for sure: those that store, those that load, those of numbers, those of
+-- vectors, those that shift, those that go on elsewhere, those of switches, and those of index registers
 abbrev pub interpretive_operators : List (List ℕ)
 interpretive_operators =
     codes "STORE" ∷ codes "STCALL" ∷ codes "STODL" ∷ codes "STODL*" ∷ codes "STOVL" ∷ codes "STOVL*" ∷
-    codes "DLOAD" ∷ codes "DLOAD*" ∷ codes "SLOAD" ∷ codes "SLOAD*" ∷ codes "TLOAD" ∷ codes "VLOAD" ∷ codes "VLOAD*" ∷ codes "PDDL" ∷ codes "PDDL*" ∷ codes "PDVL" ∷ codes "PDVL*" ∷ codes "PUSH" ∷ codes "SETPD" ∷ codes "STADR" ∷
-    codes "DAD" ∷ codes "DAD*" ∷ codes "TAD" ∷ codes "DSU" ∷ codes "DSU*" ∷ codes "BDSU" ∷ codes "BDSU*" ∷ codes "DMP" ∷ codes "DMP*" ∷ codes "DMPR" ∷ codes "DDV" ∷ codes "DDV*" ∷ codes "BDDV" ∷ codes "DSQ" ∷ codes "SQRT" ∷
-    codes "SIN" ∷ codes "SINE" ∷ codes "COS" ∷ codes "COSINE" ∷ codes "ASIN" ∷ codes "ARCSIN" ∷ codes "ACOS" ∷ codes "ARCCOS" ∷ codes "DCOMP" ∷ codes "ABS" ∷ codes "SIGN" ∷ codes "ROUND" ∷ codes "NORM" ∷
-    codes "VAD" ∷ codes "VAD*" ∷ codes "VSU" ∷ codes "VSU*" ∷ codes "BVSU" ∷ codes "BVSU*" ∷ codes "VXSC" ∷ codes "VXSC*" ∷ codes "V/SC" ∷ codes "VXV" ∷ codes "VXV*" ∷ codes "DOT" ∷ codes "DOT*" ∷ codes "VPROJ" ∷
+    codes "DLOAD" ∷ codes "DLOAD*" ∷ codes "SLOAD" ∷ codes "SLOAD*" ∷ codes "TLOAD" ∷ codes "VLOAD" ∷ codes "VLOAD*" ∷ codes "PDDL"
+    ∷ codes "PDDL*" ∷ codes "PDVL" ∷ codes "PDVL*" ∷ codes "PUSH" ∷ codes "SETPD" ∷ codes "STADR" ∷
+    codes "DAD" ∷ codes "DAD*" ∷ codes "TAD" ∷ codes "DSU" ∷ codes "DSU*" ∷ codes "BDSU" ∷ codes "BDSU*" ∷ codes "DMP" ∷ codes "DMP*"
+    ∷ codes "DMPR" ∷ codes "DDV" ∷ codes "DDV*" ∷ codes "BDDV" ∷ codes "DSQ" ∷ codes "SQRT" ∷
+    codes "SIN" ∷ codes "SINE" ∷ codes "COS" ∷ codes "COSINE" ∷ codes "ASIN" ∷ codes "ARCSIN" ∷ codes "ACOS" ∷ codes "ARCCOS"
+    ∷ codes "DCOMP" ∷ codes "ABS" ∷ codes "SIGN" ∷ codes "ROUND" ∷ codes "NORM" ∷
+    codes "VAD" ∷ codes "VAD*" ∷ codes "VSU" ∷ codes "VSU*" ∷ codes "BVSU" ∷ codes "BVSU*" ∷ codes "VXSC" ∷ codes "VXSC*" ∷ codes "V/SC"
+    ∷ codes "VXV" ∷ codes "VXV*" ∷ codes "DOT" ∷ codes "DOT*" ∷ codes "VPROJ" ∷
     codes "VXM" ∷ codes "VXM*" ∷ codes "MXV" ∷ codes "MXV*" ∷ codes "UNIT" ∷ codes "ABVAL" ∷ codes "VCOMP" ∷ codes "VSQ" ∷ codes "VDEF" ∷
-    codes "SL" ∷ codes "SL*" ∷ codes "SLR" ∷ codes "SR" ∷ codes "SR*" ∷ codes "SRR" ∷ codes "SL1" ∷ codes "SL2" ∷ codes "SL3" ∷ codes "SL4" ∷ codes "SR1" ∷ codes "SR2" ∷ codes "SR3" ∷ codes "SR4" ∷
-    codes "SL1R" ∷ codes "SL2R" ∷ codes "SL3R" ∷ codes "SL4R" ∷ codes "SR1R" ∷ codes "SR2R" ∷ codes "SR3R" ∷ codes "SR4R" ∷ codes "VSL" ∷ codes "VSL*" ∷ codes "VSR" ∷ codes "VSR*" ∷
+    codes "SL" ∷ codes "SL*" ∷ codes "SLR" ∷ codes "SR" ∷ codes "SR*" ∷ codes "SRR" ∷ codes "SL1" ∷ codes "SL2" ∷ codes "SL3" ∷ codes "SL4"
+    ∷ codes "SR1" ∷ codes "SR2" ∷ codes "SR3" ∷ codes "SR4" ∷
+    codes "SL1R" ∷ codes "SL2R" ∷ codes "SL3R" ∷ codes "SL4R" ∷ codes "SR1R" ∷ codes "SR2R" ∷ codes "SR3R" ∷ codes "SR4R" ∷ codes "VSL"
+    ∷ codes "VSL*" ∷ codes "VSR" ∷ codes "VSR*" ∷
     codes "VSL1" ∷ codes "VSL2" ∷ codes "VSL3" ∷ codes "VSL4" ∷ codes "VSL5" ∷ codes "VSL6" ∷ codes "VSL7" ∷ codes "VSL8" ∷
     codes "VSR1" ∷ codes "VSR2" ∷ codes "VSR3" ∷ codes "VSR4" ∷ codes "VSR5" ∷ codes "VSR6" ∷ codes "VSR7" ∷ codes "VSR8" ∷
-    codes "GOTO" ∷ codes "GOTO*" ∷ codes "CALL" ∷ codes "CALL*" ∷ codes "CGOTO" ∷ codes "CCALL" ∷ codes "RTB" ∷ codes "RVQ" ∷ codes "STQ" ∷ codes "EXIT" ∷
+    codes "GOTO" ∷ codes "GOTO*" ∷ codes "CALL" ∷ codes "CALL*" ∷ codes "CGOTO" ∷ codes "CCALL" ∷ codes "RTB" ∷ codes "RVQ" ∷ codes "STQ"
+    ∷ codes "EXIT" ∷
     codes "BPL" ∷ codes "BMN" ∷ codes "BZE" ∷ codes "BHIZ" ∷ codes "BOV" ∷ codes "BOVB" ∷
-    codes "SET" ∷ codes "CLEAR" ∷ codes "CLR" ∷ codes "INVERT" ∷ codes "SETGO" ∷ codes "CLRGO" ∷ codes "BON" ∷ codes "BOFF" ∷ codes "BONSET" ∷ codes "BONCLR" ∷ codes "BONINV" ∷ codes "BOFSET" ∷ codes "BOFCLR" ∷ codes "BOFINV" ∷
-    codes "AXT,1" ∷ codes "AXT,2" ∷ codes "AXC,1" ∷ codes "AXC,2" ∷ codes "LXA,1" ∷ codes "LXA,2" ∷ codes "LXC,1" ∷ codes "LXC,2" ∷ codes "SXA,1" ∷ codes "SXA,2" ∷ codes "XCHX,1" ∷ codes "XCHX,2" ∷
-    codes "INCR,1" ∷ codes "INCR,2" ∷ codes "XAD,1" ∷ codes "XAD,2" ∷ codes "XSU,1" ∷ codes "XSU,2" ∷ codes "TIX,1" ∷ codes "TIX,2" ∷ codes "SSP" ∷ []
+    codes "SET" ∷ codes "CLEAR" ∷ codes "CLR" ∷ codes "INVERT" ∷ codes "SETGO" ∷ codes "CLRGO" ∷ codes "BON" ∷ codes "BOFF" ∷ codes "BONSET"
+    ∷ codes "BONCLR" ∷ codes "BONINV" ∷ codes "BOFSET" ∷ codes "BOFCLR" ∷ codes "BOFINV" ∷
+    codes "AXT,1" ∷ codes "AXT,2" ∷ codes "AXC,1" ∷ codes "AXC,2" ∷ codes "LXA,1" ∷ codes "LXA,2" ∷ codes "LXC,1" ∷ codes "LXC,2"
+    ∷ codes "SXA,1" ∷ codes "SXA,2" ∷ codes "XCHX,1" ∷ codes "XCHX,2" ∷
+    codes "INCR,1" ∷ codes "INCR,2" ∷ codes "XAD,1" ∷ codes "XAD,2" ∷ codes "XSU,1" ∷ codes "XSU,2" ∷ codes "TIX,1" ∷ codes "TIX,2"
+    ∷ codes "SSP" ∷ []
 
 -- ## Lines
 -- the fields of a line of a flight source, by its number

@@ -1,5 +1,6 @@
 -- What is said of a file that is of another kind than the one that is asked for.
-use Rattle.std.specs.Prelude.{ℕ, ◌==◌, ◌&&◌, ◌||◌, not, Bool, false, List, [], ◌∷◌, ◌++◌, length, codes, is_ok, is_some, unwrap_or, if◌then◌else◌}
+use Rattle.std.specs.Prelude.{ℕ, ◌==◌, ◌&&◌, ◌||◌, not, Bool, false, List, [], ◌∷◌, ◌++◌, length, codes, is_ok, is_some, unwrap_or}
+use Rattle.std.specs.Prelude.{if◌then◌else◌}
 use Rattle.std.specs.List.{find, list_any}
 use Rattle.agc_text.specs.Fields.{fields, texts}
 use Rattle.agc_text.specs.Lines.{lines}
@@ -55,6 +56,7 @@ kind_of_source notation name text =
 -- a file with a fault that is no feed: an image, or a source
 unfoldable pub kind_of_feed : Notation → List ℕ → List ℕ → List ℕ
 kind_of_feed notation name text =
-    if is_image text then note notation name (codes "this is a rope image, and no feed: run, trace, cover and debug take it with --image, before the feed")
+    if is_image text then note notation name
+    (codes "this is a rope image, and no feed: run, trace, cover and debug take it with --image, before the feed")
     else if is_of_source (first_said (lines text)) then note notation name (codes "this is a source, and no feed: it stands first")
     else []

@@ -1,5 +1,6 @@
 -- Which cures are an edit of the text, and which edit each is.
-use Rattle.std.specs.Prelude.{ℕ, ◌+◌, ◌-◌, ◌==◌, ◌||◌, min, nat_le, Bool, true, false, List, length, drop, codes, Option, None, Some, slice_get, option_and_then, if◌then◌else◌}
+use Rattle.std.specs.Prelude.{ℕ, ◌+◌, ◌-◌, ◌==◌, ◌||◌, min, nat_le, Bool, true, false, List, length, drop, codes, Option, None, Some}
+use Rattle.std.specs.Prelude.{slice_get, option_and_then, if◌then◌else◌}
 use Rattle.std.specs.List.{find, position_or_len}
 use Rattle.std.specs.Option.{option_map, option_map_or, option_or}
 use Rattle.agc_text.specs.Fields.{Piece, fields}
@@ -10,7 +11,8 @@ use Rattle.faults.specs.Roles.{stores}
 use Rattle.yayul.specs.Readings.{Parts}
 use Rattle.faults.specs.Causes.{is_beyond_octal, is_foreign_comment, text_of}
 use Rattle.faults.specs.declared.mending.At.{At}
-use Rattle.faults.specs.declared.mending.At.TheVariants.{BeforeComment, BeforeLine, BeforeSign, BeforeSource, BehindOffset, BehindOperand, Blamed, DecimalOperator, Indent, Operand, Operator, OrderMark}
+use Rattle.faults.specs.declared.mending.At.TheVariants.{BeforeComment, BeforeLine, BeforeSign, BeforeSource, BehindOffset, BehindOperand}
+use Rattle.faults.specs.declared.mending.At.TheVariants.{Blamed, DecimalOperator, Indent, Operand, Operator, OrderMark}
 
 -- an edit that mends a finding: where it stands, what is put there, with marks as in a cause, and whether it is what was meant for sure
 pub record Mend : Type 0 where
@@ -40,7 +42,8 @@ abbrev pub line_mend : List ℕ → Option Mend
 line_mend cure =
     if same_name cure (codes "put a blank before &") then Some (sure BeforeLine (codes "        "))
     else if same_name cure (codes "EXTEND on the line before, behind a blank") then Some (sure BeforeLine (codes "        EXTEND\n"))
-    else if same_name cure (codes "no register has a name beforehand; this line gives it one: @ EQUALS !") then Some (sure BeforeSource (codes "@ EQUALS !\n"))
+    else if same_name cure (codes "no register has a name beforehand; this line gives it one: @ EQUALS !") then Some
+    (sure BeforeSource (codes "@ EQUALS !\n"))
     else if same_name cure (codes "a label begins in the first column: no blank before %") then Some (unsure Indent (codes ""))
     else if same_name cure (codes "tail -c +4 FILE > NEW") then Some (sure OrderMark (codes ""))
     else None
@@ -83,7 +86,8 @@ meant_mend cure meant = if same_name cure (codes "!") then foreign_mend meant el
 
 -- the edit that a cure is, in which another text may stand; none where it is no edit of the text
 unfoldable pub mend_of : List ℕ → List ℕ → Option Mend
-mend_of cure meant = option_or (name_mend cure) (option_or (line_mend cure) (option_or (operand_mend cure) (option_or (operator_mend cure) (meant_mend cure meant))))
+mend_of cure meant = option_or (name_mend cure)
+    (option_or (line_mend cure) (option_or (operand_mend cure) (option_or (operator_mend cure) (meant_mend cure meant))))
 
 -- ## Places
 -- the line that an edit stands on, of a finding on a line
@@ -134,7 +138,8 @@ first_begins text start = option_map_or (λ p. p.start == start) (slice_get (fie
 
 -- the blanks before the operator, where it is the first field
 abbrev pub indent_span : List ℕ → Option Piece → Option Span
-indent_span text operator = option_and_then (λ p. if first_begins text p.start then Some (record { start = 0; width = p.start }) else None) operator
+indent_span text operator = option_and_then (λ p. if first_begins text p.start then Some (record { start = 0; width = p.start }) else None)
+    operator
 
 -- the bytes of a line that an edit takes the place of, where a finding has some to blame; none where what it asks for does not stand
 unfoldable pub span_at : At → List ℕ → Parts → Span → Option Span

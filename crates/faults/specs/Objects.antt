@@ -1,5 +1,6 @@
 -- What is told of a source and of feeds as JSON: an object a line, with the same sentences as the text, and the edit that mends it.
-use Rattle.std.specs.Prelude.{ℕ, ◌+◌, ◌-◌, ◌==◌, min, Bool, true, false, List, ◌++◌, length, codes, decimal, Option, None, Some, if◌then◌else◌}
+use Rattle.std.specs.Prelude.{ℕ, ◌+◌, ◌-◌, ◌==◌, min, Bool, true, false, List, ◌++◌, length, codes, decimal, Option, None, Some}
+use Rattle.std.specs.Prelude.{if◌then◌else◌}
 use Rattle.std.specs.Option.{option_map_or, option_or}
 use Rattle.json_text.specs.Strings.{json_string}
 use Rattle.yayul.specs.Survey.{span_of}
@@ -24,14 +25,20 @@ front_span parts = option_map_or span_of (option_or parts.label parts.operator) 
 
 -- those of a line of a source
 abbrev pub place_of : Language → List (List ℕ) → ℕ → Place
-place_of language texts line = record { line = line; text = text_at texts line; span = front_span (parts_for language (text_at texts line)) }
+place_of language texts line = record {
+  line = line;
+  text = text_at texts line;
+  span = front_span
+      (parts_for language (text_at texts line));
+}
 
 -- ## Members
 abbrev pub bool_text : Bool → List ℕ
 bool_text true = codes "true"
 bool_text false = codes "false"
 
--- the number of a line, the column of the first byte and that after the last, all from 1; no column is more than one past the line's last byte
+-- the number of a line, the column of the first byte and that after the last, all from 1; no column is more than one past the line's last
+-- byte
 unfoldable pub place_members : ℕ → List ℕ → Span → List ℕ
 place_members line text s =
     codes "\"line\":" ++ decimal line ++ codes ",\"column\":" ++ decimal (min s.start (length text) + 1)
@@ -66,7 +73,8 @@ edit_text text parts beside c line m s =
 -- the edit that the cure is, or that it is none
 unfoldable pub fix_text : List ℕ → Parts → List ℕ → Told → Cause → List ℕ
 fix_text text parts beside t c =
-    option_map_or (λ m. option_map_or (edit_text text parts beside c t.line m) (span_at m.at text parts t.span) (codes "null")) (mend_of c.cure c.other) (codes "null")
+    option_map_or (λ m. option_map_or (edit_text text parts beside c t.line m) (span_at m.at text parts t.span) (codes "null"))
+    (mend_of c.cure c.other) (codes "null")
 
 -- the other place that the sentence speaks of, or that it speaks of none
 abbrev pub place_or_null : Option Place → List ℕ
@@ -77,7 +85,8 @@ place_or_null (Some p) = codes "{" ++ place_members p.line p.text p.span ++ code
 -- what is told of a line with why, a text from other lines, and the place that it is from
 unfoldable pub finding_object : List ℕ → List ℕ → Parts → List ℕ → Option Place → Told → Cause → List ℕ
 finding_object name text parts beside other t c =
-    head_text name text t ++ said_text parts beside c ++ codes ",\"fix\":" ++ fix_text text parts beside t c ++ codes ",\"related\":" ++ place_or_null other ++ codes "}\n"
+    head_text name text t ++ said_text parts beside c ++ codes ",\"fix\":" ++ fix_text text parts beside t c ++ codes ",\"related\":"
+    ++ place_or_null other ++ codes "}\n"
 
 -- what is said of a file of another kind
 abbrev pub file_object : List ℕ → List ℕ → List ℕ
@@ -85,4 +94,5 @@ file_object name words = codes "{\"kind\":\"other\",\"file\":" ++ json_string na
 
 -- how many faults and how many warnings there are
 abbrev pub count_object : ℕ → ℕ → List ℕ
-count_object errors warnings = codes "{\"kind\":\"total\",\"errors\":" ++ decimal errors ++ codes ",\"warnings\":" ++ decimal warnings ++ codes "}\n"
+count_object errors warnings = codes "{\"kind\":\"total\",\"errors\":" ++ decimal errors ++ codes ",\"warnings\":" ++ decimal warnings
+    ++ codes "}\n"

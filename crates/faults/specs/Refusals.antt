@@ -4,7 +4,8 @@ use Rattle.std.specs.List.{list_any}
 
 -- the numbers
 abbrev pub numbers : List ℕ
-numbers = 2 ∷ 3 ∷ 4 ∷ 5 ∷ 6 ∷ 7 ∷ 10 ∷ 11 ∷ 12 ∷ 13 ∷ 14 ∷ 15 ∷ 16 ∷ 17 ∷ 18 ∷ 19 ∷ 20 ∷ 21 ∷ 22 ∷ 23 ∷ 24 ∷ 25 ∷ 26 ∷ 30 ∷ 31 ∷ 32 ∷ 33 ∷ 34 ∷ 35 ∷ 36 ∷ 40 ∷ 41 ∷ 42 ∷ 50 ∷ 51 ∷ 52 ∷ []
+numbers = 2 ∷ 3 ∷ 4 ∷ 5 ∷ 6 ∷ 7 ∷ 10 ∷ 11 ∷ 12 ∷ 13 ∷ 14 ∷ 15 ∷ 16 ∷ 17 ∷ 18 ∷ 19 ∷ 20 ∷ 21 ∷ 22 ∷ 23 ∷ 24 ∷ 25 ∷ 26 ∷ 30 ∷ 31 ∷ 32 ∷ 33
+    ∷ 34 ∷ 35 ∷ 36 ∷ 40 ∷ 41 ∷ 42 ∷ 50 ∷ 51 ∷ 52 ∷ []
 
 abbrev pub is_told : ℕ → Bool
 is_told number = list_any (λ n. n == number) numbers
@@ -15,7 +16,8 @@ meaning number =
     if number == 2 then codes "memory was refused"
     else if number == 3 then codes "the image ends before its 73,728 bytes"
     else if number == 4 then codes "bytes stand after the 73,728 of the image"
-    else if number == 5 then codes "the lowest bit of two bytes of the image is wrong: in version 1 it is 1, in version 2 they have an even number of one bits"
+    else if number == 5 then
+    codes "the lowest bit of two bytes of the image is wrong: in version 1 it is 1, in version 2 they have an even number of one bits"
     else if number == 6 then codes "a file could not be opened or read"
     else if number == 7 then codes "a file could not be made, or a write failed"
     else if number == 10 then codes "a byte stands here that a line may not hold"

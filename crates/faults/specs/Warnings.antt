@@ -1,5 +1,6 @@
 -- What in a source is likely a mistake, though it is no fault: definitions over its lines, whatever stands before them.
-use Rattle.std.specs.Prelude.{ℕ, ◌+◌, ◌-◌, ◌%◌, ◌==◌, ◌&&◌, ◌||◌, not, Bool, true, false, nat_le, nat_lt, List, [], ◌∷◌, ◌++◌, length, map, Option, Some, None, is_some, codes, option_and_then, if◌then◌else◌}
+use Rattle.std.specs.Prelude.{ℕ, ◌+◌, ◌-◌, ◌%◌, ◌==◌, ◌&&◌, ◌||◌, not, Bool, true, false, nat_le, nat_lt, List, [], ◌∷◌, ◌++◌, length, map}
+use Rattle.std.specs.Prelude.{Option, Some, None, is_some, codes, option_and_then, if◌then◌else◌}
 use Rattle.std.specs.List.{fold, list_any}
 use Rattle.std.specs.Option.{option_map, option_map_or}
 use Rattle.agc_text.specs.Digits.{digits_value, sized}
@@ -10,7 +11,8 @@ use Rattle.agc_text.specs.Tables.{same_name, value_in}
 use Rattle.yayul.specs.Survey.{looked_at, span_of}
 use Rattle.yayul.specs.declared.language.Language.{Language}
 use Rattle.yayul.specs.declared.language.Language.TheVariants.{Flight, Standard}
-use Rattle.faults.specs.Roles.{gives_two, is_constant, is_equals, is_erase, is_index, is_leaving, is_setloc, keeps_location, moves_location, names_bank, reads, reads_word, sets_bank, stores, takes_pair}
+use Rattle.faults.specs.Roles.{gives_two, is_constant, is_equals, is_erase, is_index, is_leaving, is_setloc, keeps_location, moves_location}
+use Rattle.faults.specs.Roles.{names_bank, reads, reads_word, sets_bank, stores, takes_pair}
 use Rattle.yayul.specs.Readings.{Parts, parts_for}
 use Rattle.yayul.specs.Roles.{is_operator_of}
 use Rattle.faults.specs.Registers.{registers}
@@ -85,7 +87,8 @@ abbrev pub with_single : List (List ℕ) → Parts → List (List ℕ)
 with_single names parts = if reserves_one parts then with_field names parts.label else names
 
 abbrev pub pair_warnings : List (List ℕ) → ℕ → Parts → List Warning
-pair_warnings singles line parts = at_field (λ p. warned_if (has_alone (takes_pair parts.role) parts && is_among singles p.text) line 3 p) parts.operand
+pair_warnings singles line parts = at_field (λ p. warned_if (has_alone (takes_pair parts.role) parts && is_among singles p.text) line 3 p)
+    parts.operand
 
 -- ## 4: a program that runs on to a constant, or where no word stands
 -- operators that give words
@@ -168,7 +171,8 @@ with_read names parts = if reads_word parts.role then with_field names parts.ope
 -- an instruction, none that is read as a word, is not left, and the lines after it do not go on with another
 abbrev pub end_warnings : List (List ℕ) → Before → List Parts → ℕ → Parts → List Warning
 end_warnings read before after line parts =
-    at_field (λ p. warned_if (is_some parts.role && is_instruction parts && not (leaves parts) && not (option_map_or (λ l. is_among read l.text) parts.label false)
+    at_field (λ p. warned_if (is_some parts.role && is_instruction parts && not (leaves parts)
+    && not (option_map_or (λ l. is_among read l.text) parts.label false)
     && not (goes_on_to_instruction (place_after before.place parts) (bank_after before.bank parts) after)) line 4 p) parts.operator
 
 -- ## 5: a vector's words that run on into the next vector
@@ -178,19 +182,23 @@ is_vector place = place % 4 == 0 && nat_le 0o4004 place && nat_le place 0o4050
 
 -- SETLOC and the place of a vector
 abbrev pub sets_vector : Parts → Bool
-sets_vector parts = has_alone (is_setloc parts.role) parts && option_map_or (λ p. option_map_or is_vector (digits_value 8 p.text) false) parts.operand false
+sets_vector parts = has_alone (is_setloc parts.role) parts
+    && option_map_or (λ p. option_map_or is_vector (digits_value 8 p.text) false) parts.operand false
 
 -- after the four words of a vector another stands, and the fourth is not left
 abbrev pub is_overrun : Option ℕ → Bool → Bool
 is_overrun filled left = option_map_or (nat_le 4) filled false && not left
 
 abbrev pub vector_warnings : Before → ℕ → Parts → List Warning
-vector_warnings before line parts = at_field (λ p. warned_if (is_overrun before.filled before.left && gives_word parts) line 5 p) parts.operator
+vector_warnings before line parts = at_field (λ p. warned_if (is_overrun before.filled before.left && gives_word parts) line 5 p)
+    parts.operator
 
 -- ## 6 and 9: a word of a switched bank, where no line sets EB or FB
--- the region of a place as SETLOC takes it: EB leads to those of erasable memory from 1400 on, and banks 2 and 3 are reached whatever FB holds
+-- the region of a place as SETLOC takes it: EB leads to those of erasable memory from 1400 on, and banks 2 and 3 are reached whatever FB
+-- holds
 abbrev pub region_of_place : ℕ → Region
-region_of_place place = if nat_lt place 0o1400 then Elsewhere else if nat_lt place 0o4000 then SwitchedErasable else if nat_lt place 0o10000 then Common else Elsewhere
+region_of_place place = if nat_lt place 0o1400 then Elsewhere else if nat_lt place 0o4000 then SwitchedErasable else if nat_lt place 0o10000
+    then Common else Elsewhere
 
 -- the region of a bank of fixed memory; a machine starts with FB at bank 0
 abbrev pub region_of_bank : ℕ → Region
@@ -246,7 +254,8 @@ is_bank_number register text = option_map_or (is_bank_place register) (digits_va
 -- some names, and the label of a line that gives it one of these places
 abbrev pub with_bank_name : BankRegister → List (List ℕ) → Parts → List (List ℕ)
 with_bank_name register names parts =
-    if has_alone (is_equals parts.role) parts && option_map_or (λ p. is_bank_number register p.text) parts.operand false then with_field names parts.label else names
+    if has_alone (is_equals parts.role) parts && option_map_or (λ p. is_bank_number register p.text) parts.operand false then with_field
+    names parts.label else names
 
 -- some names, and where a line stores
 abbrev pub with_stored : List (List ℕ) → Parts → List (List ℕ)
@@ -288,12 +297,14 @@ may_set_fixed banks = may_set Fb banks.fixed_registers banks
 -- an instruction on a word of a switched erasable bank, where no line sets EB
 abbrev pub erasable_warnings : Names → ℕ → Parts → List Warning
 erasable_warnings names line parts =
-    at_field (λ p. warned_if (not names.sets_erasable && is_instruction parts && is_among names.banks.erasable p.text) line 6 p) parts.operand
+    at_field (λ p. warned_if (not names.sets_erasable && is_instruction parts && is_among names.banks.erasable p.text) line 6 p)
+    parts.operand
 
 -- an instruction of banks 2 and 3 on a place of a switched bank of fixed memory, where no line sets FB
 abbrev pub fixed_warnings : Names → Region → ℕ → Parts → List Warning
 fixed_warnings names region line parts =
-    at_field (λ p. warned_if (not names.sets_fixed && is_common region && is_instruction parts && is_among names.banks.fixed p.text) line 9 p) parts.operand
+    at_field (λ p. warned_if (not names.sets_fixed && is_common region && is_instruction parts && is_among names.banks.fixed p.text) line 9
+    p) parts.operand
 
 -- ## 7: a register's name at another place
 -- two numbers in octal are the same
@@ -308,16 +319,19 @@ is_same_number a b = is_same_small (option_map sized (digits_value 8 a)) (option
 abbrev pub is_zero : List ℕ → Bool
 is_zero text = same_name text (codes "ZERO")
 
--- a line gives another number than that of a register; or it stands for a place or has a word, and its place is not known to be the register's
+-- a line gives another number than that of a register; or it stands for a place or has a word, and its place is not known to be the
+-- register's
 abbrev pub is_elsewhere : Option ℕ → List ℕ → Parts → Bool
 is_elsewhere place register parts =
     if is_equals parts.role
-    then has_alone (is_equals parts.role) parts && option_map_or (λ p. is_some (digits_value 8 p.text) && not (is_same_number p.text register)) parts.operand false
+    then has_alone (is_equals parts.role) parts && option_map_or
+    (λ p. is_some (digits_value 8 p.text) && not (is_same_number p.text register)) parts.operand false
     else not (is_same_known place (small_number (option_map sized (digits_value 8 register))))
 
 abbrev pub register_warnings : Option ℕ → ℕ → Parts → List Warning
 register_warnings place line parts =
-    at_field (λ p. warned_if (not (is_zero p.text) && option_map_or (λ register. is_elsewhere place register parts) (value_in registers p.text) false) line 7 p) parts.label
+    at_field (λ p. warned_if (not (is_zero p.text)
+    && option_map_or (λ register. is_elsewhere place register parts) (value_in registers p.text) false) line 7 p) parts.label
 
 -- ## 8: a label that no operand names
 abbrev pub unused_warnings : List (List ℕ) → ℕ → Parts → List Warning
@@ -332,7 +346,8 @@ abbrev pub is_register_channel : List ℕ → Bool
 is_register_channel text = option_map_or (λ number. nat_le 1 number && nat_le number 2) (digits_value 8 text) false
 
 abbrev pub output_warnings : ℕ → Parts → List Warning
-output_warnings line parts = at_field (λ p. warned_if (has_alone (has_operator output_operators parts) parts && is_register_channel p.text) line 10 p) parts.operand
+output_warnings line parts = at_field (λ p. warned_if (has_alone (has_operator output_operators parts) parts && is_register_channel p.text)
+    line 10 p) parts.operand
 
 -- ## What stands before a line
 -- how many words a vector has after a line, or nothing where none is filled
@@ -356,7 +371,8 @@ abbrev pub at_start : Before
 at_start = record { indexed = false; filled = None; left = false; region = Common; place = Some 0o4000; bank = Some 2 }
 
 -- ## All
--- the names of some lines: those for which one word is reserved, those that an operand is and those that are read; and what is known of banks
+-- the names of some lines: those for which one word is reserved, those that an operand is and those that are read; and what is known of
+-- banks
 abbrev pub names_of : List Parts → Names
 names_of lines = record {
   singles = fold (λ names parts. with_single names parts) [] lines;
@@ -374,27 +390,32 @@ is_standard Flight = false
 
 -- the warnings of a line's label; of one that nothing names where they are asked for
 abbrev pub name_warnings : Language → Bool → Names → Before → ℕ → Parts → List Warning
-name_warnings language unused names before line parts = label_warnings language line parts ++ register_warnings before.place line parts ++ (if unused then unused_warnings names.operands line parts else [])
+name_warnings language unused names before line parts = label_warnings language line parts ++ register_warnings before.place line parts
+    ++ (if unused then unused_warnings names.operands line parts else [])
 
 -- the warnings of its operator, by what stands before it and the lines after it
 abbrev pub flow_warnings : Language → Names → Before → List Parts → ℕ → Parts → List Warning
-flow_warnings language names before after line parts = (if is_standard language then end_warnings names.read before after line parts else []) ++ vector_warnings before line parts
+flow_warnings language names before after line parts
+    = (if is_standard language then end_warnings names.read before after line parts else []) ++ vector_warnings before line parts
 
 -- the warnings of its operand
 abbrev pub operand_warnings : Names → Before → ℕ → Parts → List Warning
 operand_warnings names before line parts =
-    number_warnings before.indexed line parts ++ pair_warnings names.singles line parts ++ erasable_warnings names line parts ++ fixed_warnings names before.region line parts ++ output_warnings line parts
+    number_warnings before.indexed line parts ++ pair_warnings names.singles line parts ++ erasable_warnings names line parts
+    ++ fixed_warnings names before.region line parts ++ output_warnings line parts
 
 -- the warnings of a line, in the order of its fields
 abbrev pub line_warnings : Language → Bool → Names → Before → List Parts → ℕ → Parts → List Warning
 line_warnings language unused names before after line parts =
-    name_warnings language unused names before line parts ++ flow_warnings language names before after line parts ++ operand_warnings names before line parts
+    name_warnings language unused names before line parts ++ flow_warnings language names before after line parts
+    ++ operand_warnings names before line parts
 
 -- the warnings of some lines of a source of a language, the first of them with a number
 abbrev pub warned_lines : Language → Bool → Names → Before → ℕ → List Parts → List Warning
 warned_lines language unused names before line [] = []
 warned_lines language unused names before line (parts ∷ rest) =
-    line_warnings language unused names before rest line parts ++ warned_lines language unused names (before_next before parts) (line + 1) rest
+    line_warnings language unused names before rest line parts
+    ++ warned_lines language unused names (before_next before parts) (line + 1) rest
 
 -- the lines of a source that are looked at, taken apart
 abbrev pub lines_apart : Language → List ℕ → List Parts
@@ -402,4 +423,5 @@ lines_apart language source = map (parts_for language) (looked_at language sourc
 
 -- the warnings of a source of a language, of as many lines as are looked at for faults
 unfoldable pub warnings : Language → Bool → List ℕ → List Warning
-warnings language unused source = warned_lines language unused (names_of (lines_apart language source)) at_start 1 (lines_apart language source)
+warnings language unused source = warned_lines language unused (names_of (lines_apart language source)) at_start 1
+    (lines_apart language source)

@@ -5,7 +5,14 @@ ghost use Rattle.std.specs.Option.{option_map, option_map_or};
 ghost use Rattle.agc_text.specs.Tables.{value_in};
 ghost use Rattle.agc_text.specs.Views.{piece};
 ghost use Rattle.yayul.specs.Readings.{parts_in};
-ghost use Rattle.faults.specs.Causes.{byte_cause, near_operator, begins_with_mark, label_cause, operator_cause, digits_cause, place_cause, operand_cause, symbol_cause, undefined_cause, definition_cause, is_another_form, early_cause, below_cause, bank_cause, room_cause, kind_cause, range_cause, cause_of_kind, fault_cause, warning_cause, near_label, said, cured, cured_by, text_of, holds, begins, holds_sign, is_signed, is_label, is_octal_bank, is_decimal_bank, has_parted_offset, lists_numbers, without_colon, long_cause, number_cause, is_foreign_comment, has_foreign_comment, is_beyond_octal, foreign_operators};
+ghost use Rattle.faults.specs.Causes.{byte_cause, near_operator, begins_with_mark, label_cause, operator_cause};
+ghost use Rattle.faults.specs.Causes.{digits_cause, place_cause, operand_cause, symbol_cause, undefined_cause};
+ghost use Rattle.faults.specs.Causes.{definition_cause, is_another_form, early_cause, below_cause, bank_cause};
+ghost use Rattle.faults.specs.Causes.{room_cause, kind_cause, range_cause, cause_of_kind, fault_cause, warning_cause};
+ghost use Rattle.faults.specs.Causes.{near_label, said, cured, cured_by, text_of, holds, begins, holds_sign, is_signed};
+ghost use Rattle.faults.specs.Causes.{is_label, is_octal_bank, is_decimal_bank, has_parted_offset, lists_numbers};
+ghost use Rattle.faults.specs.Causes.{without_colon, long_cause, number_cause, is_foreign_comment, has_foreign_comment};
+ghost use Rattle.faults.specs.Causes.{is_beyond_octal, foreign_operators};
 ghost use Rattle.faults.specs.Registers.{registers};
 ghost use Rattle.faults.specs.Views.{cause_in, entries};
 
@@ -22,8 +29,10 @@ use crate::texts::front;
 use agc_text::{Field, LINE_LENGTH, Number, decimal_value, octal_value};
 use yayul::{FaultKind, Finding, Language, Reading, is_digits, is_operator};
 
-/// What is wrong, how it is mended or nothing, and a text that stands in either; and whether `--flight` takes what stands there. Marks stand for the fields of the line:
-/// `&` for the label, `%` for the operator, `@` for the operand, `!` for the other text, `~` for a text from other lines,
+/// What is wrong, how it is mended or nothing, and a text that stands in either; and whether `--flight` takes what
+/// stands there. Marks stand for the fields of the line:
+/// `&` for the label, `%` for the operator, `@` for the operand, `!` for the other text, `~` for a text from other
+/// lines,
 /// `^` for the line that it is the number of.
 #[derive(Clone, Copy, Drop)]
 pub(crate) struct Cause {
@@ -151,7 +160,8 @@ pub(crate) fn warning_cause(parts: &Reading<'_>, number: u8) -> Cause
         8 => Cause::said(b"no operand names &"),
         9 => Cause::cured(
             b"@ stands in a switched bank of fixed memory, and no line sets FB",
-            b"NAME FCADR @ on a line of its own; before this CA NAME, and TS 4, which is FB; for banks 40 to 43 WRITE 7 of 100 too",
+            b"NAME FCADR @ on a line of its own; before this CA NAME, and TS 4, which is FB; for banks 40 to 43 WRITE \
+                7 of 100 too",
         ),
         10 => Cause::cured(
             b"channel @ is a register, L or Q, and nothing goes out",
@@ -168,12 +178,14 @@ fn number_cause(parts: &Reading<'_>) -> Cause
     if reads_erasable(parts.role) {
         Cause::cured(
             b"an operand is an address: @ is the register or the counter at place @, and not the number",
-            b"the number has a line of its own, behind the last jump: NAME OCT @, and CA NAME and TS copy it to where % takes it",
+            b"the number has a line of its own, behind the last jump: NAME OCT @, and CA NAME and TS copy it to where \
+                % takes it",
         )
     } else {
         Cause::cured(
             b"an operand is an address: @ is the register or the counter at place @, and not the number",
-            b"the number has a line of its own, behind the last jump: NAME OCT @ (or DEC and decimal digits), and here % NAME",
+            b"the number has a line of its own, behind the last jump: NAME OCT @ (or DEC and decimal digits), and here \
+                % NAME",
         )
     }
 }
@@ -188,7 +200,8 @@ fn place_named(parts: &Reading<'_>) -> &'static [u8]
     }
 }
 
-/// The label that is near to the symbol of a fault which no line, or no earlier one, defines; none where a later line does.
+/// The label that is near to the symbol of a fault which no line, or no earlier one, defines; none where a later line
+/// does.
 pub(crate) fn near_label<'a>(
     labels: &'a NameSet,
     parts: &Reading<'_>,

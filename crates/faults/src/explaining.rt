@@ -31,7 +31,8 @@ pub fn warning_explanation(alloc: Global, warning: &Refusal) -> Result<Vec<u8>, 
 
 /// What each number means, in a line; those of refusals, and then those of warnings; and what each kind of notes means.
 pub fn all_headings(alloc: Global) -> Result<Vec<u8>, AllocError>
-    ensures { IfOk result (λ text. text.items ≡ flat_map heading numbers ++ flat_map warning_heading warning_numbers ++ note_headings) }
+    ensures { IfOk result (λ text. text.items
+        ≡ flat_map heading numbers ++ flat_map warning_heading warning_numbers ++ note_headings) }
 {
     let mut text = Vec::new(alloc);
     push_headings(&mut text, &NUMBERS)?;

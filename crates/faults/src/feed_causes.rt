@@ -1,7 +1,9 @@
 //! What is wrong with a line of a feed in words, by why one of its fields is refused.
 
 ghost use Rattle.std.specs.Prelude.{◌≡◌, map, is_some};
-ghost use Rattle.faults.specs.FeedCauses.{is_decimal, input_names, taken_words, slip_cause, cycle_cause, first_cause, factor_cause, name_cause, channel_cause, word_cause, request_cause, missing_cause, surplus_cause, not_taken};
+ghost use Rattle.faults.specs.FeedCauses.{is_decimal, input_names, taken_words, slip_cause, cycle_cause, first_cause};
+ghost use Rattle.faults.specs.FeedCauses.{factor_cause, name_cause, channel_cause, word_cause, request_cause};
+ghost use Rattle.faults.specs.FeedCauses.{missing_cause, surplus_cause, not_taken};
 ghost use Rattle.faults.specs.Views.{cause_in};
 
 use crate::causes::{Cause, is_beyond_octal};

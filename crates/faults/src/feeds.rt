@@ -9,7 +9,9 @@ ghost use Rattle.feed.specs.Feed.{inputs, most_bytes};
 ghost use Rattle.yayul.specs.Survey.{wrong_place};
 ghost use Rattle.faults.specs.Report.{text_at};
 ghost use Rattle.yayul.specs.Readings.{parts_in};
-ghost use Rattle.faults.specs.FeedReport.{field_span, wrong_field, slipped, wrong_line, is_earlier_input, last_before, early, early_line, earlier_place, wrong_at, wrong_text, surplus_line, fault_text, fault_of, feed_report, feed_faults};
+ghost use Rattle.faults.specs.FeedReport.{field_span, wrong_field, slipped, wrong_line, is_earlier_input, last_before};
+ghost use Rattle.faults.specs.FeedReport.{early, early_line, earlier_place, wrong_at, wrong_text, surplus_line};
+ghost use Rattle.faults.specs.FeedReport.{fault_text, fault_of, feed_report, feed_faults};
 ghost use Rattle.faults.specs.Views.{cause_in, place_in, wrong_in};
 ghost use Rattle.faults.specs.Causes.{said, text_of};
 ghost use Rattle.faults.specs.Refusals.{meaning};
@@ -45,8 +47,8 @@ struct Wrong<'a> {
     cause: Cause,
 }
 
-/// The lines of the first fault of a feed, which has this name, and what is said where it is a file of another kind; and how many
-/// faults are told; as text, or as JSON in an object.
+/// The lines of the first fault of a feed, which has this name, and what is said where it is a file of another kind;
+/// and how many faults are told; as text, or as JSON in an object.
 #[tactic(auto, unfolding(crate::specs::FeedReport::feed_report, crate::specs::FeedReport::feed_faults))]
 pub fn feed_report(
     alloc: Global,
@@ -93,7 +95,8 @@ fn push_fault(
 ) -> Result<(), AllocError>
     requires few { length text.now ≤ most_bytes }
     requires lines { map (λ t. t.now) texts.now ≡ lines text.now }
-    ensures { OnOk result (out.new.items ≡ out.old.items ++ fault_text notation name.now (map (λ t. t.now) texts.now) fault) }
+    ensures { OnOk result (out.new.items ≡ out.old.items
+        ++ fault_text notation name.now (map (λ t. t.now) texts.now) fault) }
 {
     match fault {
         FeedFault::BadLine(line) => push_wrong_line(out, notation, name, texts, line, 30),
@@ -116,7 +119,9 @@ fn push_wrong(
     wrong: &Wrong<'_>,
     place: Option<Place<'_>>,
 ) -> Result<(), AllocError>
-    ensures { OnOk result (out.new.items ≡ out.old.items ++ wrong_text notation name.now (map (λ t. t.now) texts.now) line number (wrong_in wrong.now) (option_map place_in place.entry)) }
+    ensures { OnOk result (out.new.items ≡ out.old.items
+        ++ wrong_text notation name.now (map (λ t. t.now) texts.now) line number (wrong_in wrong.now)
+        (option_map place_in place.entry)) }
 {
     let text = text_at(texts, line);
     let parts = reading_of(Language::Standard, text);
@@ -138,7 +143,9 @@ fn push_wrong_at(
     wrong: &Wrong<'_>,
     place: Option<Place<'_>>,
 ) -> Result<(), AllocError>
-    ensures { OnOk result (out.new.items ≡ out.old.items ++ wrong_at notation name.now text.now (parts_in parts.now) line number (wrong_in wrong.now) (option_map place_in place.entry)) }
+    ensures { OnOk result (out.new.items ≡ out.old.items
+        ++ wrong_at notation name.now text.now (parts_in parts.now) line number (wrong_in wrong.now)
+        (option_map place_in place.entry)) }
 {
     let told = Told {
         severity: Severity::Error,
@@ -169,7 +176,8 @@ fn push_wrong_line(
     number: u8,
 ) -> Result<(), AllocError>
     ensures { OnOk result (out.new.items ≡ out.old.items
-        ++ wrong_text notation name.now (map (λ t. t.now) texts.now) line number (wrong_line (text_at (map (λ t. t.now) texts.now) line)) None) }
+        ++ wrong_text notation name.now (map (λ t. t.now) texts.now) line number
+        (wrong_line (text_at (map (λ t. t.now) texts.now) line)) None) }
 {
     let wrong = wrong_line(text_at(texts, line));
     push_wrong(out, notation, name, texts, line, number, &wrong, None)
@@ -185,7 +193,8 @@ fn push_surplus(
     number: u8,
 ) -> Result<(), AllocError>
     ensures { OnOk result (out.new.items ≡ out.old.items
-        ++ wrong_text notation name.now (map (λ t. t.now) texts.now) line number (wrong_field (text_at (map (λ t. t.now) texts.now) line) 0 (said (meaning number))) None) }
+        ++ wrong_text notation name.now (map (λ t. t.now) texts.now) line number
+        (wrong_field (text_at (map (λ t. t.now) texts.now) line) 0 (said (meaning number))) None) }
 {
     let wrong = wrong_field(text_at(texts, line), 0, Cause::said(meaning(number)));
     push_wrong(out, notation, name, texts, line, number, &wrong, None)
@@ -201,7 +210,8 @@ fn push_early(
     line: u32,
 ) -> Result<(), AllocError>
     ensures { OnOk result (out.new.items ≡ out.old.items
-        ++ wrong_text notation name.now (map (λ t. t.now) texts.now) line 31 (early (map (λ t. t.now) texts.now) line) (Some (earlier_place (map (λ t. t.now) texts.now) line))) }
+        ++ wrong_text notation name.now (map (λ t. t.now) texts.now) line 31 (early (map (λ t. t.now) texts.now) line)
+        (Some (earlier_place (map (λ t. t.now) texts.now) line))) }
 {
     let earlier = last_before(texts, line);
     let mut digits = ArrayVec::<u8, DIGITS>::new();

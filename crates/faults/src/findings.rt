@@ -1,6 +1,7 @@
 //! The faults and the warnings of a source as lines of text.
 
-ghost use Rattle.std.specs.Prelude.{◌≡◌, ◌≤◌, ◌++◌, ◌==◌, map, length, decimal, flat_map, [], if◌then◌else◌, OnOk, IfOk, Some};
+ghost use Rattle.std.specs.Prelude.{◌≡◌, ◌≤◌, ◌++◌, ◌==◌, map, length, decimal, flat_map, [], if◌then◌else◌, OnOk};
+ghost use Rattle.std.specs.Prelude.{IfOk, Some};
 ghost use Rattle.std.specs.Option.{option_map};
 ghost use Rattle.agc_text.specs.Lines.{lines};
 ghost use Rattle.yayul.specs.Readings.{parts_in};
@@ -8,7 +9,11 @@ ghost use Rattle.faults.specs.Kinds.{kind_of_source};
 ghost use Rattle.faults.specs.Causes.{below_cause};
 ghost use Rattle.json_text.specs.declared.notation.Notation.TheVariants.{Text};
 ghost use Rattle.faults.specs.Objects.{place_of};
-ghost use Rattle.faults.specs.Report.{as_error, told_in, text_at, shown_error, shown_warning, shown_line, beside_text, listed, is_early, line_beside, needs_value, line_below, as_label, told_by_line, may_be_label, with_label, labels_of, sought_labels, takes_label, has_label, first_line, count_before, counted, count_text, interpretive_text, warned_before, listed_from, listed_around, told_around, told_text, refused_file, report};
+ghost use Rattle.faults.specs.Report.{as_error, told_in, text_at, shown_error, shown_warning, shown_line, beside_text};
+ghost use Rattle.faults.specs.Report.{listed, is_early, line_beside, needs_value, line_below, as_label, told_by_line};
+ghost use Rattle.faults.specs.Report.{may_be_label, with_label, labels_of, sought_labels, takes_label, has_label};
+ghost use Rattle.faults.specs.Report.{first_line, count_before, counted, count_text, interpretive_text, warned_before};
+ghost use Rattle.faults.specs.Report.{listed_from, listed_around, told_around, told_text, refused_file, report};
 
 use crate::causes::{below_cause, holds, near_label, text_of};
 use crate::interpretive::{count_before_first, first_and_others, interpretive_cause};
@@ -30,8 +35,8 @@ use yayul::{FaultKind, Finding, Language, Reading, is_count, is_digits, reading_
 /// The most faults of a source that are told with labels of other lines.
 const MOST_FAULTS: usize = 100;
 
-/// The lines of the faults and the warnings of a source of a language, which has this name, in the order of lines, and what is said where it has faults and is a
-/// file of another kind; as text, or as JSON in an object each.
+/// The lines of the faults and the warnings of a source of a language, which has this name, in the order of lines, and
+/// what is said where it has faults and is a file of another kind; as text, or as JSON in an object each.
 #[tactic(auto, unfolding(crate::specs::Report::report))]
 pub fn report(
     alloc: Global,
@@ -53,7 +58,8 @@ pub fn report(
     Ok(out)
 }
 
-// Appends the lines of the faults and of the warnings: those of lines of the interpretive language are told by the first.
+// Appends the lines of the faults and of the warnings: those of lines of the interpretive language are told by the
+// first.
 #[tactic(auto, unfolding(crate::specs::Report::told_text))]
 fn push_told(
     alloc: Global,
@@ -65,7 +71,8 @@ fn push_told(
     faults: &[Finding],
     warnings: &[Warning],
 ) -> Result<(), AllocError>
-    ensures { OnOk result (out.new.items ≡ out.old.items ++ told_text notation language name.now (map (λ t. t.now) texts.now) faults.now warnings.now) }
+    ensures { OnOk result (out.new.items ≡ out.old.items
+        ++ told_text notation language name.now (map (λ t. t.now) texts.now) faults.now warnings.now) }
 {
     let (earlier, rest) = faults.split_at(count_before_first(language, texts, faults));
     push_told_around(
@@ -85,7 +92,8 @@ fn push_told_around(
     rest: &[Finding],
     warnings: &[Warning],
 ) -> Result<(), AllocError>
-    ensures { OnOk result (out.new.items ≡ out.old.items ++ told_around notation language name.now (map (λ t. t.now) texts.now) earlier.now rest.now warnings.now) }
+    ensures { OnOk result (out.new.items ≡ out.old.items
+        ++ told_around notation language name.now (map (λ t. t.now) texts.now) earlier.now rest.now warnings.now) }
 {
     let told = first_and_others(alloc, texts, rest)?;
     let labels = sought_labels(alloc, language, texts, earlier.len() + told.len())?;
@@ -95,7 +103,8 @@ fn push_told_around(
     )
 }
 
-// Appends those of some faults, and of faults of which the first is of the interpretive language, and stands for so many.
+// Appends those of some faults, and of faults of which the first is of the interpretive language, and stands for so
+// many.
 fn push_around(
     alloc: Global,
     out: &mut Vec<u8>,
@@ -109,7 +118,9 @@ fn push_around(
     rest: &[Finding],
     warnings: &[Warning],
 ) -> Result<(), AllocError>
-    ensures { OnOk result (out.new.items ≡ out.old.items ++ listed_around notation language name.now labels.now (map (λ t. t.now) texts.now) count earlier.now rest.now warnings.now) }
+    ensures { OnOk result (out.new.items ≡ out.old.items
+        ++ listed_around notation language name.now labels.now (map (λ t. t.now) texts.now) count earlier.now rest.now
+        warnings.now) }
 {
     let (warned, left) = warnings.split_at(warned_before(rest, warnings));
     push_merged(
@@ -131,7 +142,8 @@ fn warned_before(faults: &[Finding], warnings: &[Warning]) -> usize
     }
 }
 
-// Appends the lines of faults and warnings, of which the first fault is of the interpretive language, and stands for so many.
+// Appends the lines of faults and warnings, of which the first fault is of the interpretive language, and stands for so
+// many.
 fn push_from(
     alloc: Global,
     out: &mut Vec<u8>,
@@ -144,7 +156,9 @@ fn push_from(
     faults: &[Finding],
     warnings: &[Warning],
 ) -> Result<(), AllocError>
-    ensures { OnOk result (out.new.items ≡ out.old.items ++ listed_from notation language name.now labels.now (map (λ t. t.now) texts.now) count faults.now warnings.now) }
+    ensures { OnOk result (out.new.items ≡ out.old.items
+        ++ listed_from notation language name.now labels.now (map (λ t. t.now) texts.now) count faults.now
+        warnings.now) }
 {
     match faults.split_first() {
         Some((first, others)) => {
@@ -170,7 +184,8 @@ fn push_interpretive(
     count: usize,
     first: &Finding,
 ) -> Result<(), AllocError>
-    ensures { OnOk result (out.new.items ≡ out.old.items ++ interpretive_text notation language name.now (map (λ t. t.now) texts.now) count first.now) }
+    ensures { OnOk result (out.new.items ≡ out.old.items
+        ++ interpretive_text notation language name.now (map (λ t. t.now) texts.now) count first.now) }
 {
     let text = text_at(texts, first.line);
     let mut lines = Vec::new(alloc);
@@ -198,7 +213,8 @@ fn push_kind(
     faults: &[Finding],
 ) -> Result<(), AllocError>
     requires { map (λ t. t.now) texts.now ≡ lines source.now }
-    ensures { OnOk result (out.new.items ≡ out.old.items ++ (if length faults.now == 0 then [] else kind_of_source notation name.now source.now)) }
+    ensures { OnOk result (out.new.items ≡ out.old.items
+        ++ (if length faults.now == 0 then [] else kind_of_source notation name.now source.now)) }
 {
     if faults.is_empty() {
         Ok(())
@@ -315,7 +331,8 @@ fn push_merged(
     faults: &[Finding],
     warnings: &[Warning],
 ) -> Result<(), AllocError>
-    ensures { OnOk result (out.new.items ≡ out.old.items ++ listed notation language name.now labels.now (map (λ t. t.now) texts.now) faults.now warnings.now) }
+    ensures { OnOk result (out.new.items ≡ out.old.items
+        ++ listed notation language name.now labels.now (map (λ t. t.now) texts.now) faults.now warnings.now) }
 {
     let mut rest = warnings;
     for fault in faults {
@@ -349,7 +366,8 @@ fn push_warnings(
     texts: &[&[u8]],
     warnings: &[Warning],
 ) -> Result<(), AllocError>
-    ensures { OnOk result (out.new.items ≡ out.old.items ++ flat_map (shown_warning notation language name.now (map (λ t. t.now) texts.now)) warnings.now) }
+    ensures { OnOk result (out.new.items ≡ out.old.items
+        ++ flat_map (shown_warning notation language name.now (map (λ t. t.now) texts.now)) warnings.now) }
 {
     for warning in warnings {
         push_shown_warning(out, notation, language, name, texts, warning)?;
@@ -366,7 +384,8 @@ fn push_shown_warning(
     texts: &[&[u8]],
     warning: &Warning,
 ) -> Result<(), AllocError>
-    ensures { OnOk result (out.new.items ≡ out.old.items ++ shown_warning notation language name.now (map (λ t. t.now) texts.now) warning.now) }
+    ensures { OnOk result (out.new.items ≡ out.old.items
+        ++ shown_warning notation language name.now (map (λ t. t.now) texts.now) warning.now) }
 {
     let text = text_at(texts, warning.line);
     push_warning(
@@ -389,7 +408,8 @@ fn push_shown_error(
     texts: &[&[u8]],
     fault: &Finding,
 ) -> Result<(), AllocError>
-    ensures { OnOk result (out.new.items ≡ out.old.items ++ shown_error notation language name.now labels.now (map (λ t. t.now) texts.now) fault.now) }
+    ensures { OnOk result (out.new.items ≡ out.old.items
+        ++ shown_error notation language name.now labels.now (map (λ t. t.now) texts.now) fault.now) }
 {
     let text = text_at(texts, fault.line);
     push_shown_line(
@@ -418,7 +438,9 @@ fn push_shown_line(
     parts: &Reading<'_>,
     fault: &Finding,
 ) -> Result<(), AllocError>
-    ensures { OnOk result (out.new.items ≡ out.old.items ++ shown_line notation language name.now labels.now (map (λ t. t.now) texts.now) text.now (parts_in parts.now) fault.now) }
+    ensures { OnOk result (out.new.items ≡ out.old.items
+        ++ shown_line notation language name.now labels.now (map (λ t. t.now) texts.now) text.now (parts_in parts.now)
+        fault.now) }
 {
     match line_below(language, labels, texts, parts, fault) {
         Some(line) => push_below(
@@ -444,7 +466,8 @@ fn push_below(
     line: u64,
 ) -> Result<(), AllocError>
     ensures { OnOk result (out.new.items ≡ out.old.items
-        ++ told_in notation name.now text.now (parts_in parts.now) (decimal line) (Some (place_of language (map (λ t. t.now) texts.now) line)) (as_error fault.now) below_cause) }
+        ++ told_in notation name.now text.now (parts_in parts.now) (decimal line)
+        (Some (place_of language (map (λ t. t.now) texts.now) line)) (as_error fault.now) below_cause) }
 {
     let mut digits = ArrayVec::<u8, DIGITS>::new();
     push_decimal(&mut digits, line);
@@ -484,7 +507,8 @@ fn is_early(kind: FaultKind) -> bool
     matches!(kind, FaultKind::UsedTooEarly)
 }
 
-// Whether a symbol needs its value on a line that names it: not on one of a flight source whose label may wait for that.
+// Whether a symbol needs its value on a line that names it: not on one of a flight source whose label may wait for
+// that.
 fn needs_value(language: Language, parts: &Reading<'_>) -> bool
     ensures { result ≡ needs_value language (parts_in parts.now) }
 {
@@ -507,7 +531,9 @@ fn push_beside(
     parts: &Reading<'_>,
     fault: &Finding,
 ) -> Result<(), AllocError>
-    ensures { OnOk result (out.new.items ≡ out.old.items ++ beside_text notation language name.now labels.now (map (λ t. t.now) texts.now) text.now (parts_in parts.now) fault.now) }
+    ensures { OnOk result (out.new.items ≡ out.old.items
+        ++ beside_text notation language name.now labels.now (map (λ t. t.now) texts.now) text.now (parts_in parts.now)
+        fault.now) }
 {
     match line_beside(language, labels, texts, parts, fault) {
         Some(line) => {
@@ -528,7 +554,8 @@ fn push_beside(
     }
 }
 
-// The line that a fault is told with: the one whose word stands already where its own would, or the first that has its label.
+// The line that a fault is told with: the one whose word stands already where its own would, or the first that has its
+// label.
 fn line_beside(
     language: Language,
     labels: &NameSet,

@@ -2,7 +2,12 @@
 
 ghost use Rattle.std.specs.Prelude.{◌≡◌};
 ghost use Rattle.yayul.specs.Readings.{parts_in};
-ghost use Rattle.faults.specs.FlightCauses.{unsure_operators, compares, form_cause, signed_label_cause, has_signed_label, has_octal_alone, has_signed_alone, decimal_cause, flight_operand_cause, flight_label_cause, flight_operator_cause, flight_early_cause, waiting_cause, flight_kind_cause, is_moved_back, is_between_banks, flight_range_cause, flight_cause, is_of_flight, is_of_form, told_cause};
+ghost use Rattle.faults.specs.FlightCauses.{unsure_operators, compares, form_cause, signed_label_cause};
+ghost use Rattle.faults.specs.FlightCauses.{has_signed_label, has_octal_alone, has_signed_alone, decimal_cause};
+ghost use Rattle.faults.specs.FlightCauses.{flight_operand_cause, flight_label_cause, flight_operator_cause};
+ghost use Rattle.faults.specs.FlightCauses.{flight_early_cause, waiting_cause, flight_kind_cause, is_moved_back};
+ghost use Rattle.faults.specs.FlightCauses.{is_between_banks, flight_range_cause, flight_cause, is_of_flight};
+ghost use Rattle.faults.specs.FlightCauses.{is_of_form, told_cause};
 ghost use Rattle.faults.specs.Report.{flight_clause};
 ghost use Rattle.faults.specs.Views.{cause_in, entries};
 
@@ -252,7 +257,8 @@ fn waiting_cause(near: bool, parts: &Reading<'_>) -> Cause
     ensures { cause_in result ≡ waiting_cause near (parts_in parts.now) }
 {
     symbol_cause(
-        b"@ has no value: no line defines it, or names wait for one another in a circle, or in a chain of more than eight",
+        b"@ has no value: no line defines it, or names wait for one another in a circle, or in a chain of more than \
+            eight",
         near,
         parts,
     )
@@ -269,7 +275,8 @@ fn flight_kind_cause(near: bool, text: &[u8], parts: &Reading<'_>, finding: &Fin
         )
     } else if takes_low_bank(parts.role) {
         Cause::said(
-            b"% takes a fixed place of a bank below 30, and @^ is none: what yaYUL adds from bank 30 on is not known for sure",
+            b"% takes a fixed place of a bank below 30, and @^ is none: what yaYUL adds from bank 30 on is not known \
+                for sure",
         )
     } else if is_count_complement(parts.role) {
         Cause::said(b"% takes a word of erasable memory, and @^ is not there")
@@ -312,8 +319,8 @@ fn is_moved_back(parts: &Reading<'_>) -> bool
 fn is_between_banks(parts: &Reading<'_>) -> bool
     ensures { result ≡ is_between_banks (parts_in parts.now) }
 {
-    let is_between =
-        matches!(octal_value(text_of(parts.operand)), Some(Number::Small(number)) if (0o14000..0o20000).contains(&number));
+    let is_between = matches!(octal_value(text_of(parts.operand)), Some(Number::Small(number)) if
+            (0o14000..0o20000).contains(&number));
     is_between && parts.offset.is_none()
 }
 

@@ -2,7 +2,9 @@
 
 ghost use Rattle.std.specs.Prelude.{◌≡◌, ◌≤◌, ◌++◌, map, false, OnOk};
 ghost use Rattle.yayul.specs.Readings.{parts_in};
-ghost use Rattle.faults.specs.Warnings.{gives_word, is_instruction, is_jump_register, is_jump_place, leaves, goes_on_to_instruction, end_warnings, is_vector, sets_vector, word_count, is_overrun, vector_warnings, filled_after, before_next, at_start};
+ghost use Rattle.faults.specs.Warnings.{gives_word, is_instruction, is_jump_register, is_jump_place, leaves};
+ghost use Rattle.faults.specs.Warnings.{goes_on_to_instruction, end_warnings, is_vector, sets_vector, word_count};
+ghost use Rattle.faults.specs.Warnings.{is_overrun, vector_warnings, filled_after, before_next, at_start};
 ghost use Rattle.faults.specs.Warnings.{is_among};
 ghost use Rattle.agc_text.specs.Digits.{digits_value};
 ghost use Rattle.agc_text.specs.Tables.{value_in};
@@ -156,7 +158,8 @@ pub(crate) fn warn_of_end(
     parts: &Reading<'_>,
     found: &mut Vec<Warning>,
 ) -> Result<(), AllocError>
-    ensures { OnOk result (found.new.items ≡ found.old.items ++ end_warnings read.now before (map parts_in after.now) line (parts_in parts.now)) }
+    ensures { OnOk result (found.new.items
+        ≡ found.old.items ++ end_warnings read.now before (map parts_in after.now) line (parts_in parts.now)) }
 {
     match parts.operator {
         Some(operator) => {

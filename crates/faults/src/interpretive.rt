@@ -1,9 +1,13 @@
-//! Lines of the interpretive language, which is not taken: which faults of a flight source are of it, and which are told.
+//! Lines of the interpretive language, which is not taken: which faults of a flight source are of it, and which are
+//! told.
 
 ghost use Rattle.std.specs.Prelude.{◌≡◌, ◌≤◌, ◌++◌, ◌+◌, drop, length, map, IfOk, OnOk};
 ghost use Rattle.std.specs.List.{position_or_len};
 ghost use Rattle.yayul.specs.Readings.{parts_in};
-ghost use Rattle.faults.specs.Interpretive.{has_field, interpretive_operators, is_exit, parts_at, is_interpretive, is_of_operator, is_operand_alone, next_said, operand_line, is_of_interpreter, others, first_and_others, count_before_first, interpretive_cause};
+ghost use Rattle.faults.specs.Interpretive.{has_field, interpretive_operators, is_exit, parts_at, is_interpretive};
+ghost use Rattle.faults.specs.Interpretive.{is_of_operator, is_operand_alone, next_said, operand_line};
+ghost use Rattle.faults.specs.Interpretive.{is_of_interpreter, others, first_and_others, count_before_first};
+ghost use Rattle.faults.specs.Interpretive.{interpretive_cause};
 ghost use Rattle.faults.specs.Views.{cause_in};
 
 use crate::causes::{Cause, text_of};
@@ -20,7 +24,8 @@ pub(crate) fn interpretive_cause() -> Cause
     Cause::said(b"the interpretive language is not taken: ~ from this one on")
 }
 
-/// The first of some faults, which stands for all of lines of the interpretive language, and those of the others that are of none.
+/// The first of some faults, which stands for all of lines of the interpretive language, and those of the others that
+/// are of none.
 pub(crate) fn first_and_others(
     alloc: Global,
     texts: &[&[u8]],
@@ -52,7 +57,8 @@ fn push_first_and_others(
     faults: &[Finding],
     told: &mut Vec<Finding>,
 ) -> Result<(), AllocError>
-    ensures { OnOk result (told.new.items ≡ told.old.items ++ first_and_others (map (λ t. t.now) texts.now) faults.now) }
+    ensures { OnOk result (told.new.items ≡ told.old.items
+        ++ first_and_others (map (λ t. t.now) texts.now) faults.now) }
 {
     match faults.split_first() {
         Some((first, rest)) => {
@@ -63,7 +69,8 @@ fn push_first_and_others(
     }
 }
 
-// Appends those of some faults that are of no line of the interpretive language, an operand of which may stand on a line.
+// Appends those of some faults that are of no line of the interpretive language, an operand of which may stand on a
+// line.
 fn push_others(
     texts: &[&[u8]],
     operand: u64,
@@ -124,7 +131,8 @@ fn is_operand_alone(parts: &Reading<'_>) -> bool
     parts.label.is_none() && moved && parts.offset.is_none()
 }
 
-// The number of the line on which an operand of the interpretive language may stand, after a line of that; 0 after EXIT.
+// The number of the line on which an operand of the interpretive language may stand, after a line of that; 0 after
+// EXIT.
 fn operand_line(texts: &[&[u8]], line: u32) -> u64
     ensures { result ≡ operand_line (map (λ t. t.now) texts.now) line }
 {

@@ -4,7 +4,8 @@ ghost use Rattle.std.specs.Prelude.{◌≡◌, ◌++◌, ◌==◌, map, length, 
 ghost use Rattle.agc_text.specs.Fields.{fields, runs, texts};
 ghost use Rattle.agc_text.specs.Lines.{lines};
 ghost use Rattle.json_text.specs.declared.notation.Notation.TheVariants.{Text};
-ghost use Rattle.faults.specs.Kinds.{is_input, is_image, begins_series, is_of_feed, is_of_source, first_said, note, kind_of_source, kind_of_feed};
+ghost use Rattle.faults.specs.Kinds.{is_input, is_image, begins_series, is_of_feed, is_of_source, first_said, note};
+ghost use Rattle.faults.specs.Kinds.{kind_of_source, kind_of_feed};
 
 use crate::objects::push_file_object;
 use agc_text::{before_comment, split_field};

@@ -1,4 +1,5 @@
-//! Faults in words: what their numbers mean, and those of a source with the lines that they stand on, beside its warnings.
+//! Faults in words: what their numbers mean, and those of a source with the lines that they stand on, beside its
+//! warnings.
 #![tactic(auto)]
 
 mod causes;

@@ -4,7 +4,10 @@ ghost use Rattle.std.specs.Prelude.{◌≡◌, ◌≤◌, ◌+◌, length};
 ghost use Rattle.std.specs.Option.{option_map};
 ghost use Rattle.agc_text.specs.Views.{piece};
 ghost use Rattle.yayul.specs.Readings.{parts_in};
-ghost use Rattle.faults.specs.Mending.{behind_span, comment_span, end_in, first_begins, foreign_mend, gap_after, gap_span, indent_span, is_comment_at, line_at, line_mend, meant_mend, mend_of, name_mend, octal_span, operand_mend, operator_mend, piece_span, sign_place, sign_span, span_at, sure, unsure};
+ghost use Rattle.faults.specs.Mending.{behind_span, comment_span, end_in, first_begins, foreign_mend, gap_after};
+ghost use Rattle.faults.specs.Mending.{gap_span, indent_span, is_comment_at, line_at, line_mend, meant_mend, mend_of};
+ghost use Rattle.faults.specs.Mending.{name_mend, octal_span, operand_mend, operator_mend, piece_span, sign_place};
+ghost use Rattle.faults.specs.Mending.{sign_span, span_at, sure, unsure};
 ghost use Rattle.faults.specs.Views.{mend_in};
 
 use crate::causes::{is_beyond_octal, is_foreign_comment, text_of};
@@ -216,7 +219,8 @@ fn foreign_mend(meant: &[u8]) -> Option<Mend>
     }
 }
 
-/// The bytes of a line that an edit takes the place of, where a finding has some to blame; none where what it asks for does not stand.
+/// The bytes of a line that an edit takes the place of, where a finding has some to blame; none where what it asks for
+/// does not stand.
 #[tactic(auto, unfolding(crate::specs::Mending::span_at))]
 pub(crate) fn span_at(at: At, text: &[u8], parts: &Reading<'_>, blamed: &Span) -> Option<Span>
     ensures { result ≡ span_at at text.now (parts_in parts.now) blamed.now }

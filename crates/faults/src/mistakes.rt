@@ -7,7 +7,11 @@ ghost use Rattle.agc_text.specs.Fields.{fields, label_of};
 ghost use Rattle.agc_text.specs.Views.{piece};
 ghost use Rattle.yayul.specs.Survey.{field_at, span_of};
 ghost use Rattle.yayul.specs.Readings.{parts_in};
-ghost use Rattle.faults.specs.Warnings.{is_among, has_operator, has_alone, warned_if, at_field, label_warnings, is_register_number, indexed_after, number_warnings, reserves_one, with_field, with_single, pair_warnings, unused_warnings, name_warnings, flow_warnings, operand_warnings, erasable_warnings, fixed_warnings, with_read, banks_after, names_of, at_start, line_warnings, lines_apart, warned_lines, warnings};
+ghost use Rattle.faults.specs.Warnings.{is_among, has_operator, has_alone, warned_if, at_field, label_warnings};
+ghost use Rattle.faults.specs.Warnings.{is_register_number, indexed_after, number_warnings, reserves_one, with_field};
+ghost use Rattle.faults.specs.Warnings.{with_single, pair_warnings, unused_warnings, name_warnings, flow_warnings};
+ghost use Rattle.faults.specs.Warnings.{operand_warnings, erasable_warnings, fixed_warnings, with_read, banks_after};
+ghost use Rattle.faults.specs.Warnings.{names_of, at_start, line_warnings, lines_apart, warned_lines, warnings};
 
 use crate::flow::{Before, is_instruction, warn_of_end, warn_of_vector};
 use crate::names::{NameSet, is_among, is_short};
@@ -23,7 +27,8 @@ use yayul::{Language, Reading, Span, is_operator, most_lines, reading_of};
 /// How many lines are looked at, at most.
 const LINES: usize = 262_145;
 
-/// The warnings of a source of a language, in the order of lines; those of labels that no operand names where they are asked for.
+/// The warnings of a source of a language, in the order of lines; those of labels that no operand names where they are
+/// asked for.
 #[tactic(auto, unfolding(crate::specs::Warnings::warnings))]
 pub fn warnings(
     alloc: Global,
@@ -40,7 +45,8 @@ pub fn warnings(
     Ok(found)
 }
 
-// The lines of a source that are looked at, as many as one may have, and one; taken apart, once for all that is asked of them.
+// The lines of a source that are looked at, as many as one may have, and one; taken apart, once for all that is asked
+// of them.
 fn lines_apart(
     alloc: Global,
     language: Language,
@@ -115,7 +121,8 @@ impl Names {
     // Adds the names of a line.
     fn note(&mut self, parts: &Reading<'_>) -> Result<(), AllocError>
         ensures singles { OnOk result (self.new.singles ≡ with_single self.old.singles (parts_in parts.now)) }
-        ensures operands { OnOk result (self.new.operands ≡ with_field self.old.operands (option_map piece parts.now.operand)) }
+        ensures operands { OnOk result (self.new.operands
+            ≡ with_field self.old.operands (option_map piece parts.now.operand)) }
         ensures read { OnOk result (self.new.read ≡ with_read self.old.read (parts_in parts.now)) }
         ensures banks { OnOk result (self.new.banks ≡ banks_after self.old.banks (parts_in parts.now)) }
     {
@@ -138,7 +145,8 @@ impl Names {
         found: &mut Vec<Warning>,
     ) -> Result<(), AllocError>
         requires { length lines.now ≤ LINES }
-        ensures { OnOk result (found.new.items ≡ found.old.items ++ warned_lines language unused self.now at_start 1 (map parts_in lines.now)) }
+        ensures { OnOk result (found.new.items
+            ≡ found.old.items ++ warned_lines language unused self.now at_start 1 (map parts_in lines.now)) }
     {
         let mut before = Before::at_start();
         for (index, parts) in lines.iter().enumerate() {
@@ -161,7 +169,9 @@ impl Names {
         parts: &Reading<'_>,
         found: &mut Vec<Warning>,
     ) -> Result<(), AllocError>
-        ensures { OnOk result (found.new.items ≡ found.old.items ++ line_warnings language unused self.now before (map parts_in after.now) line (parts_in parts.now)) }
+        ensures { OnOk result (found.new.items
+            ≡ found.old.items ++ line_warnings language unused self.now before (map parts_in after.now) line
+            (parts_in parts.now)) }
     {
         self.warn_of_names(language, unused, before, line, parts, found)?;
         self.warn_of_flow(language, before, after, line, parts, found)?;
@@ -178,7 +188,8 @@ impl Names {
         parts: &Reading<'_>,
         found: &mut Vec<Warning>,
     ) -> Result<(), AllocError>
-        ensures { OnOk result (found.new.items ≡ found.old.items ++ name_warnings language unused self.now before line (parts_in parts.now)) }
+        ensures { OnOk result (found.new.items
+            ≡ found.old.items ++ name_warnings language unused self.now before line (parts_in parts.now)) }
     {
         warn_of_label(language, line, parts, found)?;
         warn_of_register(before.place, line, parts, found)?;
@@ -198,7 +209,9 @@ impl Names {
         parts: &Reading<'_>,
         found: &mut Vec<Warning>,
     ) -> Result<(), AllocError>
-        ensures { OnOk result (found.new.items ≡ found.old.items ++ flow_warnings language self.now before (map parts_in after.now) line (parts_in parts.now)) }
+        ensures { OnOk result (found.new.items
+            ≡ found.old.items ++ flow_warnings language self.now before (map parts_in after.now) line
+            (parts_in parts.now)) }
     {
         if matches!(language, Language::Standard) {
             warn_of_end(&self.read, before, after, line, parts, found)?;
@@ -214,7 +227,8 @@ impl Names {
         parts: &Reading<'_>,
         found: &mut Vec<Warning>,
     ) -> Result<(), AllocError>
-        ensures { OnOk result (found.new.items ≡ found.old.items ++ operand_warnings self.now before line (parts_in parts.now)) }
+        ensures { OnOk result (found.new.items
+            ≡ found.old.items ++ operand_warnings self.now before line (parts_in parts.now)) }
     {
         warn_of_number(before.indexed, line, parts, found)?;
         warn_of_pair(&self.singles, line, parts, found)?;
@@ -230,7 +244,8 @@ impl Names {
         parts: &Reading<'_>,
         found: &mut Vec<Warning>,
     ) -> Result<(), AllocError>
-        ensures { OnOk result (found.new.items ≡ found.old.items ++ erasable_warnings self.now line (parts_in parts.now)) }
+        ensures { OnOk result (found.new.items
+            ≡ found.old.items ++ erasable_warnings self.now line (parts_in parts.now)) }
     {
         match parts.operand {
             Some(operand) => {
@@ -251,7 +266,8 @@ impl Names {
         parts: &Reading<'_>,
         found: &mut Vec<Warning>,
     ) -> Result<(), AllocError>
-        ensures { OnOk result (found.new.items ≡ found.old.items ++ fixed_warnings self.now region line (parts_in parts.now)) }
+        ensures { OnOk result (found.new.items
+            ≡ found.old.items ++ fixed_warnings self.now region line (parts_in parts.now)) }
     {
         match parts.operand {
             Some(operand) => {
@@ -344,7 +360,8 @@ fn warn_of_unused(
     parts: &Reading<'_>,
     found: &mut Vec<Warning>,
 ) -> Result<(), AllocError>
-    ensures { OnOk result (found.new.items ≡ found.old.items ++ unused_warnings operands.now line (parts_in parts.now)) }
+    ensures { OnOk result (found.new.items
+        ≡ found.old.items ++ unused_warnings operands.now line (parts_in parts.now)) }
 {
     match parts.label {
         Some(label) => {

@@ -19,7 +19,8 @@ pub(crate) enum Closeness {
 /// The fewest bytes of a text for which names that are near are sought.
 pub(crate) const SHORTEST: usize = 3;
 
-/// The first of some names that is a text in capitals; else, for a text of three bytes or more, one that is near, as long where there is one.
+/// The first of some names that is a text in capitals; else, for a text of three bytes or more, one that is near, as
+/// long where there is one.
 #[tactic(auto, using(crate::proofs::NearNames::sought_on, crate::proofs::NearNames::sought_far, crate::proofs::NearNames::sought_held, crate::proofs::NearNames::sought_past, crate::proofs::NearNames::sought_here, crate::proofs::NearNames::sought_none))]
 pub fn near_in(names: &[&'static str], text: &[u8]) -> Option<&'static [u8]>
     ensures { option_map (λ name. name.now) result ≡ near_name (map (λ name. name.now) names.now) text.now }
@@ -56,7 +57,8 @@ fn found_first(
     passes: bool,
     name: &'static [u8],
 ) -> Option<&'static [u8]>
-    ensures { option_map (λ name. name.now) result ≡ option_or (option_map (λ name. name.now) found.entry) (if passes then Some name.now else None) }
+    ensures { option_map (λ name. name.now) result
+        ≡ option_or (option_map (λ name. name.now) found.entry) (if passes then Some name.now else None) }
 {
     match found {
         Some(found) => Some(found),
@@ -106,7 +108,8 @@ fn is_near_where_it_begins(text: &[u8], name: &[u8]) -> bool
 
 // Whether a text has one byte more than a name at most, and one less at least.
 fn is_about_as_long(text: &[u8], name: &[u8]) -> bool
-    ensures { result ≡ (nat_le (length text.now) (length name.now + 1) && nat_le (length name.now) (length text.now + 1)) }
+    ensures { result ≡ (nat_le (length text.now) (length name.now + 1)
+        && nat_le (length name.now) (length text.now + 1)) }
 {
     text.len().abs_diff(name.len()) <= 1
 }
@@ -134,7 +137,8 @@ fn capital(byte: u8) -> u8
     }
 }
 
-// Whether one byte of a text differs from a name, or is one too many in either; or two beside one another are exchanged.
+// Whether one byte of a text differs from a name, or is one too many in either; or two beside one another are
+// exchanged.
 fn is_near(text: &[u8], name: &[u8]) -> bool
     ensures { result ≡ is_near text.now name.now }
 {

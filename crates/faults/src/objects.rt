@@ -5,7 +5,9 @@ ghost use Rattle.std.specs.Option.{option_map};
 ghost use Rattle.json_text.specs.Strings.{escaped_byte, hex_digit, json_string};
 ghost use Rattle.yayul.specs.Readings.{parts_in};
 ghost use Rattle.faults.specs.Causes.{filled};
-ghost use Rattle.faults.specs.Objects.{bool_text, count_object, cure_or_null, edit_text, file_object, finding_object, fix_text, front_span, head_text, kind_members, place_members, place_of, place_or_null, said_text};
+ghost use Rattle.faults.specs.Objects.{bool_text, count_object, cure_or_null, edit_text, file_object, finding_object};
+ghost use Rattle.faults.specs.Objects.{fix_text, front_span, head_text, kind_members, place_members, place_of};
+ghost use Rattle.faults.specs.Objects.{place_or_null, said_text};
 ghost use Rattle.faults.specs.Shown.{text_at};
 ghost use Rattle.faults.specs.Views.{cause_in, mend_in, place_in};
 
@@ -74,7 +76,9 @@ pub(crate) fn push_object(
     told: &Told,
     cause: &Cause,
 ) -> Result<(), AllocError>
-    ensures { OnOk result (out.new.items ≡ out.old.items ++ finding_object name.now text.now (parts_in parts.now) beside.now (option_map place_in other.entry) told.now (cause_in cause.now)) }
+    ensures { OnOk result (out.new.items ≡ out.old.items
+        ++ finding_object name.now text.now (parts_in parts.now) beside.now (option_map place_in other.entry) told.now
+        (cause_in cause.now)) }
 {
     push_head(out, name, text, told)?;
     push_said(out, parts, beside, cause)?;

@@ -72,7 +72,8 @@ pub fn meaning(number: u8) -> &'static [u8]
         3 => b"the image ends before its 73,728 bytes",
         4 => b"bytes stand after the 73,728 of the image",
         5 =>
-            b"the lowest bit of two bytes of the image is wrong: in version 1 it is 1, in version 2 they have an even number of one bits",
+            b"the lowest bit of two bytes of the image is wrong: in version 1 it is 1, in version 2 they have an even \
+                number of one bits",
         6 => b"a file could not be opened or read",
         7 => b"a file could not be made, or a write failed",
         10 => b"a byte stands here that a line may not hold",

@@ -37,7 +37,8 @@ pub(crate) fn warn_of_register(
 
 // Whether a register's name stands for another place on a line.
 fn is_taken(place: Option<u32>, name: &[u8], parts: &Reading<'_>) -> bool
-    ensures { result ≡ option_map_or (λ register. is_elsewhere place register (parts_in parts.now)) (value_in registers name.now) false }
+    ensures { result ≡ option_map_or (λ register. is_elsewhere place register (parts_in parts.now))
+        (value_in registers name.now) false }
 {
     match value_in(registers(), name) {
         Some(register) => is_elsewhere(place, register, parts),
@@ -45,8 +46,8 @@ fn is_taken(place: Option<u32>, name: &[u8], parts: &Reading<'_>) -> bool
     }
 }
 
-// Whether a line gives another number than that of a register; or stands for a place or has a word, and its place is not known to
-// be the register's.
+// Whether a line gives another number than that of a register; or stands for a place or has a word, and its place is
+// not known to be the register's.
 fn is_elsewhere(place: Option<u32>, register: &[u8], parts: &Reading<'_>) -> bool
     ensures { result ≡ is_elsewhere place register.now (parts_in parts.now) }
 {

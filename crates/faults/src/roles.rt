@@ -1,7 +1,13 @@
 //! What is asked of an operator, by what it is.
 
 ghost use Rattle.std.specs.Prelude.{◌≡◌};
-ghost use Rattle.faults.specs.Roles.{leads_on_to, subtracts, gives_two, is_block, is_constant, is_count_complement, is_decimal, is_decimal_pair, is_equals, is_erase, is_index, is_leaving, is_octal, is_octal_pair, is_read_fixed, is_setloc, is_verb_noun, keeps_location, leads_to_fixed, moves_location, names_bank, reads, reads_erasable, reads_word, refuses_label, sets_bank, stores, takes_channel, takes_decimal, takes_erasable_place, takes_fixed_place, takes_low_bank, takes_nothing, takes_pair, writes_erasable};
+ghost use Rattle.faults.specs.Roles.{leads_on_to, subtracts, gives_two, is_block, is_constant, is_count_complement};
+ghost use Rattle.faults.specs.Roles.{is_decimal, is_decimal_pair, is_equals, is_erase, is_index, is_leaving, is_octal};
+ghost use Rattle.faults.specs.Roles.{is_octal_pair, is_read_fixed, is_setloc, is_verb_noun, keeps_location};
+ghost use Rattle.faults.specs.Roles.{leads_to_fixed, moves_location, names_bank, reads, reads_erasable, reads_word};
+ghost use Rattle.faults.specs.Roles.{refuses_label, sets_bank, stores, takes_channel, takes_decimal};
+ghost use Rattle.faults.specs.Roles.{takes_erasable_place, takes_fixed_place, takes_low_bank, takes_nothing};
+ghost use Rattle.faults.specs.Roles.{takes_pair, writes_erasable};
 
 use yayul::Role;
 

@@ -4,7 +4,8 @@ ghost use Rattle.std.specs.Prelude.{◌≡◌, ◌||◌, map, option_and_then};
 ghost use Rattle.std.specs.Option.{option_map};
 ghost use Rattle.agc_text.specs.Views.{piece};
 ghost use Rattle.yayul.specs.Readings.{parts_in};
-ghost use Rattle.faults.specs.Warnings.{number_in, number_beside, place_past, place_after, bank_after, is_same_known, leads_on, small_number};
+ghost use Rattle.faults.specs.Warnings.{number_in, number_beside, place_past, place_after, bank_after, is_same_known};
+ghost use Rattle.faults.specs.Warnings.{leads_on, small_number};
 
 use crate::flow::word_count;
 use crate::mistakes::{has_alone, reserves_one};

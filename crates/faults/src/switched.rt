@@ -5,7 +5,10 @@ ghost use Rattle.std.specs.List.{list_any};
 ghost use Rattle.std.specs.Option.{option_map, option_map_or};
 ghost use Rattle.agc_text.specs.Views.{piece};
 ghost use Rattle.yayul.specs.Readings.{parts_in};
-ghost use Rattle.faults.specs.Warnings.{region_of_place, region_of_bank, region_at, region_after, is_common, is_switched_erasable, is_switched_fixed, with_erasable, with_fixed, is_bank_place, is_bank_number, is_bank_field, with_bank_name, with_stored, banks_after, no_banks, may_set_erasable, may_set_fixed};
+ghost use Rattle.faults.specs.Warnings.{region_of_place, region_of_bank, region_at, region_after, is_common};
+ghost use Rattle.faults.specs.Warnings.{is_switched_erasable, is_switched_fixed, with_erasable, with_fixed};
+ghost use Rattle.faults.specs.Warnings.{is_bank_place, is_bank_number, is_bank_field, with_bank_name, with_stored};
+ghost use Rattle.faults.specs.Warnings.{banks_after, no_banks, may_set_erasable, may_set_fixed};
 
 use crate::mistakes::{add_field, has_alone};
 use crate::names::NameSet;

@@ -7,7 +7,8 @@ ghost use Rattle.yayul.specs.Readings.{parts_in};
 ghost use Rattle.faults.specs.Shown.{shown_byte};
 ghost use Rattle.faults.specs.Causes.{filled, filled_byte, is_mark, of_line};
 ghost use Rattle.faults.specs.Views.{cause_in, place_in};
-ghost use Rattle.faults.specs.Report.{margin_byte, numbered, shown_part, row_text, marks_text, place_text, kind_text, caused_text, message_text, cure_text, error_text, told_in, warning_text};
+ghost use Rattle.faults.specs.Report.{margin_byte, numbered, shown_part, row_text, marks_text, place_text, kind_text};
+ghost use Rattle.faults.specs.Report.{caused_text, message_text, cure_text, error_text, told_in, warning_text};
 
 use crate::causes::{Cause, text_of, warning_cause};
 use crate::flight_causes::told_cause;
@@ -59,7 +60,8 @@ fn push_message(
     told: &Told,
     cause: &Cause,
 ) -> Result<(), AllocError>
-    ensures { OnOk result (out.new.items ≡ out.old.items ++ message_text (parts_in parts.now) label.now told.now (cause_in cause.now)) }
+    ensures { OnOk result (out.new.items ≡ out.old.items
+        ++ message_text (parts_in parts.now) label.now told.now (cause_in cause.now)) }
 {
     out.extend_from_slice(kind_text(told.severity))?;
     push_number(out, u64::from(told.number))?;
@@ -76,7 +78,8 @@ fn push_cure(
     label: &[u8],
     cause: &Cause,
 ) -> Result<(), AllocError>
-    ensures { OnOk result (out.new.items ≡ out.old.items ++ cure_text (parts_in parts.now) label.now (cause_in cause.now)) }
+    ensures { OnOk result (out.new.items ≡ out.old.items
+        ++ cure_text (parts_in parts.now) label.now (cause_in cause.now)) }
 {
     if !cause.cure.is_empty() || cause.flight {
         out.extend_from_slice(b"      = ")?;
@@ -219,7 +222,8 @@ pub(crate) fn push_error(
     fault: &Finding,
 ) -> Result<(), AllocError>
     ensures { OnOk result (out.new.items ≡ out.old.items
-        ++ error_text notation language name.now text.now (parts_in parts.now) (option_map (λ label. label.now) near.entry) (option_map place_in place.entry) fault.now) }
+        ++ error_text notation language name.now text.now (parts_in parts.now)
+        (option_map (λ label. label.now) near.entry) (option_map place_in place.entry) fault.now) }
 {
     let cause = told_cause(language, near.is_some(), text, parts, fault);
     let label = label_of(near);
@@ -246,7 +250,8 @@ pub(crate) fn push_warning(
     parts: &Reading<'_>,
     warning: &Warning,
 ) -> Result<(), AllocError>
-    ensures { OnOk result (out.new.items ≡ out.old.items ++ warning_text notation name.now text.now (parts_in parts.now) warning.now) }
+    ensures { OnOk result (out.new.items ≡ out.old.items
+        ++ warning_text notation name.now text.now (parts_in parts.now) warning.now) }
 {
     push_finding(
         out,
@@ -284,7 +289,8 @@ pub(crate) fn push_finding(
     cause: &Cause,
 ) -> Result<(), AllocError>
     ensures { OnOk result (out.new.items ≡ out.old.items
-        ++ told_in notation name.now text.now (parts_in parts.now) label.now (option_map place_in place.entry) told.now (cause_in cause.now)) }
+        ++ told_in notation name.now text.now (parts_in parts.now) label.now (option_map place_in place.entry) told.now
+        (cause_in cause.now)) }
 {
     match notation {
         Notation::Text => push_caused(out, name, text, parts, label, told, cause),
@@ -302,7 +308,8 @@ fn push_caused(
     told: &Told,
     cause: &Cause,
 ) -> Result<(), AllocError>
-    ensures { OnOk result (out.new.items ≡ out.old.items ++ caused_text name.now text.now (parts_in parts.now) label.now told.now (cause_in cause.now)) }
+    ensures { OnOk result (out.new.items ≡ out.old.items
+        ++ caused_text name.now text.now (parts_in parts.now) label.now told.now (cause_in cause.now)) }
 {
     push_place(out, name, text, told)?;
     push_message(out, parts, label, told, cause)?;

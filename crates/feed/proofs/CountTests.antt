@@ -1,5 +1,6 @@
 -- A test by which counts are known to fit.
-use Rattle.std.proofs.Common.{ℕ, zero, suc, ◌+◌, ◌-◌, ◌<◌, ◌≤◌, ◌≡◌, ◌≢◌, Bool, true, false, List, [], ◌∷◌, Option, Some, None, length, refl, ap, ◌∙◌, sym, arith, inl, inr, subst, filter, take, get_or, eqb, map, ◌&&◌, ◌||◌}
+use Rattle.std.proofs.Common.{ℕ, zero, suc, ◌+◌, ◌-◌, ◌<◌, ◌≤◌, ◌≡◌, ◌≢◌, Bool, true, false, List, [], ◌∷◌, Option, Some, None, length}
+use Rattle.std.proofs.Common.{refl, ap, ◌∙◌, sym, arith, inl, inr, subst, filter, take, get_or, eqb, map, ◌&&◌, ◌||◌}
 use Rattle.std.specs.Prelude.{◌==◌, slice_get, slice_index, sum, not, set}
 use Rattle.std.proofs.Math.Seq.{take-length}
 use Rattle.feed.specs.declared.entry.Entry.{Entry}
@@ -7,7 +8,8 @@ use Rattle.feed.specs.declared.entry.Plain.{Plain}
 use Rattle.feed.specs.declared.entry.Series.{Series}
 use Rattle.feed.specs.Merged.{is_before, merged, plain_entry, entries_of}
 use Rattle.feed.specs.CountsTaken.{is_from, number_from, CountsTaken}
-use Rattle.feed.specs.Heads.{source, entries_at, AreSources, AreEnded, IsEnded, IsLeast, IsntBefore, IsntAfter, head, number_taken, last_taken, number_before, entry_before, later, passes, stands}
+use Rattle.feed.specs.Heads.{source, entries_at, AreSources, AreEnded, IsEnded, IsLeast, IsntBefore, IsntAfter, head, number_taken}
+use Rattle.feed.specs.Heads.{last_taken, number_before, entry_before, later, passes, stands}
 use Rattle.feed.specs.Order.{NoneBefore, IsInOrder}
 use Rattle.feed.proofs.Sorting.{either_way, before-asym, before-not, is_in_order, filter-yes, filter-no}
 use Rattle.feed.proofs.SourceLaws.{source-merged, source-in_order}
@@ -40,11 +42,14 @@ filter-turn : (p q : Entry → Bool) (xs : List Entry) → filter p (filter q xs
 filter-turn p q [] = refl
 filter-turn p q (x ∷ xs) = elim (either_way (p x)) [
   | inl px ↦ elim (either_way (q x)) [
-    | inl qx ↦ ap (filter p) (filter-yes q x xs qx) ∙ filter-yes p x (filter q xs) px ∙ ap (λ l. x ∷ l) (filter-turn p q xs) ∙ sym (ap (filter q) (filter-yes p x xs px) ∙ filter-yes q x (filter p xs) qx)
-    | inr qx ↦ ap (filter p) (filter-no q x xs qx) ∙ filter-turn p q xs ∙ sym (ap (filter q) (filter-yes p x xs px) ∙ filter-no q x (filter p xs) qx)
+    | inl qx ↦ ap (filter p) (filter-yes q x xs qx) ∙ filter-yes p x (filter q xs) px ∙ ap (λ l. x ∷ l) (filter-turn p q xs)
+        ∙ sym (ap (filter q) (filter-yes p x xs px) ∙ filter-yes q x (filter p xs) qx)
+    | inr qx ↦ ap (filter p) (filter-no q x xs qx) ∙ filter-turn p q xs
+        ∙ sym (ap (filter q) (filter-yes p x xs px) ∙ filter-no q x (filter p xs) qx)
   ]
   | inr px ↦ elim (either_way (q x)) [
-    | inl qx ↦ ap (filter p) (filter-yes q x xs qx) ∙ filter-no p x (filter q xs) px ∙ filter-turn p q xs ∙ sym (ap (filter q) (filter-no p x xs px))
+    | inl qx ↦ ap (filter p) (filter-yes q x xs qx) ∙ filter-no p x (filter q xs) px ∙ filter-turn p q xs
+        ∙ sym (ap (filter q) (filter-no p x xs px))
     | inr qx ↦ ap (filter p) (filter-no q x xs qx) ∙ filter-turn p q xs ∙ sym (ap (filter q) (filter-no p x xs px))
   ]
 ]
@@ -63,7 +68,8 @@ fits-front all front taken counts is few tell enough =
 
 -- From each source all entries before one entry are taken, and no other: then the counts fit.
 pub fits-before : (plain : List Plain) (series : List Series) (taken : ℕ) (counts : List ℕ) (o : Option Entry) → AreSources plain series
-    → ((s : Option ℕ) → number_before o (source plain series s) ≡ number_taken taken counts s) → sum counts ≤ taken → CountsTaken (merged plain series) taken counts
+    → ((s : Option ℕ) → number_before o (source plain series s) ≡ number_taken taken counts s) → sum counts ≤ taken
+    → CountsTaken (merged plain series) taken counts
 unfolding merged
 fits-before plain series taken counts None a tell enough =
     let all = merged plain series in
@@ -72,7 +78,8 @@ fits-before plain series taken counts None a tell enough =
 fits-before plain series taken counts (Some x) a tell enough =
     let all = merged plain series in
     fits-front all (filter (λ e. is_before e x) all) taken counts (front-before x all (is_in_order _)) (few-before x all)
-    (λ s. ap length (filter-turn (is_from s) (λ e. is_before e x) all ∙ ap (filter (λ e. is_before e x)) (source-merged plain series s a)) ∙ tell s) enough
+    (λ s. ap length (filter-turn (is_from s) (λ e. is_before e x) all ∙ ap (filter (λ e. is_before e x)) (source-merged plain series s a))
+    ∙ tell s) enough
 
 -- an entry stands, and before x where that stands
 abbrev last_passes : Option Entry → Option Entry → Bool
@@ -104,7 +111,8 @@ count-none x [] o h = refl
 count-none x (y ∷ ys) o h = ap length (filter-no (λ e. is_before e x) y ys (h y refl) ∙ none-pass x y ys (h y refl) o.0)
 
 -- So many entries are before x as there are up to one that is, where the next is not.
-pub count-before : (x : Entry) (S : List Entry) (k : ℕ) (last : Entry) → IsInOrder S → slice_get S k ≡ Some last → is_before last x ≡ true → NotBeforeAt x S (k + 1) → number_before (Some x) S ≡ k + 1
+pub count-before : (x : Entry) (S : List Entry) (k : ℕ) (last : Entry) → IsInOrder S → slice_get S k ≡ Some last → is_before last x ≡ true
+    → NotBeforeAt x S (k + 1) → number_before (Some x) S ≡ k + 1
 count-before x [] k last o at h n = absurd (cc)
 count-before x (y ∷ ys) zero last o at h n =
     let same : y ≡ last = cc in
@@ -112,7 +120,13 @@ count-before x (y ∷ ys) zero last o at h n =
     let rest = count-none x ys o.1 n in
     ap length (filter-yes (λ e. is_before e x) y ys first) ∙ omega (arith, rest)
 count-before x (y ∷ ys) (suc k) last o at h n = elim (either_way (is_before y x)) [
-  | inl is ↦ ap length (filter-yes (λ e. is_before e x) y ys is) ∙ omega (arith, count-before x ys k last o.1 at h (subst (λ m. NotBeforeAt x ys m) (let e : k + 1 ≡ k + 1 = refl in e) (λ e g. n e (subst (λ m. slice_get (y ∷ ys) m ≡ Some e) (let m : suc (k + 1) ≡ suc k + 1 = omega arith in m) g))))
+  | inl is ↦ ap length (filter-yes (λ e. is_before e x) y ys is)
+      ∙ omega (
+        arith,
+        count-before x ys k last o.1 at h
+            (subst (λ m. NotBeforeAt x ys m) (let e : k + 1 ≡ k + 1 = refl in e)
+            (λ e g. n e (subst (λ m. slice_get (y ∷ ys) m ≡ Some e) (let m : suc (k + 1) ≡ suc k + 1 = omega arith in m) g))),
+      )
   | inr isnt ↦ absurd (let later = not_before-get y last ys k o.0 at in let e = before-not x y last isnt later in cc)
 ]
 
@@ -142,9 +156,12 @@ not-true false e = refl
 above-zero : (m : ℕ) → eqb (suc m) 0 ≡ false
 above-zero m = grind (arith, nat_tests)
 
-next-at : (x : Entry) (S : List Entry) (k : ℕ) (next : Option Entry) → next ≡ slice_get S k → next_passes next (Some x) ≡ true → NotBeforeAt x S k
+next-at : (x : Entry) (S : List Entry) (k : ℕ) (next : Option Entry) → next ≡ slice_get S k → next_passes next (Some x) ≡ true
+    → NotBeforeAt x S k
 next-at x S k None is h = λ e g. absurd (let n : None ≡ Some e = is ∙ g in cc)
-next-at x S k (Some n) is h = λ e g. let same : Some n ≡ Some e = is ∙ g in let at : n ≡ e = cc in subst (λ (w : Entry). is_before w x ≡ false) at (not-true (is_before n x) h)
+next-at x S k (Some n) is h = λ e g. let same : Some n ≡ Some e = is ∙ g in let at : n
+    ≡ e = cc in subst (λ (w : Entry). is_before w x ≡ false)
+    at (not-true (is_before n x) h)
 
 past-end : {X : Type 0} (S : List X) (k : ℕ) → slice_get S k ≡ None → length S ≤ k
 past-end [] k h = omega arith
@@ -159,12 +176,14 @@ last-at : (S : List Entry) (m : ℕ) (last o : Option Entry) → last ≡ slice_
 last-at S m None o is h = absurd (cc)
 last-at S m (Some l) o is h = slice_get_within S m l (sym is)
 
-last-before : (x : Entry) (S : List Entry) (m : ℕ) (last : Option Entry) → IsInOrder S → last ≡ slice_get S m → last_passes last (Some x) ≡ true → NotBeforeAt x S (m + 1) → number_before (Some x) S ≡ m + 1
+last-before : (x : Entry) (S : List Entry) (m : ℕ) (last : Option Entry) → IsInOrder S → last ≡ slice_get S m
+    → last_passes last (Some x) ≡ true → NotBeforeAt x S (m + 1) → number_before (Some x) S ≡ m + 1
 last-before x S m None o is h n = absurd (cc)
 last-before x S m (Some l) o is h n = count-before x S m l o (sym is) h n
 
 -- where a cut of a list in order is at x, so many of its entries are before x
-pub cut-counts : (S : List Entry) (k : ℕ) (last next o : Option Entry) → IsInOrder S → last ≡ entry_before S k → next ≡ slice_get S k → is_cut k last next o ≡ true → number_before o S ≡ k
+pub cut-counts : (S : List Entry) (k : ℕ) (last next o : Option Entry) → IsInOrder S → last ≡ entry_before S k → next ≡ slice_get S k
+    → is_cut k last next o ≡ true → number_before o S ≡ k
 cut-counts S zero last next None order l n h =
     let e = all-at S 0 next n h in omega (arith, e)
 cut-counts S zero last next (Some x) order l n h = count-none x S order (next-at x S 0 next n h)
@@ -174,7 +193,8 @@ cut-counts S (suc m) last next None order l n h =
     omega (arith, e, f)
 cut-counts S (suc m) last next (Some x) order l n h =
     let e = next-at x S (suc m) next n (and-right _ _ h) in
-    let f = last-before x S m last order l (or-right _ _ (above-zero m) (and-left _ _ h)) (subst (λ k. NotBeforeAt x S k) (let s : suc m ≡ m + 1 = omega arith in s) e) in
+    let f = last-before x S m last order l (or-right _ _ (above-zero m) (and-left _ _ h))
+    (subst (λ k. NotBeforeAt x S k) (let s : suc m ≡ m + 1 = omega arith in s) e) in
     omega (arith, f)
 
 -- an entry is not before x; none stands where x doesn't
@@ -200,7 +220,8 @@ later-right (Some g) (Some l) = elim (either_way (is_before g l)) [
 ]
 
 -- a source that is ended stays so by a later entry
-ended-on : (plain : List Plain) (series : List Series) (taken : ℕ) (counts : List ℕ) (g l : Option Entry) (s : Option ℕ) → IsEnded plain series taken counts g s → IsEnded plain series taken counts (later g l) s
+ended-on : (plain : List Plain) (series : List Series) (taken : ℕ) (counts : List ℕ) (g l : Option Entry) (s : Option ℕ)
+    → IsEnded plain series taken counts g s → IsEnded plain series taken counts (later g l) s
 ended-on plain series taken counts g l s h = (h.0, later-left (last_taken plain series taken counts s) g l h.1)
 
 -- The plain inputs and the first n series are ended.
@@ -211,38 +232,47 @@ pub record AreEndedUpTo (n : ℕ) (plain : List Plain) (series : List Series) (t
   pub serially : (j : ℕ) → j < n → IsEnded plain series taken counts e (Some j)
 
 -- one series more
-pub ended-more : (n : ℕ) (plain : List Plain) (series : List Series) (taken : ℕ) (counts : List ℕ) (g l : Option Entry) (s : Series) → slice_get series n ≡ Some s → l ≡ entry_before (entries_of n s) (slice_index counts n)
-    → stands (slice_index counts n) l ≡ true → AreEndedUpTo n plain series taken counts g → AreEndedUpTo (n + 1) plain series taken counts (later g l)
+pub ended-more : (n : ℕ) (plain : List Plain) (series : List Series) (taken : ℕ) (counts : List ℕ) (g l : Option Entry) (s : Series)
+    → slice_get series n ≡ Some s → l ≡ entry_before (entries_of n s) (slice_index counts n)
+    → stands (slice_index counts n) l ≡ true → AreEndedUpTo n plain series taken counts g
+    → AreEndedUpTo (n + 1) plain series taken counts (later g l)
 ended-more n plain series taken counts g l s at is stand t =
-    let own : last_taken plain series taken counts (Some n) ≡ l = ap (λ x. entry_before (entries_at n x) (slice_index counts n)) at ∙ sym is in
+    let own : last_taken plain series taken counts (Some n)
+    ≡ l = ap (λ x. entry_before (entries_at n x) (slice_index counts n)) at ∙ sym is in
     record {
       enough = t.enough;
       beyond = t.beyond;
       plainly = ended-on plain series taken counts g l None t.plainly;
-      serially = below-more (λ j. IsEnded plain series taken counts (later g l) (Some j)) n (λ j b. ended-on plain series taken counts g l (Some j) (t.serially j b))
+      serially = below-more (λ j. IsEnded plain series taken counts (later g l) (Some j)) n
+          (λ j b. ended-on plain series taken counts g l (Some j) (t.serially j b))
           (subst (λ o. (stands (slice_index counts n) o ≡ true) × IsntAfter o (later g l)) (sym own) (stand, later-right g l));
     }
 
 -- the plain inputs
-pub ended-first : (plain : List Plain) (series : List Series) (taken k : ℕ) (counts : List ℕ) (last : Option Entry) → k ≡ taken - sum counts → last ≡ entry_before (map plain_entry plain) k → stands k last ≡ true
+pub ended-first : (plain : List Plain) (series : List Series) (taken k : ℕ) (counts : List ℕ) (last : Option Entry) → k ≡ taken - sum counts
+    → last ≡ entry_before (map plain_entry plain) k → stands k last ≡ true
     → sum counts ≤ taken → ((j : ℕ) → length series ≤ j → slice_index counts j ≡ 0) → AreEndedUpTo 0 plain series taken counts last
 ended-first plain series taken k counts last at is stand enough none = record {
   enough = enough;
   beyond = none;
   plainly =
       let own : last_taken plain series taken counts None ≡ last = ap (entry_before (map plain_entry plain)) (sym at) ∙ sym is in
-      subst (λ n. (stands n (last_taken plain series taken counts None) ≡ true) × IsntAfter (last_taken plain series taken counts None) last) at
+      subst (λ n. (stands n (last_taken plain series taken counts None) ≡ true)
+      × IsntAfter (last_taken plain series taken counts None) last) at
       (subst (λ o. (stands k o ≡ true) × IsntAfter o last) (sym own) (stand, later-right None last));
   serially = λ j b. absurd (omega arith);
 }
 
 -- one series more, as it is told
-pub ended-next : (n : ℕ) (plain : List Plain) (series : List Series) (taken : ℕ) (counts : List ℕ) (g l o : Option Entry) (s : Series) (before now : Bool) → slice_get series n ≡ Some s → l ≡ entry_before (entries_of n s) (slice_index counts n)
-    → now ≡ (before && stands (slice_index counts n) l) → o ≡ later g l → (before ≡ true → AreEndedUpTo n plain series taken counts g) → now ≡ true → AreEndedUpTo (n + 1) plain series taken counts o
+pub ended-next : (n : ℕ) (plain : List Plain) (series : List Series) (taken : ℕ) (counts : List ℕ) (g l o : Option Entry) (s : Series)
+    (before now : Bool) → slice_get series n ≡ Some s → l ≡ entry_before (entries_of n s) (slice_index counts n)
+    → now ≡ (before && stands (slice_index counts n) l) → o ≡ later g l → (before ≡ true → AreEndedUpTo n plain series taken counts g)
+    → now ≡ true → AreEndedUpTo (n + 1) plain series taken counts o
 ended-next n plain series taken counts g l o s before now at is told o_is t h =
     let both = sym told ∙ h in
     subst (λ e. AreEndedUpTo (n + 1) plain series taken counts e) (sym o_is)
-    (ended-more n plain series taken counts g l s at is (and-right before (stands (slice_index counts n) l) both) (t (and-left before (stands (slice_index counts n) l) both)))
+    (ended-more n plain series taken counts g l s at is (and-right before (stands (slice_index counts n) l) both)
+    (t (and-left before (stands (slice_index counts n) l) both)))
 
 past-end-before : (j k : ℕ) (series : List Series) → length series ≤ j → entry_before (entries_at j (slice_get series j)) k ≡ None
 past-end-before j k series past = ap (λ x. entry_before (entries_at j x) k) (slice_get_past series j past) ∙ none k
@@ -252,7 +282,8 @@ past-end-before j k series past = ap (λ x. entry_before (entries_at j x) k) (sl
     none (suc k) = refl
 
 -- all are ended
-pub ended-all : (n : ℕ) (plain : List Plain) (series : List Series) (taken : ℕ) (counts : List ℕ) (e : Option Entry) → length series ≤ n → AreEndedUpTo n plain series taken counts e → AreEnded plain series taken counts e
+pub ended-all : (n : ℕ) (plain : List Plain) (series : List Series) (taken : ℕ) (counts : List ℕ) (e : Option Entry) → length series ≤ n
+    → AreEndedUpTo n plain series taken counts e → AreEnded plain series taken counts e
 ended-all n plain series taken counts e long t = record { enough = t.enough; ended = each }
   where
     each : (s : Option ℕ) → IsEnded plain series taken counts e s
@@ -265,7 +296,8 @@ ended-all n plain series taken counts e long t = record { enough = t.enough; end
           rw (none, zero_is) (refl, tt)
     ]
 
-passed-last : (last g o : Option Entry) (number : ℕ) → stands number last ≡ true → IsntAfter last g → passes g o ≡ true → (number == 0 || last_passes last o) ≡ true
+passed-last : (last g o : Option Entry) (number : ℕ) → stands number last ≡ true → IsntAfter last g → passes g o ≡ true
+    → (number == 0 || last_passes last o) ≡ true
 passed-last None g o number stand h p = stand
 passed-last (Some l) None o number stand h p = absurd h
 passed-last (Some l) (Some g) None number stand h p = or-true (number == 0)
@@ -284,13 +316,15 @@ least-of heads None s h = h s
 least-of heads (Some e) s h = h.1 s
 
 -- Where the last entry that was taken is before the next one, the counts fit.
-pub fits-ended : (plain : List Plain) (series : List Series) (taken : ℕ) (counts : List ℕ) (g o : Option Entry) → AreSources plain series → IsLeast (head plain series taken counts) o → AreEnded plain series taken counts g → passes g o ≡ true
+pub fits-ended : (plain : List Plain) (series : List Series) (taken : ℕ) (counts : List ℕ) (g o : Option Entry) → AreSources plain series
+    → IsLeast (head plain series taken counts) o → AreEnded plain series taken counts g → passes g o ≡ true
     → CountsTaken (merged plain series) taken counts
 fits-ended plain series taken counts g o a least t p = fits-before plain series taken counts o a from-each t.enough
   where
     from-each : (s : Option ℕ) → number_before o (source plain series s) ≡ number_taken taken counts s
     from-each s =
-        cut-counts (source plain series s) (number_taken taken counts s) (last_taken plain series taken counts s) (head plain series taken counts s) o (source-in_order plain series s a) refl refl
+        cut-counts (source plain series s) (number_taken taken counts s) (last_taken plain series taken counts s)
+        (head plain series taken counts s) o (source-in_order plain series s a) refl refl
         (and-both (passed-last (last_taken plain series taken counts s) g o (number_taken taken counts s) (t.ended s).0 (t.ended s).1 p)
         (isnt-passes o (head plain series taken counts s) (least-of (head plain series taken counts) o s least)))
 

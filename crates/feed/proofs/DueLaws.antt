@@ -1,5 +1,6 @@
 -- What is due.
-use Rattle.std.proofs.Common.{ℕ, zero, suc, ◌<◌, ◌≤◌, ◌≡◌, false, List, [], ◌∷◌, Option, Some, None, leb, refl, ap, ◌∙◌, sym, arith, inl, inr}
+use Rattle.std.proofs.Common.{ℕ, zero, suc, ◌<◌, ◌≤◌, ◌≡◌, false, List, [], ◌∷◌, Option, Some, None, leb, refl, ap, ◌∙◌, sym, arith, inl}
+use Rattle.std.proofs.Common.{inr}
 use Rattle.std.specs.Prelude.{slice_get}
 use Rattle.std.proofs.lemmas.Bool.Decides.{nat_tests}
 use Rattle.feed.specs.declared.entry.Entry.{Entry}
@@ -32,7 +33,8 @@ pub isnt_before_cycle : (x y : Entry) → is_before y x ≡ false → x.cycle �
 unfolding is_before
 isnt_before_cycle x y h = grind (arith, nat_tests)
 
-none-come : (k cycles : ℕ) (x : Entry) (list : List Entry) → cycles < x.cycle → NoneBefore x list → when_come cycles (slice_get list k) ≡ None
+none-come : (k cycles : ℕ) (x : Entry) (list : List Entry) → cycles < x.cycle → NoneBefore x list
+    → when_come cycles (slice_get list k) ≡ None
 none-come k cycles x [] h n = refl
 none-come zero cycles x (y ∷ list) h n = not_come cycles y (let c = isnt_before_cycle x y n.0 in omega arith)
 none-come (suc k) cycles x (y ∷ list) h n = none-come k cycles x list h n.1
@@ -41,7 +43,8 @@ none_before-on : (x y : Entry) (list : List Entry) → is_before y x ≡ false �
 none_before-on x y [] h n = tt
 none_before-on x y (z ∷ list) h n = (before-not x y z h n.0, none_before-on x y list h n.1)
 
-come-inserted : (e : Entry) (list : List Entry) (k cycles : ℕ) → IsInOrder list → cycles < e.cycle → when_come cycles (slice_get (inserted e list) k) ≡ when_come cycles (slice_get list k)
+come-inserted : (e : Entry) (list : List Entry) (k cycles : ℕ) → IsInOrder list → cycles < e.cycle
+    → when_come cycles (slice_get (inserted e list) k) ≡ when_come cycles (slice_get list k)
 unfolding inserted
 come-inserted e [] zero cycles o h = not_come cycles e h
 come-inserted e [] (suc k) cycles o h = refl
@@ -57,12 +60,14 @@ come-inserted e (x ∷ list) (suc k) cycles o h = elim (either_way (is_before x 
 ]
 
 -- An entry above some cycles changes nothing that is due up to these.
-pub due-inserted : (e : Entry) (list : List Entry) (k cycles : ℕ) → IsInOrder list → cycles < e.cycle → due (inserted e list) k cycles ≡ due list k cycles
+pub due-inserted : (e : Entry) (list : List Entry) (k cycles : ℕ) → IsInOrder list → cycles < e.cycle
+    → due (inserted e list) k cycles ≡ due list k cycles
 unfolding due
 due-inserted e list k cycles o h = come-inserted e list k cycles o h
 
 -- An input that was added changes nothing that is due below its cycle.
-pub due-adds : (old new : List Entry) (cycle : ℕ) (input : Input) (k cycles : ℕ) → AddsLast old cycle input new → IsInOrder old → cycles < cycle → due new k cycles ≡ due old k cycles
+pub due-adds : (old new : List Entry) (cycle : ℕ) (input : Input) (k cycles : ℕ) → AddsLast old cycle input new → IsInOrder old
+    → cycles < cycle → due new k cycles ≡ due old k cycles
 due-adds old new cycle input k cycles a order below =
     ap (λ l. due l k cycles) a.new_is ∙ due-inserted (plain_on a.line cycle input) old k cycles order below
 

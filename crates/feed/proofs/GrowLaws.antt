@@ -1,5 +1,6 @@
 -- One source more, as a reader finds it.
-use Rattle.std.proofs.Common.{refl, ℕ, zero, suc, ◌+◌, ◌^◌, ◌<◌, ◌≤◌, ◌≡◌, Bool, true, Option, None, filter, eq-eqb, List, [], ◌∷◌, ◌++◌, Some, length, ap, ◌∙◌, sym, arith, subst, map, inl, inr, ◌⊎◌, append_assoc}
+use Rattle.std.proofs.Common.{refl, ℕ, zero, suc, ◌+◌, ◌^◌, ◌<◌, ◌≤◌, ◌≡◌, Bool, true, Option, None, filter, eq-eqb, List, [], ◌∷◌, ◌++◌}
+use Rattle.std.proofs.Common.{Some, length, ap, ◌∙◌, sym, arith, subst, map, inl, inr, ◌⊎◌, append_assoc}
 use Rattle.std.specs.Prelude.{slice_get, IfSome}
 use Rattle.std.specs.List.{range_with_len}
 use Rattle.std.proofs.lemmas.List.{append-nil}
@@ -51,13 +52,16 @@ among-parts x [] ys h = inr h
 among-parts x (z ∷ xs) ys (inl h) = inl (inl h)
 among-parts x (z ∷ xs) ys (inr h) = elim (among-parts x xs ys h) [ inl a ↦ inl (inr a) | inr b ↦ inr b ]
 
-entries-more : (j n : ℕ) (series : List Series) (s : Series) → j + length series ≡ n → entries_from j (series ++ s ∷ []) ≡ entries_from j series ++ entries_of n s
+entries-more : (j n : ℕ) (series : List Series) (s : Series) → j + length series ≡ n
+    → entries_from j (series ++ s ∷ []) ≡ entries_from j series ++ entries_of n s
 unfolding entries_from
 entries-more j n [] s e = append-nil _ ∙ ap (λ k. entries_of k s) (let f : j ≡ n = omega (arith, e) in f)
 entries-more j n (t ∷ series) s e =
-    ap (λ l. entries_of j t ++ l) (entries-more (j + 1) n series s (omega (arith, e))) ∙ sym (append_assoc (entries_of j t) (entries_from (j + 1) series) (entries_of n s))
+    ap (λ l. entries_of j t ++ l) (entries-more (j + 1) n series s (omega (arith, e)))
+    ∙ sym (append_assoc (entries_of j t) (entries_from (j + 1) series) (entries_of n s))
 
-own-range : (n : ℕ) (s : Series) (x : Entry) (a k : ℕ) → IsAmong x (map (series_entry n s) (range_with_len a k)) → (x.line ≡ s.line) × (x.series ≡ Some n)
+own-range : (n : ℕ) (s : Series) (x : Entry) (a k : ℕ) → IsAmong x (map (series_entry n s) (range_with_len a k))
+    → (x.line ≡ s.line) × (x.series ≡ Some n)
 own-range n s x a zero h = absurd h
 own-range n s x a (suc k) (inl h) = (ap (λ (z : Entry). z.line) (sym h), ap (λ (z : Entry). z.series) (sym h))
 own-range n s x a (suc k) (inr h) = own-range n s x (a + 1) k h
@@ -67,25 +71,30 @@ unfolding entries_of
 own-entry n s x h = own-range n s x 0 s.count h
 
 -- an entry with one series more is one that stood or one of the series
-among-more : (plain : List Plain) (series : List Series) (s : Series) (x : Entry) → IsAmong x (merged plain (series ++ s ∷ [])) → IsAmong x (merged plain series) ⊎ IsAmong x (entries_of (length series) s)
+among-more : (plain : List Plain) (series : List Series) (s : Series) (x : Entry) → IsAmong x (merged plain (series ++ s ∷ []))
+    → IsAmong x (merged plain series) ⊎ IsAmong x (entries_of (length series) s)
 unfolding merged
 among-more plain series s x h =
     let before = entries plain series in
     let parts : entries plain (series ++ s ∷ []) ≡ before ++ entries_of (length series) s =
-    ap (λ l. map plain_entry plain ++ l) (entries-more 0 (length series) series s (omega arith)) ∙ sym (append_assoc (map plain_entry plain) (entries_from 0 series) (entries_of (length series) s)) in
-    elim (among-parts x before (entries_of (length series) s) (subst (λ (l : List Entry). IsAmong x l) parts (sorted-among x (entries plain (series ++ s ∷ [])) h))) [
+    ap (λ l. map plain_entry plain ++ l) (entries-more 0 (length series) series s (omega arith))
+    ∙ sym (append_assoc (map plain_entry plain) (entries_from 0 series) (entries_of (length series) s)) in
+    elim (among-parts x before (entries_of (length series) s)
+    (subst (λ (l : List Entry). IsAmong x l) parts (sorted-among x (entries plain (series ++ s ∷ [])) h))) [
       | inl a ↦ inl (among-sorted x before a)
       | inr b ↦ inr b
     ]
 
-rules-more : (series : List Series) (s : Series) → ((j : ℕ) → IfSome (slice_get series j) (λ r. IsRule r)) → IsRule s → (j : ℕ) → IfSome (slice_get (series ++ s ∷ []) j) (λ r. IsRule r)
+rules-more : (series : List Series) (s : Series) → ((j : ℕ) → IfSome (slice_get series j) (λ r. IsRule r)) → IsRule s → (j : ℕ)
+    → IfSome (slice_get (series ++ s ∷ []) j) (λ r. IsRule r)
 rules-more [] s rules rule zero = rule
 rules-more [] s rules rule (suc j) = tt
 rules-more (r ∷ series) s rules rule zero = rules 0
 rules-more (r ∷ series) s rules rule (suc j) = rules-more series s (λ i. rules (suc i)) rule j
 
 -- A series on a line after all others.
-pub sources-more : (plain : List Plain) (series : List Series) (s : Series) → AreSources plain series → IsRule s → LinesBelow (merged plain series) s.line → AreSources plain (series ++ s ∷ [])
+pub sources-more : (plain : List Plain) (series : List Series) (s : Series) → AreSources plain series → IsRule s
+    → LinesBelow (merged plain series) s.line → AreSources plain (series ++ s ∷ [])
 sources-more plain series s a rule below = record {
   plain_in_order = a.plain_in_order;
   rules = rules-more series s a.rules rule;
@@ -101,7 +110,8 @@ sources-more plain series s a rule below = record {
   ];
 }
 
-pub lines-more : (plain : List Plain) (series : List Series) (s : Series) → LinesBelow (merged plain series) s.line → LinesBelow (merged plain (series ++ s ∷ [])) (s.line + 1)
+pub lines-more : (plain : List Plain) (series : List Series) (s : Series) → LinesBelow (merged plain series) s.line
+    → LinesBelow (merged plain (series ++ s ∷ [])) (s.line + 1)
 lines-more plain series s below = λ x m. elim (among-more plain series s x m) [
   | inl mx ↦ let b = below x mx in omega arith
   | inr ox ↦ let l = (own-entry (length series) s x ox).0 in omega arith
@@ -129,7 +139,8 @@ itself : (s : Option ℕ) → is_source s s ≡ true
 itself None = refl
 itself (Some j) = eq-eqb j j refl
 
-series-stands : (plain : List Plain) (series : List Series) (e : Entry) (s : Option ℕ) → length series ≤ 16 → IsAmong e (source plain series s) → IfSome s (λ j. j < 16)
+series-stands : (plain : List Plain) (series : List Series) (e : Entry) (s : Option ℕ) → length series ≤ 16
+    → IsAmong e (source plain series s) → IfSome s (λ j. j < 16)
 series-stands plain series e None few m = tt
 series-stands plain series e (Some j) few m = elim (below_or_not j (length series)) [
   | inl b ↦ omega arith
@@ -140,16 +151,19 @@ series-stands plain series e (Some j) few m = elim (below_or_not j (length serie
     below_or_not j n = grind arith
 
 -- each entry of a feed is plain or of one of sixteen series
-pub of-sixteen : (plain : List Plain) (series : List Series) (k : ℕ) (e : Entry) → AreSources plain series → length series ≤ 16 → slice_get (merged plain series) k ≡ Some e → IfSome e.series (λ j. j < 16)
+pub of-sixteen : (plain : List Plain) (series : List Series) (k : ℕ) (e : Entry) → AreSources plain series → length series ≤ 16
+    → slice_get (merged plain series) k ≡ Some e → IfSome e.series (λ j. j < 16)
 of-sixteen plain series k e a few h =
     series-stands plain series e e.series few
-    (subst (IsAmong e) (source-merged plain series e.series a) (among-own (is_from e.series) e (merged plain series) (itself e.series) (at-among (merged plain series) k e h)))
+    (subst (IsAmong e) (source-merged plain series e.series a)
+    (among-own (is_from e.series) e (merged plain series) (itself e.series) (at-among (merged plain series) k e h)))
 
 length-entries : (j : ℕ) (s : Series) → length (entries_of j s) ≡ s.count
 unfolding entries_of
 length-entries j s = length-map-range_with_len (series_entry j s) 0 s.count
 
-entries-at : (series : List Series) (j : ℕ) → ((i : ℕ) → IfSome (slice_get series i) (λ s. IsRule s)) → length (entries_at j (slice_get series j)) < 10 ^ 9
+entries-at : (series : List Series) (j : ℕ) → ((i : ℕ) → IfSome (slice_get series i) (λ s. IsRule s))
+    → length (entries_at j (slice_get series j)) < 10 ^ 9
 entries-at series j rules = few (slice_get series j) (rules j)
   where
     few : (o : Option Series) → IfSome o (λ s. IsRule s) → length (entries_at j o) < 10 ^ 9
@@ -163,9 +177,11 @@ are_inputs plain series line g = record {
   order = is_in_order (entries plain series);
   sixteen = λ k e h. of-sixteen plain series k e g.sources g.few h;
   plainly = let n = number-plain plain series g.sources in let f = g.plainly in omega (arith, n, f);
-  serially = λ j. subst (λ (l : List Entry). length l < 10 ^ 9) (sym (source-merged plain series (Some j) g.sources)) (entries-at series j g.sources.rules);
+  serially = λ j. subst (λ (l : List Entry). length l < 10 ^ 9) (sym (source-merged plain series (Some j) g.sources))
+      (entries-at series j g.sources.rules);
 }
 
 -- what the inputs of a feed are, seen as its list
-pub inputs-of : (plain : List Plain) (series : List Series) (line : ℕ) (list : List Entry) → AreGathered plain series line → merged plain series ≡ list → AreInputs list
+pub inputs-of : (plain : List Plain) (series : List Series) (line : ℕ) (list : List Entry) → AreGathered plain series line
+    → merged plain series ≡ list → AreInputs list
 inputs-of plain series line list g same = subst (λ (l : List Entry). AreInputs l) same (are_inputs plain series line g)

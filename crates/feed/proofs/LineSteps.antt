@@ -23,10 +23,12 @@ use Rattle.feed.proofs.GrowLaws.{no-sources, sources-more, lines-more}
 abbrev pub first_from : List Plain → List Series → ℕ → List Statement → Option FeedFault
 first_from plain series number [] = None
 first_from plain series number (line ∷ after) =
-    option_or (fault_after plain series number line) (first_from (plain ++ plain_in number line) (series ++ series_in number line) (number + 1) after)
+    option_or (fault_after plain series number line)
+    (first_from (plain ++ plain_in number line) (series ++ series_in number line) (number + 1) after)
 
 -- the plain inputs of one line more
-plain_from-push : (line number : ℕ) (before : List Statement) (said : Statement) → line + length before ≡ number → plain_from line (before ++ said ∷ []) ≡ plain_from line before ++ plain_in number said
+plain_from-push : (line number : ℕ) (before : List Statement) (said : Statement) → line + length before ≡ number
+    → plain_from line (before ++ said ∷ []) ≡ plain_from line before ++ plain_in number said
 unfolding plain_from
 plain_from-push line number [] said at = append-nil _ ∙ ap (λ n. plain_in n said) (let e : line ≡ number = omega (arith, at) in e)
 plain_from-push line number (first ∷ before) said at =
@@ -34,14 +36,16 @@ plain_from-push line number (first ∷ before) said at =
     ∙ sym (append_assoc (plain_in line first) (plain_from (line + 1) before) (plain_in number said))
 
 -- the series of one line more
-series_from-push : (line number : ℕ) (before : List Statement) (said : Statement) → line + length before ≡ number → series_from line (before ++ said ∷ []) ≡ series_from line before ++ series_in number said
+series_from-push : (line number : ℕ) (before : List Statement) (said : Statement) → line + length before ≡ number
+    → series_from line (before ++ said ∷ []) ≡ series_from line before ++ series_in number said
 unfolding series_from
 series_from-push line number [] said at = append-nil _ ∙ ap (λ n. series_in n said) (let e : line ≡ number = omega (arith, at) in e)
 series_from-push line number (first ∷ before) said at =
     ap (λ list. series_in line first ++ list) (series_from-push (line + 1) number before said (omega (arith, at)))
     ∙ sym (append_assoc (series_in line first) (series_from (line + 1) before) (series_in number said))
 
-first_fault-from : (before after : List Statement) → first_fault before after ≡ first_from (plain_from 1 before) (series_from 1 before) (length before + 1) after
+first_fault-from : (before after : List Statement)
+    → first_fault before after ≡ first_from (plain_from 1 before) (series_from 1 before) (length before + 1) after
 unfolding first_fault
 first_fault-from before [] = refl
 first_fault-from before (line ∷ after) =
@@ -67,19 +71,25 @@ pub left-all : (all : List Statement) → AreLeft all [] [] 1 all
 left-all all = record { fault = first_fault-whole all; plainly = refl; serially = refl }
 
 -- a good line is taken
-pub left-next : (all : List Statement) (plain plain_now : List Plain) (series series_now : List Series) (number next : ℕ) (here after : List Statement) (line : Statement)
-    → AreLeft all plain series number here → here ≡ line ∷ after → fault_after plain series number line ≡ None → plain_now ≡ plain ++ plain_in number line → series_now ≡ series ++ series_in number line → next ≡ number + 1
+pub left-next : (all : List Statement) (plain plain_now : List Plain) (series series_now : List Series) (number next : ℕ)
+    (here after : List Statement) (line : Statement)
+    → AreLeft all plain series number here → here ≡ line ∷ after → fault_after plain series number line ≡ None
+    → plain_now ≡ plain ++ plain_in number line → series_now ≡ series ++ series_in number line → next ≡ number + 1
     → AreLeft all plain_now series_now next after
 unfolding plain_from series_from
-left-next all plain plain_now series series_now number next here after line left split good plainly serially at = rw (plainly, serially, at) (record {
-  fault = left.fault ∙ ap (first_from plain series number) split
-      ∙ ap (λ f. option_or f (first_from (plain ++ plain_in number line) (series ++ series_in number line) (number + 1) after)) good;
-  plainly = left.plainly ∙ ap (λ said. plain ++ plain_from number said) split ∙ sym (append_assoc plain (plain_in number line) (plain_from (number + 1) after));
-  serially = left.serially ∙ ap (λ said. series ++ series_from number said) split ∙ sym (append_assoc series (series_in number line) (series_from (number + 1) after));
-})
+left-next all plain plain_now series series_now number next here after line left split good plainly serially at = rw (plainly, serially, at)
+    (record {
+      fault = left.fault ∙ ap (first_from plain series number) split
+          ∙ ap (λ f. option_or f (first_from (plain ++ plain_in number line) (series ++ series_in number line) (number + 1) after)) good;
+      plainly = left.plainly ∙ ap (λ said. plain ++ plain_from number said) split
+          ∙ sym (append_assoc plain (plain_in number line) (plain_from (number + 1) after));
+      serially = left.serially ∙ ap (λ said. series ++ series_from number said) split
+          ∙ sym (append_assoc series (series_in number line) (series_from (number + 1) after));
+    })
 
 -- none is left at last
-pub left-none : (all : List Statement) (plain : List Plain) (series : List Series) (number : ℕ) (here : List Statement) → AreLeft all plain series number here → here ≡ []
+pub left-none : (all : List Statement) (plain : List Plain) (series : List Series) (number : ℕ) (here : List Statement)
+    → AreLeft all plain series number here → here ≡ []
     → (first_fault [] all ≡ None) × (plain ≡ plain_from 1 all) × (series ≡ series_from 1 all)
 unfolding plain_from series_from
 left-none all plain series number here left none = (
@@ -106,7 +116,8 @@ insert-last [] p = refl
 insert-last (q ∷ plain) p = ap (λ l. q ∷ l) (insert-last plain p)
 
 -- a line that gives an input that is not late
-pub gathered_push : (plain more : List Plain) (series : List Series) (line cycle : ℕ) (input : Input) → AreGathered plain series line → is_late plain cycle ≡ false → length plain < most_inputs
+pub gathered_push : (plain more : List Plain) (series : List Series) (line cycle : ℕ) (input : Input) → AreGathered plain series line
+    → is_late plain cycle ≡ false → length plain < most_inputs
     → more ≡ plain ++ record { cycle = cycle; line = line; input = input } ∷ [] → AreGathered more series (line + 1)
 gathered_push plain more series line cycle input g in_time few is =
     gathered-more plain more series line cycle (length plain) input g
@@ -114,7 +125,8 @@ gathered_push plain more series line cycle input g in_time few is =
     (is ∙ sym (insert-last plain (record { cycle = cycle; line = line; input = input }))) few
 
 -- a line that gives a series
-pub gathered_series : (plain : List Plain) (series more : List Series) (line : ℕ) (s : Series) → AreGathered plain series line → s.line ≡ line → IsRule s → length series < 16 → more ≡ series ++ s ∷ []
+pub gathered_series : (plain : List Plain) (series more : List Series) (line : ℕ) (s : Series) → AreGathered plain series line
+    → s.line ≡ line → IsRule s → length series < 16 → more ≡ series ++ s ∷ []
     → AreGathered plain more (line + 1)
 gathered_series plain series more line s g on rule few is =
     let below = subst (λ n. LinesBelow (merged plain series) n) (sym on) g.lines in

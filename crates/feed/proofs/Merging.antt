@@ -1,5 +1,6 @@
 -- The next entry is the least head.
-use Rattle.std.proofs.Common.{ℕ, zero, suc, ◌+◌, ◌<◌, ◌≤◌, ◌≡◌, ◌≢◌, Bool, true, false, List, [], ◌∷◌, ◌++◌, Option, Some, None, ltb, eqb, length, refl, ap, ◌∙◌, sym, arith, inl, inr, ◌⊎◌, subst, ◌&&◌, ◌||◌, filter, take, drop, get_or, eq-eqb}
+use Rattle.std.proofs.Common.{ℕ, zero, suc, ◌+◌, ◌<◌, ◌≤◌, ◌≡◌, ◌≢◌, Bool, true, false, List, [], ◌∷◌, ◌++◌, Option, Some, None, ltb, eqb}
+use Rattle.std.proofs.Common.{length, refl, ap, ◌∙◌, sym, arith, inl, inr, ◌⊎◌, subst, ◌&&◌, ◌||◌, filter, take, drop, get_or, eq-eqb}
 use Rattle.std.specs.Prelude.{slice_get, set}
 use Rattle.std.specs.List.{sum}
 use Rattle.std.proofs.lemmas.Bool.Decides.{nat_tests, eqb_tells}
@@ -31,7 +32,8 @@ beyond [] j h = absurd (omega arith)
 beyond (c ∷ counts) zero h = omega arith
 beyond (c ∷ counts) (suc j) h = omega (arith, beyond counts j h)
 
-number_from-own : (j : ℕ) (e : Entry) (list : List Entry) → e.series ≡ Some j → number_from (Some j) (e ∷ list) ≡ suc (number_from (Some j) list)
+number_from-own : (j : ℕ) (e : Entry) (list : List Entry) → e.series ≡ Some j
+    → number_from (Some j) (e ∷ list) ≡ suc (number_from (Some j) list)
 number_from-own j e list h = rw (h, eq-eqb j j refl) refl
 
 pub number_from-other : (s : Option ℕ) (e : Entry) (list : List Entry) → is_from s e ≡ false → number_from s (e ∷ list) ≡ number_from s list
@@ -47,7 +49,8 @@ eqb-no a b h = grind (arith, nat_tests)
 other-of : (e : Entry) (j k : ℕ) → e.series ≡ Some k → (j ≢ k) → is_from (Some j) e ≡ false
 other-of e j k h n = rw h (eqb-no j k n)
 
-pub total-counts : (counts : List ℕ) (list : List Entry) → ((j : ℕ) → get_or counts j 0 ≡ number_from (Some j) list) → number_from None list + sum counts ≡ length list
+pub total-counts : (counts : List ℕ) (list : List Entry) → ((j : ℕ) → get_or counts j 0 ≡ number_from (Some j) list)
+    → number_from None list + sum counts ≡ length list
 total-counts counts [] h = omega (arith, sum-zero counts h)
 total-counts counts (e ∷ list) h = elim (series_or_none e.series) [
   | inl plain ↦
@@ -59,8 +62,10 @@ total-counts counts (e ∷ list) h = elim (series_or_none e.series) [
       let within = beyond counts k.0 (omega (arith, here)) in
       let fewer = set counts k.0 (number_from (Some k.0) list) in
       let tell : (j : ℕ) → get_or fewer j 0 ≡ number_from (Some j) list = λ j. elim (eqb_tells j k.0) [
-        | inl is ↦ ap (λ n. get_or fewer n 0) is.1 ∙ get_or-set_same counts k.0 (number_from (Some k.0) list) 0 within ∙ ap (λ n. number_from (Some n) list) (sym is.1)
-        | inr isnt ↦ get_or-set_other counts k.0 j (number_from (Some k.0) list) 0 isnt.1 ∙ h j ∙ number_from-other (Some j) e list (other-of e j k.0 k.1 isnt.1)
+        | inl is ↦ ap (λ n. get_or fewer n 0) is.1 ∙ get_or-set_same counts k.0 (number_from (Some k.0) list) 0 within
+            ∙ ap (λ n. number_from (Some n) list) (sym is.1)
+        | inr isnt ↦ get_or-set_other counts k.0 j (number_from (Some k.0) list) 0 isnt.1 ∙ h j
+            ∙ number_from-other (Some j) e list (other-of e j k.0 k.1 isnt.1)
       ] in
       omega (arith, same, here, sum-set counts k.0 (number_from (Some k.0) list) within, total-counts fewer list tell)
 ]
@@ -83,7 +88,8 @@ past-counts (c ∷ counts) (suc j) h = past-counts counts j (omega arith)
 abbrev pub TellsAll : List Entry → ℕ → List ℕ → Type 0
 TellsAll list taken counts = (j : ℕ) → get_or counts j 0 ≡ number_from (Some j) (take taken list)
 
-pub tells-all : (list : List Entry) (taken : ℕ) (counts : List ℕ) → ((j : ℕ) → length counts ≤ j → number_from (Some j) list ≡ 0) → CountsTaken list taken counts → TellsAll list taken counts
+pub tells-all : (list : List Entry) (taken : ℕ) (counts : List ℕ) → ((j : ℕ) → length counts ≤ j → number_from (Some j) list ≡ 0)
+    → CountsTaken list taken counts → TellsAll list taken counts
 tells-all list taken counts none f = λ j. elim (below_or_past j (length counts)) [
   | inl within ↦ f.tell j within
   | inr past ↦ let few = fewer-taken (Some j) taken list in past-counts counts j past ∙ omega (arith, none j past, few)
@@ -93,7 +99,8 @@ tells-all list taken counts none f = λ j. elim (below_or_past j (length counts)
     below_or_past j n = grind arith
 
 -- how many of a source's entries are among those taken
-taken-from : (list : List Entry) (taken : ℕ) (counts : List ℕ) (s : Option ℕ) → taken ≤ length list → TellsAll list taken counts → number_from s (take taken list) ≡ number_taken taken counts s
+taken-from : (list : List Entry) (taken : ℕ) (counts : List ℕ) (s : Option ℕ) → taken ≤ length list → TellsAll list taken counts
+    → number_from s (take taken list) ≡ number_taken taken counts s
 taken-from list taken counts None stand tell =
     let t = total-counts counts (take taken list) tell in
     omega (arith, t, length-take-le taken list stand)
@@ -105,19 +112,24 @@ first-drop (suc k) [] = refl
 first-drop (suc k) (x ∷ xs) = first-drop k xs
 
 -- what is left of a source is what is left of it in the whole list
-rest-source : (plain : List Plain) (series : List Series) (taken : ℕ) (counts : List ℕ) (s : Option ℕ) → AreSources plain series → taken ≤ length (merged plain series) → TellsAll (merged plain series) taken counts
+rest-source : (plain : List Plain) (series : List Series) (taken : ℕ) (counts : List ℕ) (s : Option ℕ) → AreSources plain series
+    → taken ≤ length (merged plain series) → TellsAll (merged plain series) taken counts
     → drop (number_taken taken counts s) (source plain series s) ≡ filter (is_from s) (drop taken (merged plain series))
 rest-source plain series taken counts s a stand tell =
     let all = merged plain series in
     let parts : source plain series s ≡ filter (is_from s) (take taken all) ++ filter (is_from s) (drop taken all) =
-    sym (source-merged plain series s a) ∙ ap (filter (is_from s)) (sym (take-append-drop taken all)) ∙ filter-append (is_from s) (take taken all) (drop taken all) in
-    ap (λ n. drop n (source plain series s)) (sym (taken-from all taken counts s stand tell)) ∙ ap (drop (number_from s (take taken all))) parts
+    sym (source-merged plain series s a) ∙ ap (filter (is_from s)) (sym (take-append-drop taken all))
+    ∙ filter-append (is_from s) (take taken all) (drop taken all) in
+    ap (λ n. drop n (source plain series s)) (sym (taken-from all taken counts s stand tell))
+    ∙ ap (drop (number_from s (take taken all))) parts
     ∙ drop-append_seam (filter (is_from s) (take taken all)) (filter (is_from s) (drop taken all))
 
-head-rest : (plain : List Plain) (series : List Series) (taken : ℕ) (counts : List ℕ) (s : Option ℕ) → AreSources plain series → taken ≤ length (merged plain series) → TellsAll (merged plain series) taken counts
+head-rest : (plain : List Plain) (series : List Series) (taken : ℕ) (counts : List ℕ) (s : Option ℕ) → AreSources plain series
+    → taken ≤ length (merged plain series) → TellsAll (merged plain series) taken counts
     → head plain series taken counts s ≡ slice_get (filter (is_from s) (drop taken (merged plain series))) 0
 head-rest plain series taken counts s a stand tell =
-    sym (first-drop (number_taken taken counts s) (source plain series s)) ∙ ap (λ l. slice_get l 0) (rest-source plain series taken counts s a stand tell)
+    sym (first-drop (number_taken taken counts s) (source plain series s))
+    ∙ ap (λ l. slice_get l 0) (rest-source plain series taken counts s a stand tell)
 
 first-among : (p : Entry → Bool) (xs : List Entry) (e : Entry) → slice_get (filter p xs) 0 ≡ Some e → IsAmong e xs
 first-among p [] e h = cc
@@ -145,7 +157,8 @@ own_source : (s : Option ℕ) → is_source s s ≡ true
 own_source None = refl
 own_source (Some j) = eq-eqb j j refl
 
-same-numbers : (a b c d e f : ℕ) → (ltb a b || (eqb a b && (ltb c d || (eqb c d && ltb e f)))) ≡ false → (ltb b a || (eqb b a && (ltb d c || (eqb d c && ltb f e)))) ≡ false → c ≡ d
+same-numbers : (a b c d e f : ℕ) → (ltb a b || (eqb a b && (ltb c d || (eqb c d && ltb e f)))) ≡ false
+    → (ltb b a || (eqb b a && (ltb d c || (eqb d c && ltb f e)))) ≡ false → c ≡ d
 same-numbers a b c d e f p q = grind (arith, nat_tests)
 
 -- of two entries none of which is before the other the lines are the same
@@ -154,7 +167,8 @@ unfolding is_before
 same-line x y p q = same-numbers x.cycle y.cycle x.line y.line x.number y.number p q
 
 -- the first of a list in order is the least of its heads
-least-first : (rest : List Entry) (heads : Option ℕ → Option Entry) (o : Option Entry) → IsInOrder rest → ((x y : Entry) → IsAmong x rest → IsAmong y rest → x.line ≡ y.line → x.series ≡ y.series)
+least-first : (rest : List Entry) (heads : Option ℕ → Option Entry) (o : Option Entry) → IsInOrder rest
+    → ((x y : Entry) → IsAmong x rest → IsAmong y rest → x.line ≡ y.line → x.series ≡ y.series)
     → ((s : Option ℕ) → heads s ≡ slice_get (filter (is_from s) rest) 0) → IsLeast heads o → slice_get rest 0 ≡ o
 least-first [] heads None order tell are least = refl
 least-first [] heads (Some e) order tell are least = let h = are e.series in let g = least.0 in cc
@@ -174,12 +188,15 @@ least-first (x ∷ rest) heads (Some e) order tell are least =
     ]
 
 -- The next entry is the least of the heads.
-pub next_entry : (plain : List Plain) (series : List Series) (taken : ℕ) (counts : List ℕ) (o : Option Entry) → AreSources plain series → length series ≤ length counts → CountsTaken (merged plain series) taken counts
+pub next_entry : (plain : List Plain) (series : List Series) (taken : ℕ) (counts : List ℕ) (o : Option Entry) → AreSources plain series
+    → length series ≤ length counts → CountsTaken (merged plain series) taken counts
     → IsLeast (head plain series taken counts) o → slice_get (merged plain series) taken ≡ o
 unfolding merged
 next_entry plain series taken counts o a few f least =
     let all = merged plain series in
-    let none : (j : ℕ) → length counts ≤ j → number_from (Some j) all ≡ 0 = λ j past. ap length (source-merged plain series (Some j) a ∙ ap (entries_at j) (slice_get_past series j (omega (arith, few, past)))) in
+    let none : (j : ℕ) → length counts ≤ j → number_from (Some j) all
+    ≡ 0 = λ j past. ap length (source-merged plain series (Some j) a
+    ∙ ap (entries_at j) (slice_get_past series j (omega (arith, few, past)))) in
     sym (first-drop taken all) ∙ least-first (drop taken all) (head plain series taken counts) o
     (in_order-drop taken all (is_in_order _))
     (λ x y p q. a.lines_tell x y (among-drop taken all x p) (among-drop taken all y q))

@@ -1,12 +1,15 @@
 -- The fields of a line of a feed are refused exactly where their slip says why.
-use Rattle.std.proofs.Common.{◌≡◌, ◌∙◌, ℕ, ◌+◌, ◌==◌, Bool, true, false, List, [], ◌∷◌, Option, None, Some, Result, Ok, Err, refl, ap, sym, inl, inr}
+use Rattle.std.proofs.Common.{◌≡◌, ◌∙◌, ℕ, ◌+◌, ◌==◌, Bool, true, false, List, [], ◌∷◌, Option, None, Some, Result, Ok, Err, refl, ap, sym}
+use Rattle.std.proofs.Common.{inl, inr}
 use Rattle.std.specs.Prelude.{codes, is_ok, is_some, if◌then◌else◌}
 use Rattle.std.proofs.lemmas.Bool.{cases_Bool, and_parts, eqb-true}
 use Rattle.agc_text.specs.Tables.{same_name, value_in}
 use Rattle.feed.specs.Counters.{takes}
 use Rattle.feed.specs.Names.{counters, sequences}
-use Rattle.feed.specs.Slips.{SlipTells, counter_slip, factors_slip, input_slip, is_said, is_taken, line_slip, series_slip, slip_at, surplus_slip, why_not_taken, word_slip}
-use Rattle.feed.specs.Statements.{at_cycle, channel_in, cycle_in, factor_in, formed, gives, input_in, pulse_of, repeats, request_in, rule_by, rule_in, statement_in, word_in, word_on}
+use Rattle.feed.specs.Slips.{SlipTells, counter_slip, factors_slip, input_slip, is_said, is_taken, line_slip, series_slip, slip_at}
+use Rattle.feed.specs.Slips.{surplus_slip, why_not_taken, word_slip}
+use Rattle.feed.specs.Statements.{at_cycle, channel_in, cycle_in, factor_in, formed, gives, input_in, pulse_of, repeats, request_in}
+use Rattle.feed.specs.Statements.{rule_by, rule_in, statement_in, word_in, word_on}
 use Rattle.feed.specs.declared.entry.Rule.{Rule}
 use Rattle.feed.specs.declared.fault.LineFault.{LineFault}
 use Rattle.feed.specs.declared.input.Counter.{Counter}
@@ -35,7 +38,9 @@ by_pulse field None sequence argument e = refl
 by_pulse field (Some counter) None argument e = rw e refl
 by_pulse field (Some counter) (Some sequence) argument e = rw e (by_takes (takes counter sequence))
   where
-    by_takes : (taken : Bool) → is_taken (if taken then Taken else Rattle.feed.specs.declared.slip.Why.TheVariants.NotTaken counter) ≡ is_ok (if taken then Ok (Rattle.feed.specs.declared.input.Input.TheVariants.Count counter sequence) else Err Rattle.feed.specs.declared.fault.LineFault.TheVariants.WrongCounter)
+    by_takes : (taken : Bool) → is_taken (if taken then Taken else Rattle.feed.specs.declared.slip.Why.TheVariants.NotTaken counter)
+        ≡ is_ok (if taken then Ok (Rattle.feed.specs.declared.input.Input.TheVariants.Count counter sequence) else Err
+        Rattle.feed.specs.declared.fault.LineFault.TheVariants.WrongCounter)
     by_takes true = refl
     by_takes false = refl
 
@@ -43,15 +48,19 @@ no_counter : (field : ℕ) (counter : Option Counter) → is_taken (counter_slip
 no_counter field None = refl
 no_counter field (Some counter) = refl
 
-more_than_a_pulse : (field : ℕ) (counter : Option Counter) (a b : List ℕ) (rest : List (List ℕ)) → is_taken (counter_slip field counter (a ∷ b ∷ rest)).why ≡ false
+more_than_a_pulse : (field : ℕ) (counter : Option Counter) (a b : List ℕ) (rest : List (List ℕ))
+    → is_taken (counter_slip field counter (a ∷ b ∷ rest)).why ≡ false
 more_than_a_pulse field None a b rest = refl
 more_than_a_pulse field (Some counter) a b rest = refl
 
-requested : (field : ℕ) (request : Option Input) → is_taken (if is_some request then slip_at field Taken else slip_at field Request).why ≡ is_ok (formed request)
+requested : (field : ℕ) (request : Option Input)
+    → is_taken (if is_some request then slip_at field Taken else slip_at field Request).why ≡ is_ok (formed request)
 requested field None = refl
 requested field (Some request) = refl
 
-on_channel : (f g h : ℕ) (channel word : Option ℕ) → is_taken (if is_some channel then (if is_some word then slip_at f Taken else slip_at g Word) else slip_at h Channel).why ≡ is_ok (formed (word_on channel word))
+on_channel : (f g h : ℕ) (channel word : Option ℕ)
+    → is_taken (if is_some channel then (if is_some word then slip_at f Taken else slip_at g Word) else slip_at h Channel).why
+    ≡ is_ok (formed (word_on channel word))
 on_channel f g h None word = refl
 on_channel f g h (Some channel) None = refl
 on_channel f g h (Some channel) (Some word) = refl
@@ -65,11 +74,13 @@ never_one : (f g : ℕ) (a : Bool) → is_taken (if a then slip_at f Surplus els
 never_one f g true = refl
 never_one f g false = refl
 
-never_missing : (field : ℕ) (a : Bool) → is_taken (if a then slip_at field Rattle.feed.specs.declared.slip.Why.TheVariants.Missing else slip_at field Channel).why ≡ false
+never_missing : (field : ℕ) (a : Bool) → is_taken
+    (if a then slip_at field Rattle.feed.specs.declared.slip.Why.TheVariants.Missing else slip_at field Channel).why ≡ false
 never_missing field true = refl
 never_missing field false = refl
 
-chan_alone : (name : List ℕ) → same_name name (codes "CHAN") ≡ true → (same_name name (codes "RUPT") ≡ false) × (value_in counters name ≡ None)
+chan_alone : (name : List ℕ) → same_name name (codes "CHAN") ≡ true
+    → (same_name name (codes "RUPT") ≡ false) × (value_in counters name ≡ None)
 chan_alone name e =
     let is : name ≡ codes "CHAN" = same name (codes "CHAN") e in
     (ap (λ n. same_name n (codes "RUPT")) is, ap (value_in counters) is ∙ chan_counts)
@@ -86,7 +97,8 @@ input_tells field (name ∷ []) =
     ]
 input_tells field (name ∷ a ∷ []) =
     elim (cases_Bool (same_name name (codes "CHAN"))) [
-      | inl chan ↦ (let apart = chan_alone name chan in rw (chan, apart.0, apart.1) (never_missing (field + 1 + 1) (is_some (channel_in a))))
+      | inl chan ↦ (let apart = chan_alone name chan in rw (chan, apart.0, apart.1)
+          (never_missing (field + 1 + 1) (is_some (channel_in a))))
       | inr other ↦ rw other (elim (cases_Bool (same_name name (codes "RUPT"))) [
         | inl rupt ↦ rw rupt (requested (field + 1 + 1) (request_in a))
         | inr none ↦ rw none (by_pulse (field + 1) (value_in counters name) (value_in sequences a) a refl)
@@ -102,7 +114,8 @@ input_tells field (name ∷ a ∷ b ∷ []) =
     ]
 input_tells field (name ∷ a ∷ b ∷ c ∷ rest) =
     elim (cases_Bool (same_name name (codes "CHAN"))) [
-      | inl chan ↦ rw chan (never (field + 1 + 1 + 1 + 1) (field + 1 + 1 + 1) (field + 1 + 1) (is_some (channel_in a)) (is_some (word_in b)))
+      | inl chan ↦ rw chan (never (field + 1 + 1 + 1 + 1) (field + 1 + 1 + 1) (field + 1 + 1) (is_some (channel_in a))
+          (is_some (word_in b)))
       | inr other ↦ rw other (elim (cases_Bool (same_name name (codes "RUPT"))) [
         | inl rupt ↦ rw rupt (never_one (field + 1 + 1 + 1) (field + 1 + 1) (is_some (request_in a)))
         | inr none ↦ rw none (more_than_a_pulse (field + 1) (value_in counters name) a b (c ∷ rest))
@@ -112,10 +125,13 @@ input_tells field (name ∷ a ∷ b ∷ c ∷ rest) =
 -- ## A series
 abbrev Numbers : List (List ℕ) → Option ℕ → Option ℕ → Option ℕ → Option ℕ → Type 0
 Numbers rest first num den count =
-    is_taken (if is_some first then (if is_some num then (if is_some den then (if is_some count then input_slip 4 rest else slip_at 4 Factor) else slip_at 3 Factor) else slip_at 2 Factor) else slip_at 1 First).why
+    is_taken (if is_some first then (if is_some num then
+    (if is_some den then (if is_some count then input_slip 4 rest else slip_at 4 Factor) else slip_at 3 Factor) else slip_at 2 Factor)
+    else slip_at 1 First).why
     ≡ is_ok (rule_by first num den count (input_in rest))
 
-by_input : (first num den count : ℕ) (rest : List (List ℕ)) (input : Result Input LineFault) → input_in rest ≡ input → Numbers rest (Some first) (Some num) (Some den) (Some count)
+by_input : (first num den count : ℕ) (rest : List (List ℕ)) (input : Result Input LineFault) → input_in rest ≡ input
+    → Numbers rest (Some first) (Some num) (Some den) (Some count)
 by_input first num den count rest (Ok input) e = input_tells 4 rest ∙ rw e refl
 by_input first num den count rest (Err fault) e = input_tells 4 rest ∙ rw e refl
 
@@ -126,18 +142,22 @@ numbers_tell rest (Some first) (Some num) None count = refl
 numbers_tell rest (Some first) (Some num) (Some den) None = refl
 numbers_tell rest (Some first) (Some num) (Some den) (Some count) = by_input first num den count rest (input_in rest) refl
 
-few : (a b c : Bool) → is_taken (if a then (if b then (if c then slip_at 3 Rattle.feed.specs.declared.slip.Why.TheVariants.MissingFactor else slip_at 3 Factor) else slip_at 2 Factor) else slip_at 1 First).why ≡ false
+few : (a b c : Bool) → is_taken (if a then (if b then
+    (if c then slip_at 3 Rattle.feed.specs.declared.slip.Why.TheVariants.MissingFactor else slip_at 3 Factor) else slip_at 2 Factor) else
+    slip_at 1 First).why ≡ false
 few true true true = refl
 few true true false = refl
 few true false c = refl
 few false b c = refl
 
-fewer : (a b : Bool) → is_taken (if a then (if b then slip_at 2 Rattle.feed.specs.declared.slip.Why.TheVariants.MissingFactor else slip_at 2 Factor) else slip_at 1 First).why ≡ false
+fewer : (a b : Bool) → is_taken (if a then (if b then slip_at 2 Rattle.feed.specs.declared.slip.Why.TheVariants.MissingFactor else slip_at 2
+    Factor) else slip_at 1 First).why ≡ false
 fewer true true = refl
 fewer true false = refl
 fewer false b = refl
 
-fewest : (a : Bool) → is_taken (if a then slip_at 1 Rattle.feed.specs.declared.slip.Why.TheVariants.MissingFactor else slip_at 1 First).why ≡ false
+fewest : (a : Bool) → is_taken (if a then slip_at 1 Rattle.feed.specs.declared.slip.Why.TheVariants.MissingFactor else slip_at 1 First).why
+    ≡ false
 fewest true = refl
 fewest false = refl
 

@@ -7,7 +7,8 @@ use Rattle.feed.specs.Slips.{line_slip}
 use Rattle.feed.specs.declared.input.Counter.TheVariants.{Time1, Time6}
 use Rattle.feed.specs.declared.slip.Slip.{Slip}
 use Rattle.feed.specs.declared.slip.Why.{Why}
-use Rattle.feed.specs.declared.slip.Why.TheVariants.{Taken, Cycle, First, Factor, MissingFactor, Name, Channel, Word, Request, NotTaken, Missing, Surplus}
+use Rattle.feed.specs.declared.slip.Why.TheVariants.{Taken, Cycle, First, Factor, MissingFactor, Name, Channel, Word, Request, NotTaken}
+use Rattle.feed.specs.declared.slip.Why.TheVariants.{Missing, Surplus}
 
 -- how many fields stand before the one that is refused, and why it is
 abbrev told : List ℕ → ℕ × Why

@@ -1,5 +1,6 @@
 -- Entries in order.
-use Rattle.std.proofs.Common.{ℕ, ◌≡◌, Bool, true, false, List, [], ◌∷◌, ◌++◌, cond, ltb, eqb, refl, ap, ◌∙◌, sym, arith, inl, inr, ◌⊎◌, ◌&&◌, ◌||◌}
+use Rattle.std.proofs.Common.{ℕ, ◌≡◌, Bool, true, false, List, [], ◌∷◌, ◌++◌, cond, ltb, eqb, refl, ap, ◌∙◌, sym, arith, inl, inr, ◌⊎◌}
+use Rattle.std.proofs.Common.{◌&&◌, ◌||◌}
 use Rattle.std.specs.Prelude.{filter}
 use Rattle.std.proofs.lemmas.Bool.Decides.{nat_tests}
 use Rattle.feed.specs.declared.entry.Entry.{Entry}
@@ -11,10 +12,12 @@ either_way true = inl refl
 either_way false = inr refl
 
 -- the order by three numbers
-asym-numbers : (a b c d e f : ℕ) → (ltb a b || (eqb a b && (ltb c d || (eqb c d && ltb e f)))) ≡ true → (ltb b a || (eqb b a && (ltb d c || (eqb d c && ltb f e)))) ≡ false
+asym-numbers : (a b c d e f : ℕ) → (ltb a b || (eqb a b && (ltb c d || (eqb c d && ltb e f)))) ≡ true
+    → (ltb b a || (eqb b a && (ltb d c || (eqb d c && ltb f e)))) ≡ false
 asym-numbers a b c d e f h = grind (arith, nat_tests)
 
-neg-numbers : (a b c d e f g h i : ℕ) → (ltb b a || (eqb b a && (ltb e d || (eqb e d && ltb h g)))) ≡ false → (ltb c b || (eqb c b && (ltb f e || (eqb f e && ltb i h)))) ≡ false
+neg-numbers : (a b c d e f g h i : ℕ) → (ltb b a || (eqb b a && (ltb e d || (eqb e d && ltb h g)))) ≡ false
+    → (ltb c b || (eqb c b && (ltb f e || (eqb f e && ltb i h)))) ≡ false
     → (ltb c a || (eqb c a && (ltb f d || (eqb f d && ltb i g)))) ≡ false
 neg-numbers a b c d e f g h i p q = grind (arith, nat_tests)
 
@@ -94,14 +97,17 @@ filter-inserted_no p x (y ∷ ys) h = elim (either_way (is_before y x)) [
   | inr isnt ↦ rw (inserted-after x y ys isnt) (filter-no p x (y ∷ ys) h)
 ]
 
-filter-inserted_yes : (p : Entry → Bool) (x : Entry) (ys : List Entry) → IsInOrder ys → p x ≡ true → filter p (inserted x ys) ≡ inserted x (filter p ys)
+filter-inserted_yes : (p : Entry → Bool) (x : Entry) (ys : List Entry) → IsInOrder ys → p x ≡ true
+    → filter p (inserted x ys) ≡ inserted x (filter p ys)
 filter-inserted_yes p x [] o h = rw inserted-nil (filter-yes p x [] h)
 filter-inserted_yes p x (y ∷ ys) o h = elim (either_way (is_before y x)) [
   | inl is ↦ rw (inserted-before x y ys is) (elim (either_way (p y)) [
-    | inl kept ↦ filter-yes p y (inserted x ys) kept ∙ ap (λ l. y ∷ l) (filter-inserted_yes p x ys o.1 h) ∙ sym (inserted-before x y (filter p ys) is) ∙ ap (inserted x) (sym (filter-yes p y ys kept))
+    | inl kept ↦ filter-yes p y (inserted x ys) kept ∙ ap (λ l. y ∷ l) (filter-inserted_yes p x ys o.1 h)
+        ∙ sym (inserted-before x y (filter p ys) is) ∙ ap (inserted x) (sym (filter-yes p y ys kept))
     | inr lost ↦ filter-no p y (inserted x ys) lost ∙ filter-inserted_yes p x ys o.1 h ∙ ap (inserted x) (sym (filter-no p y ys lost))
   ])
-  | inr isnt ↦ rw (inserted-after x y ys isnt) (filter-yes p x (y ∷ ys) h ∙ sym (inserted-front x (filter p (y ∷ ys)) (none_before-filter p x (y ∷ ys) (isnt, none_before-on x y ys isnt o.0))))
+  | inr isnt ↦ rw (inserted-after x y ys isnt) (filter-yes p x (y ∷ ys) h
+      ∙ sym (inserted-front x (filter p (y ∷ ys)) (none_before-filter p x (y ∷ ys) (isnt, none_before-on x y ys isnt o.0))))
 ]
 
 -- the order among those that pass a test
@@ -109,21 +115,32 @@ pub filter-in_order : (p : Entry → Bool) (xs : List Entry) → filter p (in_or
 unfolding in_order
 filter-in_order p [] = refl
 filter-in_order p (x ∷ xs) = elim (either_way (p x)) [
-  | inl is ↦ filter-inserted_yes p x (in_order xs) (is_in_order xs) is ∙ ap (inserted x) (filter-in_order p xs) ∙ ap in_order (sym (filter-yes p x xs is))
+  | inl is ↦ filter-inserted_yes p x (in_order xs) (is_in_order xs) is ∙ ap (inserted x) (filter-in_order p xs)
+      ∙ ap in_order (sym (filter-yes p x xs is))
   | inr isnt ↦ filter-inserted_no p x (in_order xs) isnt ∙ filter-in_order p xs ∙ ap in_order (sym (filter-no p x xs isnt))
 ]
 
 -- an insertion, and then one of an earlier entry, in any turn
 inserted-inserted : (x y : Entry) (zs : List Entry) → is_before y x ≡ true → inserted y (inserted x zs) ≡ inserted x (inserted y zs)
-inserted-inserted x y [] h = rw (inserted-nil x, inserted-nil y) (inserted-after y x [] (before-asym y x h) ∙ sym (inserted-before x y [] h ∙ ap (λ l. y ∷ l) (inserted-nil x)))
+inserted-inserted x y [] h = rw (inserted-nil x, inserted-nil y)
+    (inserted-after y x [] (before-asym y x h) ∙ sym (inserted-before x y [] h ∙ ap (λ l. y ∷ l) (inserted-nil x)))
 inserted-inserted x y (z ∷ zs) h = elim (either_way (is_before z y)) [
   | inl zy ↦ elim (either_way (is_before z x)) [
-    | inl zx ↦ rw (inserted-before x z zs zx, inserted-before y z zs zy, inserted-before y z (inserted x zs) zy, inserted-before x z (inserted y zs) zx) (ap (λ l. z ∷ l) (inserted-inserted x y zs h))
+    | inl zx ↦ rw (
+      inserted-before x z zs zx,
+      inserted-before y z zs zy,
+      inserted-before y z (inserted x zs) zy,
+      inserted-before x z
+          (inserted y zs) zx,
+    ) (ap (λ l. z ∷ l) (inserted-inserted x y zs h))
     | inr zx ↦ absurd (let e = before-not x z y zx (before-asym z y zy) in cc)
   ]
   | inr zy ↦ elim (either_way (is_before z x)) [
-    | inl zx ↦ ap (inserted y) (inserted-before x z zs zx) ∙ inserted-after y z (inserted x zs) zy ∙ sym (ap (inserted x) (inserted-after y z zs zy) ∙ inserted-before x y (z ∷ zs) h ∙ ap (λ l. y ∷ l) (inserted-before x z zs zx))
-    | inr zx ↦ ap (inserted y) (inserted-after x z zs zx) ∙ inserted-after y x (z ∷ zs) (before-asym y x h) ∙ ap (λ l. y ∷ l) (sym (inserted-after x z zs zx)) ∙ sym (ap (inserted x) (inserted-after y z zs zy) ∙ inserted-before x y (z ∷ zs) h)
+    | inl zx ↦ ap (inserted y) (inserted-before x z zs zx) ∙ inserted-after y z (inserted x zs) zy
+        ∙ sym (ap (inserted x) (inserted-after y z zs zy) ∙ inserted-before x y (z ∷ zs) h ∙ ap (λ l. y ∷ l) (inserted-before x z zs zx))
+    | inr zx ↦ ap (inserted y) (inserted-after x z zs zx) ∙ inserted-after y x (z ∷ zs) (before-asym y x h)
+        ∙ ap (λ l. y ∷ l) (sym (inserted-after x z zs zx))
+        ∙ sym (ap (inserted x) (inserted-after y z zs zy) ∙ inserted-before x y (z ∷ zs) h)
   ]
 ]
 
@@ -132,6 +149,7 @@ pub in_order-more : (x : Entry) (ys rest : List Entry) → in_order (inserted x 
 unfolding in_order
 in_order-more x [] rest = ap (λ l. in_order (l ++ rest)) (inserted-nil x)
 in_order-more x (y ∷ ys) rest = elim (either_way (is_before y x)) [
-  | inl is ↦ ap (λ l. in_order (l ++ rest)) (inserted-before x y ys is) ∙ ap (inserted y) (in_order-more x ys rest) ∙ inserted-inserted x y (in_order (ys ++ rest)) is
+  | inl is ↦ ap (λ l. in_order (l ++ rest)) (inserted-before x y ys is) ∙ ap (inserted y) (in_order-more x ys rest)
+      ∙ inserted-inserted x y (in_order (ys ++ rest)) is
   | inr isnt ↦ ap (λ l. in_order (l ++ rest)) (inserted-after x y ys isnt)
 ]

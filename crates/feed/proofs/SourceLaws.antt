@@ -1,5 +1,6 @@
 -- The sources of the merged list.
-use Rattle.std.proofs.Common.{ℕ, zero, suc, ◌+◌, ◌*◌, ◌/◌, ◌<◌, ◌≤◌, ◌≡◌, ◌≢◌, Bool, true, false, List, [], ◌∷◌, ◌++◌, Option, Some, None, ltb, eqb, refl, ap, ◌∙◌, sym, arith, ◌&&◌, ◌||◌, filter, map, eq-eqb}
+use Rattle.std.proofs.Common.{ℕ, zero, suc, ◌+◌, ◌*◌, ◌/◌, ◌<◌, ◌≤◌, ◌≡◌, ◌≢◌, Bool, true, false, List, [], ◌∷◌, ◌++◌, Option, Some, None}
+use Rattle.std.proofs.Common.{ltb, eqb, refl, ap, ◌∙◌, sym, arith, ◌&&◌, ◌||◌, filter, map, eq-eqb}
 use Rattle.std.specs.Prelude.{slice_get, IfSome}
 use Rattle.std.specs.List.{range_with_len}
 use Rattle.std.proofs.lemmas.Bool.Decides.{nat_tests}
@@ -46,15 +47,19 @@ no_plain-from : (j : ℕ) (series : List Series) → filter (is_from None) (entr
 unfolding entries_from
 no_plain-from j [] = refl
 no_plain-from j (s ∷ more) =
-    filter-append (is_from None) (entries_of j s) (entries_from (j + 1) more) ∙ ap (λ l. l ++ filter (is_from None) (entries_from (j + 1) more)) (no_plain-entries j s) ∙ no_plain-from (j + 1) more
+    filter-append (is_from None) (entries_of j s) (entries_from (j + 1) more)
+    ∙ ap (λ l. l ++ filter (is_from None) (entries_from (j + 1) more)) (no_plain-entries j s) ∙ no_plain-from (j + 1) more
 
 earlier-from : (j k : ℕ) (series : List Series) → k < j → filter (is_from (Some k)) (entries_from j series) ≡ []
 unfolding entries_from
 earlier-from j k [] h = refl
 earlier-from j k (s ∷ more) h =
-    filter-append (is_from (Some k)) (entries_of j s) (entries_from (j + 1) more) ∙ ap (λ l. l ++ filter (is_from (Some k)) (entries_from (j + 1) more)) (other-entries j k s (omega arith)) ∙ earlier-from (j + 1) k more (omega arith)
+    filter-append (is_from (Some k)) (entries_of j s) (entries_from (j + 1) more)
+    ∙ ap (λ l. l ++ filter (is_from (Some k)) (entries_from (j + 1) more)) (other-entries j k s (omega arith))
+    ∙ earlier-from (j + 1) k more (omega arith)
 
-own-from : (j i k : ℕ) (series : List Series) → j + i ≡ k → filter (is_from (Some k)) (entries_from j series) ≡ entries_at k (slice_get series i)
+own-from : (j i k : ℕ) (series : List Series) → j + i ≡ k
+    → filter (is_from (Some k)) (entries_from j series) ≡ entries_at k (slice_get series i)
 unfolding entries_from
 own-from j i k [] e = refl
 own-from j zero k (s ∷ more) e =
@@ -64,16 +69,20 @@ own-from j zero k (s ∷ more) e =
     ∙ ap (λ n. filter (is_from (Some k)) (entries_of n s)) (sym here) ∙ own-entries k s
 own-from j (suc i) k (s ∷ more) e =
     filter-append (is_from (Some k)) (entries_of j s) (entries_from (j + 1) more)
-    ∙ ap (λ l. l ++ filter (is_from (Some k)) (entries_from (j + 1) more)) (other-entries j k s (omega (arith, e))) ∙ own-from (j + 1) i k more (omega (arith, e))
+    ∙ ap (λ l. l ++ filter (is_from (Some k)) (entries_from (j + 1) more)) (other-entries j k s (omega (arith, e)))
+    ∙ own-from (j + 1) i k more (omega (arith, e))
 
 -- the entries of a source among all
-source-entries : (plain : List Plain) (series : List Series) (s : Option ℕ) → filter (is_from s) (entries plain series) ≡ source plain series s
+source-entries : (plain : List Plain) (series : List Series) (s : Option ℕ)
+    → filter (is_from s) (entries plain series) ≡ source plain series s
 source-entries plain series None =
     filter-append (is_from None) (map plain_entry plain) (entries_from 0 series)
-    ∙ ap (λ l. l ++ filter (is_from None) (entries_from 0 series)) (filter-all (is_from None) plain_entry plain (λ p. refl)) ∙ ap (λ l. map plain_entry plain ++ l) (no_plain-from 0 series) ∙ append-nil _
+    ∙ ap (λ l. l ++ filter (is_from None) (entries_from 0 series)) (filter-all (is_from None) plain_entry plain (λ p. refl))
+    ∙ ap (λ l. map plain_entry plain ++ l) (no_plain-from 0 series) ∙ append-nil _
 source-entries plain series (Some j) =
     filter-append (is_from (Some j)) (map plain_entry plain) (entries_from 0 series)
-    ∙ ap (λ l. l ++ filter (is_from (Some j)) (entries_from 0 series)) (filter-none (is_from (Some j)) plain_entry plain (λ p. refl)) ∙ own-from 0 j j series (omega arith)
+    ∙ ap (λ l. l ++ filter (is_from (Some j)) (entries_from 0 series)) (filter-none (is_from (Some j)) plain_entry plain (λ p. refl))
+    ∙ own-from 0 j j series (omega arith)
 
 -- a series is in order
 cycles-rise : (s : Series) (a b : ℕ) → 0 < s.den → a ≤ b → cycle_of s a ≤ cycle_of s b
@@ -90,7 +99,8 @@ later-entry : (j : ℕ) (s : Series) (a b : ℕ) → 0 < s.den → a ≤ b → i
 unfolding is_before
 later-entry j s a b d h = later-numbers (cycle_of s a) (cycle_of s b) s.line a b (cycles-rise s a b d h) h
 
-none_before-range : (j : ℕ) (s : Series) (a b n : ℕ) → 0 < s.den → a ≤ b → NoneBefore (series_entry j s a) (map (series_entry j s) (range_with_len b n))
+none_before-range : (j : ℕ) (s : Series) (a b n : ℕ) → 0 < s.den → a ≤ b
+    → NoneBefore (series_entry j s a) (map (series_entry j s) (range_with_len b n))
 none_before-range j s a b zero d h = tt
 none_before-range j s a b (suc n) d h = (later-entry j s a b d h, none_before-range j s a (b + 1) n d (omega arith))
 
@@ -103,12 +113,15 @@ unfolding entries_of
 in_order-at j None d = tt
 in_order-at j (Some s) d = in_order-range j s 0 s.count d.den
 
-pub source-in_order : (plain : List Plain) (series : List Series) (s : Option ℕ) → AreSources plain series → IsInOrder (source plain series s)
+pub source-in_order : (plain : List Plain) (series : List Series) (s : Option ℕ) → AreSources plain series
+    → IsInOrder (source plain series s)
 source-in_order plain series None a = a.plain_in_order
 source-in_order plain series (Some j) a = in_order-at j (slice_get series j) (a.rules j)
 
 -- the entries of a source in the merged list
-pub source-merged : (plain : List Plain) (series : List Series) (s : Option ℕ) → AreSources plain series → filter (is_from s) (merged plain series) ≡ source plain series s
+pub source-merged : (plain : List Plain) (series : List Series) (s : Option ℕ) → AreSources plain series
+    → filter (is_from s) (merged plain series) ≡ source plain series s
 unfolding merged
 source-merged plain series s a =
-    filter-in_order (is_from s) (entries plain series) ∙ ap in_order (source-entries plain series s) ∙ in_order-same (source plain series s) (source-in_order plain series s a)
+    filter-in_order (is_from s) (entries plain series) ∙ ap in_order (source-entries plain series s)
+    ∙ in_order-same (source plain series s) (source-in_order plain series s a)

@@ -7,7 +7,8 @@ use Rattle.feed.specs.Feed.{most_bytes, statements, inputs_of, first_fault, unle
 use Rattle.feed.specs.Gathering.{Tells}
 use Rattle.feed.specs.Reading.{ReadsWhole, ReadsTooMany, ReadsFeed}
 use Rattle.feed.specs.declared.fault.FeedFault.{FeedFault}
-use Rattle.feed.specs.declared.fault.FeedFault.TheVariants.{NoMemory, ReadFailed, BadLine, OutOfOrder, TooMany, WrongCounter, TooLong, TooManySeries}
+use Rattle.feed.specs.declared.fault.FeedFault.TheVariants.{NoMemory, ReadFailed, BadLine, OutOfOrder, TooMany, WrongCounter, TooLong}
+use Rattle.feed.specs.declared.fault.FeedFault.TheVariants.{TooManySeries}
 use Rattle.feed.specs.declared.entry.Entry.{Entry}
 
 -- the inputs of a text that is not too long
@@ -26,21 +27,25 @@ reads_too_many old new taken =
     record { answer = inputs-long old (omega (arith, longer, taken.count)); taken = taken }
 
 -- lines without a fault give their inputs
-pub reads_inputs : (old new text : List ℕ) (list : List Entry) → old ≡ text → new ≡ [] → length text ≤ most_bytes → first_fault [] (statements text) ≡ None
+pub reads_inputs : (old new text : List ℕ) (list : List Entry) → old ≡ text → new ≡ [] → length text ≤ most_bytes
+    → first_fault [] (statements text) ≡ None
     → list ≡ inputs_of (statements text) → ReadsWhole old new (Ok list)
 reads_inputs old new text list whole end within faultless given = record {
-  answer = ap inputs whole ∙ inputs-within text within ∙ ap (λ f. unless_fault f (inputs_of (statements text))) faultless ∙ ap (λ l. Ok l) (sym given);
+  answer = ap inputs whole ∙ inputs-within text within ∙ ap (λ f. unless_fault f (inputs_of (statements text))) faultless
+      ∙ ap (λ l. Ok l) (sym given);
   left = end;
 }
 
-refused : (old new text : List ℕ) (fault : FeedFault) → old ≡ text → new ≡ [] → length text ≤ most_bytes → first_fault [] (statements text) ≡ Some fault → ReadsWhole old new (Err fault)
+refused : (old new text : List ℕ) (fault : FeedFault) → old ≡ text → new ≡ [] → length text ≤ most_bytes
+    → first_fault [] (statements text) ≡ Some fault → ReadsWhole old new (Err fault)
 refused old new text fault whole end within found = record {
   answer = ap inputs whole ∙ inputs-within text within ∙ ap (λ f. unless_fault f (inputs_of (statements text))) found;
   left = end;
 }
 
 -- the first fault of lines is told, unless memory runs out
-pub reads_fault : (old new text : List ℕ) (fault : FeedFault) → old ≡ text → new ≡ [] → length text ≤ most_bytes → Tells (first_fault [] (statements text)) fault → ReadsFeed old new (Err fault)
+pub reads_fault : (old new text : List ℕ) (fault : FeedFault) → old ≡ text → new ≡ [] → length text ≤ most_bytes
+    → Tells (first_fault [] (statements text)) fault → ReadsFeed old new (Err fault)
 reads_fault old new text NoMemory whole end within told = record {
   bytes = text;
   front = whole ∙ sym (append-nil text) ∙ ap (λ rest. text ++ rest) (sym end);

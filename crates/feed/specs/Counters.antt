@@ -4,7 +4,8 @@ use Rattle.std.specs.List.{list_any}
 use Rattle.feed.specs.declared.counter.Asks.{Asks}
 use Rattle.feed.specs.declared.counter.Asks.TheVariants.{Nothing, CarryInto, OnOverflow, AtZero, OnOneShiftedOut}
 use Rattle.feed.specs.declared.input.Counter.{Counter}
-use Rattle.feed.specs.declared.input.Counter.TheVariants.{Time1, Time2, Time3, Time4, Time5, Time6, CduX, CduY, CduZ, OptY, OptX, PipaX, PipaY, PipaZ, Inlink}
+use Rattle.feed.specs.declared.input.Counter.TheVariants.{Time1, Time2, Time3, Time4, Time5, Time6, CduX, CduY, CduZ, OptY, OptX, PipaX}
+use Rattle.feed.specs.declared.input.Counter.TheVariants.{PipaY, PipaZ, Inlink}
 use Rattle.feed.specs.declared.input.Sequence.{Sequence}
 use Rattle.feed.specs.declared.input.Sequence.TheVariants.{Pinc, Minc, Dinc, Pcdu, Mcdu, Shinc, Shanc}
 

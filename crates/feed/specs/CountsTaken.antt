@@ -1,5 +1,6 @@
 -- What a machine knows of the inputs that it took.
-use Rattle.std.specs.Prelude.{ℕ, ◌+◌, ◌^◌, ◌<◌, ◌≤◌, ◌≡◌, ◌==◌, Bool, true, false, List, Option, Some, None, IfSome, length, filter, take, slice_get, slice_index, set}
+use Rattle.std.specs.Prelude.{ℕ, ◌+◌, ◌^◌, ◌<◌, ◌≤◌, ◌≡◌, ◌==◌, Bool, true, false, List, Option, Some, None, IfSome, length, filter, take}
+use Rattle.std.specs.Prelude.{slice_get, slice_index, set}
 use Rattle.feed.specs.Order.{IsInOrder}
 use Rattle.feed.specs.declared.entry.Entry.{Entry}
 

@@ -1,7 +1,8 @@
 -- The faults of a feed.
 use Rattle.std.specs.Prelude.{ℕ, List, [], ◌++◌, codes, decimal, Option, None, Some}
 use Rattle.feed.specs.declared.fault.FeedFault.{FeedFault}
-use Rattle.feed.specs.declared.fault.FeedFault.TheVariants.{NoMemory, ReadFailed, BadLine, OutOfOrder, TooMany, WrongCounter, TooLong, TooManySeries}
+use Rattle.feed.specs.declared.fault.FeedFault.TheVariants.{NoMemory, ReadFailed, BadLine, OutOfOrder, TooMany, WrongCounter, TooLong}
+use Rattle.feed.specs.declared.fault.FeedFault.TheVariants.{TooManySeries}
 use Rattle.feed.specs.declared.fault.LineFault.{LineFault}
 use Rattle.feed.specs.declared.fault.LineFault.TheVariants as line_fault
 

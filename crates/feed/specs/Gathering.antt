@@ -5,7 +5,8 @@ use Rattle.feed.specs.Heads.{IsRule}
 use Rattle.feed.specs.Merged.{series_on}
 use Rattle.feed.specs.declared.entry.Rule.{Rule}
 use Rattle.feed.specs.declared.fault.FeedFault.{FeedFault}
-use Rattle.feed.specs.declared.fault.FeedFault.TheVariants.{NoMemory, ReadFailed, BadLine, OutOfOrder, TooMany, WrongCounter, TooLong, TooManySeries}
+use Rattle.feed.specs.declared.fault.FeedFault.TheVariants.{NoMemory, ReadFailed, BadLine, OutOfOrder, TooMany, WrongCounter, TooLong}
+use Rattle.feed.specs.declared.fault.FeedFault.TheVariants.{TooManySeries}
 use Rattle.feed.specs.declared.reading.Gathered.{Gathered}
 use Rattle.feed.specs.declared.statement.Statement.{Statement}
 use Rattle.feed.specs.declared.statement.Statement.TheVariants.{Nothing, Faulty, Gives, Repeats}

@@ -1,5 +1,6 @@
 -- The sources of a feed's inputs, and the first entry of each that was not taken.
-use Rattle.std.specs.Prelude.{ℕ, zero, suc, true, ◌==◌, ◌||◌, ◌-◌, ◌<◌, ◌^◌, if◌then◌else◌, ◌≡◌, Bool, false, List, [], map, Option, Some, None, IfSome, is_some, ◌≤◌, slice_get, slice_index, sum, length, filter}
+use Rattle.std.specs.Prelude.{ℕ, zero, suc, true, ◌==◌, ◌||◌, ◌-◌, ◌<◌, ◌^◌, if◌then◌else◌, ◌≡◌, Bool, false, List, [], map, Option, Some}
+use Rattle.std.specs.Prelude.{None, IfSome, is_some, ◌≤◌, slice_get, slice_index, sum, length, filter}
 use Rattle.feed.specs.declared.entry.Entry.{Entry}
 use Rattle.feed.specs.declared.entry.Plain.{Plain}
 use Rattle.feed.specs.declared.entry.Series.{Series}
@@ -79,7 +80,8 @@ last_taken plain series taken counts s = entry_before (source plain series s) (n
 
 -- of a source as many entries stand as were taken, and the last of these is not after e
 abbrev pub IsEnded : List Plain → List Series → ℕ → List ℕ → Option Entry → Option ℕ → Type 0
-IsEnded plain series taken counts e s = (stands (number_taken taken counts s) (last_taken plain series taken counts s) ≡ true) × IsntAfter (last_taken plain series taken counts s) e
+IsEnded plain series taken counts e s = (stands (number_taken taken counts s) (last_taken plain series taken counts s) ≡ true)
+    × IsntAfter (last_taken plain series taken counts s) e
 
 -- So many were taken in all as the counts add up to at least, and each source is ended by e.
 pub record AreEnded (plain : List Plain) (series : List Series) (taken : ℕ) (counts : List ℕ) (e : Option Entry) : Type 0 where

@@ -4,7 +4,8 @@ use Rattle.words.specs.Readings.{TakesAtMost, Takes}
 use Rattle.feed.specs.Feed.{inputs, most_bytes}
 use Rattle.feed.specs.declared.entry.Entry.{Entry}
 use Rattle.feed.specs.declared.fault.FeedFault.{FeedFault}
-use Rattle.feed.specs.declared.fault.FeedFault.TheVariants.{NoMemory, ReadFailed, BadLine, OutOfOrder, TooMany, WrongCounter, TooLong, TooManySeries}
+use Rattle.feed.specs.declared.fault.FeedFault.TheVariants.{NoMemory, ReadFailed, BadLine, OutOfOrder, TooMany, WrongCounter, TooLong}
+use Rattle.feed.specs.declared.fault.FeedFault.TheVariants.{TooManySeries}
 
 -- the bytes that were left give the answer, and all were read
 pub record ReadsWhole (old new : List ℕ) (told : Result (List Entry) FeedFault) : Type 0 where

@@ -10,7 +10,8 @@ use Rattle.feed.specs.declared.slip.Slip.{Slip}
 use Rattle.feed.specs.declared.slip.Why.{Why}
 use Rattle.feed.specs.declared.statement.Statement.{Statement}
 use Rattle.feed.specs.declared.statement.Statement.TheVariants.{Faulty}
-use Rattle.feed.specs.declared.slip.Why.TheVariants.{Taken, Cycle, First, Factor, MissingFactor, Name, Channel, Word, Request, NotTaken, Missing, Surplus}
+use Rattle.feed.specs.declared.slip.Why.TheVariants.{Taken, Cycle, First, Factor, MissingFactor, Name, Channel, Word, Request, NotTaken}
+use Rattle.feed.specs.declared.slip.Why.TheVariants.{Missing, Surplus}
 
 -- a field that so many stand before, and why it is refused
 abbrev pub slip_at : ℕ → Why → Slip
@@ -66,7 +67,8 @@ input_slip field (name ∷ rest) =
 abbrev pub factors_slip : ℕ → ℕ → List (List ℕ) → Slip
 factors_slip zero field rest = input_slip field rest
 factors_slip (suc left) field [] = slip_at field MissingFactor
-factors_slip (suc left) field (text ∷ rest) = if is_some (factor_in text) then factors_slip left (field + 1) rest else slip_at (field + 1) Factor
+factors_slip (suc left) field (text ∷ rest) = if is_some (factor_in text) then factors_slip left (field + 1) rest else slip_at (field + 1)
+    Factor
 
 -- those after EVERY
 abbrev pub series_slip : List (List ℕ) → Slip

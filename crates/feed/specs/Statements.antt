@@ -1,5 +1,6 @@
 -- What a line of a feed says, whatever stands before it.
-use Rattle.std.specs.Prelude.{ℕ, ◌==◌, ◌&&◌, ◌||◌, Bool, nat_le, List, [], ◌∷◌, length, Option, None, Some, Result, Ok, Err, codes, if◌then◌else◌, option_and_then}
+use Rattle.std.specs.Prelude.{ℕ, ◌==◌, ◌&&◌, ◌||◌, Bool, nat_le, List, [], ◌∷◌, length, Option, None, Some, Result, Ok, Err, codes}
+use Rattle.std.specs.Prelude.{if◌then◌else◌, option_and_then}
 use Rattle.std.specs.List.{list_all}
 use Rattle.std.specs.Option.{option_map}
 use Rattle.agc_text.specs.Bytes.{line_length, is_text_byte}
@@ -95,7 +96,8 @@ timed_in (cycle ∷ input) = at_cycle (cycle_in cycle) (input_in input)
 
 -- a rule by four numbers, where each has its form
 abbrev pub rule_by : Option ℕ → Option ℕ → Option ℕ → Option ℕ → Result Input LineFault → Result Rule LineFault
-rule_by (Some first) (Some num) (Some den) (Some count) (Ok input) = Ok (record { first = first; num = num; den = den; count = count; input = input })
+rule_by (Some first) (Some num) (Some den) (Some count) (Ok input) = Ok
+    (record { first = first; num = num; den = den; count = count; input = input })
 rule_by (Some first) (Some num) (Some den) (Some count) (Err fault) = Err fault
 rule_by first num den count input = Err BadLine
 

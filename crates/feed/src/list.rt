@@ -1,6 +1,7 @@
 //! The inputs of a run.
 
-ghost use Rattle.std.specs.Prelude.{◌≡◌, ◌≢◌, ◌≤◌, ◌<◌, ◌+◌, ◌^◌, ℕ, List, [], true, Some, None, Err, OnOk, OnErr, IfOk, IfSome, filter, map, slice_get, slice_index};
+ghost use Rattle.std.specs.Prelude.{◌≡◌, ◌≢◌, ◌≤◌, ◌<◌, ◌+◌, ◌^◌, ℕ, List, [], true, Some, None, Err, OnOk, OnErr};
+ghost use Rattle.std.specs.Prelude.{IfOk, IfSome, filter, map, slice_get, slice_index};
 ghost use Rattle.feed.specs.Added.{AddsLast, TakenBelow};
 ghost use Rattle.feed.specs.Feed.{most_inputs};
 ghost use Rattle.feed.specs.CountsTaken.{CountsTaken, is_from, number_from, AreInputs};
@@ -108,14 +109,16 @@ impl Feed {
         taken == self.known && cycles < self.due_at
     }
 
-    /// The cycle up to which it is known that no input is due for a machine that took `taken`; 0 where nothing is known.
+    /// The cycle up to which it is known that no input is due for a machine that took `taken`; 0 where nothing is
+    /// known.
     pub fn none_due_before(&self, taken: usize) -> u64
         ensures { (cycles : ℕ) → cycles < result → due self.now taken cycles ≡ None }
     {
         if taken == self.known { self.due_at } else { 0 }
     }
 
-    /// The next input for a machine that took `taken`, by its counts so many from each series, where its cycle is at most
+    /// The next input for a machine that took `taken`, by its counts so many from each series, where its cycle is at
+    /// most
     /// `cycles`; and the number of its series, where it is from one.
     pub fn due(
         &mut self,
@@ -151,8 +154,10 @@ impl Feed {
     /// Adds a plain input at a cycle, on a line after all others; `TooMany` where the most plain inputs stand.
     pub fn add(&mut self, cycle: u64, input: Input) -> Result<(), AddFault>
         ensures added { OnOk result (AddsLast self.old cycle input self.new) }
-        ensures fits { OnOk result ((taken : ℕ) → (counts : List ℕ) → TakenBelow self.old taken cycle → CountsTaken self.old taken counts → CountsTaken self.new taken counts) }
-        ensures later { OnOk result ((k : ℕ) → (cycles : ℕ) → cycles < cycle → due self.new k cycles ≡ due self.old k cycles) }
+        ensures fits { OnOk result ((taken : ℕ) → (counts : List ℕ) → TakenBelow self.old taken cycle
+            → CountsTaken self.old taken counts → CountsTaken self.new taken counts) }
+        ensures later { OnOk result ((k : ℕ) → (cycles : ℕ) → cycles < cycle
+            → due self.new k cycles ≡ due self.old k cycles) }
         ensures unchanged { OnErr result (self.new ≡ self.old) }
         ensures room { result ≢ Err AddFault.TooMany → number_from None self.old < most_inputs }
         ensures full { result ≡ Err AddFault.TooMany → most_inputs ≤ number_from None self.old }

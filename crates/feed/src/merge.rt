@@ -62,8 +62,8 @@ fn none_from(counts: &[u32; MOST_SERIES], from: usize) -> bool
     true
 }
 
-/// What a look at some of the sources tells: the first of their entries that were not taken, the last of those that were,
-/// and whether of each source as many stand as were taken.
+/// What a look at some of the sources tells: the first of their entries that were not taken, the last of those that
+/// were, and whether of each source as many stand as were taken.
 #[derive(Clone, Copy, Drop)]
 struct Looked {
     next: Option<Entry>,
@@ -128,7 +128,8 @@ pub(crate) fn next_of(
     requires few { length sources.old ≤ 16 }
     requires sources { AreSources plain.now sources.old }
     ensures same { sources.new ≡ sources.old }
-    ensures entry { CountsTaken (merged plain.now sources.old) taken counts.now → slice_get (merged plain.now sources.old) taken ≡ result.0 }
+    ensures entry { CountsTaken (merged plain.now sources.old) taken counts.now
+        → slice_get (merged plain.now sources.old) taken ≡ result.0 }
     ensures series { IfSome result.0 (λ e. IfSome e.series (λ j. j < 16)) }
     ensures fits { result.1 ≡ true → CountsTaken (merged plain.now sources.old) taken counts.now }
 {
@@ -146,7 +147,8 @@ pub(crate) fn next_at(
 ) -> Option<Entry>
     requires few { length sources.now ≤ 16 }
     requires sources { AreSources plain.now sources.now }
-    ensures { CountsTaken (merged plain.now sources.now) taken counts.now → slice_get (merged plain.now sources.now) taken ≡ result }
+    ensures { CountsTaken (merged plain.now sources.now) taken counts.now
+        → slice_get (merged plain.now sources.now) taken ≡ result }
 {
     let number = taken.saturating_sub(total(counts));
     let mut next = plain_head(plain, number);

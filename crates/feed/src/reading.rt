@@ -34,7 +34,8 @@ use words::{MOST_BYTES, Read, ReadFault, read_text};
 /// alone. `NoMemory` where a growth was refused.
 pub fn read<R: Read>(alloc: Global, reader: &mut R) -> Result<Feed, FeedFault>
     ensures bytes { R.told ≡ true → ReadsFeed (R.left reader.old) (R.left reader.new) result }
-    ensures failures { R.failures reader.new ≡ (if has_read_failed result then one_more (R.failures reader.old) else R.failures reader.old) }
+    ensures failures { R.failures reader.new
+        ≡ (if has_read_failed result then one_more (R.failures reader.old) else R.failures reader.old) }
 {
     let text = match read_text(alloc, reader, MOST_BYTES) {
         Ok(text) => text,

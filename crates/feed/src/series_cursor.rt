@@ -9,7 +9,8 @@ use crate::input::Input;
 use crate::interrupt::Interrupt;
 use std::marker::Model;
 
-/// A series, with the cycles of one of its entries and of the one before that. An entry that follows costs one division.
+/// A series, with the cycles of one of its entries and of the one before that. An entry that follows costs one
+/// division.
 #[derive(Drop)]
 pub struct SeriesCursor {
     rule: Series,

@@ -2,7 +2,8 @@
 
 ghost use Rattle.std.specs.Prelude.{◌≡◌, ◌≤◌, ◌+◌, is_some};
 ghost use Rattle.agc_text.specs.Fields.{runs, texts};
-ghost use Rattle.feed.specs.Slips.{slip_at, sequence_why, surplus_slip, word_slip, channel_slip, request_slip, sequence_slip, input_slip, factors_slip, series_slip, line_slip};
+ghost use Rattle.feed.specs.Slips.{slip_at, sequence_why, surplus_slip, word_slip, channel_slip, request_slip};
+ghost use Rattle.feed.specs.Slips.{sequence_slip, input_slip, factors_slip, series_slip, line_slip};
 ghost use Rattle.feed.specs.Statements.{cycle_in};
 
 use crate::input::Counter;

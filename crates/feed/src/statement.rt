@@ -3,7 +3,9 @@
 ghost use Rattle.std.specs.Prelude.{◌≡◌, ◌∷◌, ◌<◌, ◌^◌, IfOk, IfSome};
 ghost use Rattle.agc_text.specs.Fields.{runs, texts};
 ghost use Rattle.feed.specs.Gathering.{IsRuled, HasRule};
-ghost use Rattle.feed.specs.Statements.{is_allowed, is_input_channel, channel_in, word_in, request_in, factor_in, formed, pulse_of, short_input, long_input, input_in, at_cycle, timed_in, rule_in, statement_in, gives, repeats, statement_of, parsed};
+ghost use Rattle.feed.specs.Statements.{is_allowed, is_input_channel, channel_in, word_in, request_in, factor_in};
+ghost use Rattle.feed.specs.Statements.{formed, pulse_of, short_input, long_input, input_in, at_cycle, timed_in};
+ghost use Rattle.feed.specs.Statements.{rule_in, statement_in, gives, repeats, statement_of, parsed};
 
 use crate::entry::Rule;
 use crate::fault::LineFault;

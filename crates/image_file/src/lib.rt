@@ -16,10 +16,10 @@ const IMAGE_BYTES: usize = 73_728;
 /// How many names are tried for a draft, where files of these names stand already.
 const MOST_DRAFTS: u32 = 100;
 
-/// A file for an image. It is made at the first write, so that an engine that is refused leaves none: as a draft in the same
-/// folder, which takes the place of the file of the path once it is whole. So a write that fails leaves what stood there.
-/// Where the path names no plain file, or no draft can stand for it, the bytes go to the path itself. A cell outside it
-/// tells where there was no memory, for an engine sees only that a write failed.
+/// A file for an image. It is made at the first write, so that an engine that is refused leaves none: as a draft in the
+/// same folder, which takes the place of the file of the path once it is whole. So a write that fails leaves what stood
+/// there. Where the path names no plain file, or no draft can stand for it, the bytes go to the path itself. A cell
+/// outside it tells where there was no memory, for an engine sees only that a write failed.
 #[derive(Drop)]
 pub struct ImageFile<'a, R: Files + AllocGlobal> {
     rt: &'a R,
@@ -104,7 +104,8 @@ impl<'a, R: Files + AllocGlobal> ImageFile<'a, R> {
 }
 
 impl<F: Drop> Draft<F> {
-    /// Puts a whole draft where it is to stand: in one step, or else, where that place can't change its file, by a copy.
+    /// Puts a whole draft where it is to stand: in one step, or else, where that place can't change its file, by a
+    /// copy.
     fn settle<R: Files>(&self, rt: &R) -> io::Result<()> {
         let (draft, place) = (self.path.as_str(), self.place.as_str());
         if fs::rename(rt, draft, place).is_ok() {
@@ -138,8 +139,8 @@ impl<'a, R: Files + AllocGlobal> Write for ImageFile<'a, R> {
     }
 }
 
-/// The draft of an image for a path: none where the path names what is no plain file, a file of several names, or one whose
-/// draft could not be made in its folder or would be another's.
+/// The draft of an image for a path: none where the path names what is no plain file, a file of several names, or one
+/// whose draft could not be made in its folder or would be another's.
 fn first_draft<R: Files + AllocGlobal>(rt: &R, path: &str) -> io::Result<Option<Draft<R::File>>> {
     match fs::metadata(rt, path) {
         Ok(old) if old.is_file() && old.nlink() == 1 => {
@@ -156,7 +157,8 @@ fn first_draft<R: Files + AllocGlobal>(rt: &R, path: &str) -> io::Result<Option<
     }
 }
 
-/// The draft of an image in place of an old file, with the owner and the permissions of that; none where it can't have them.
+/// The draft of an image in place of an old file, with the owner and the permissions of that; none where it can't have
+/// them.
 fn draft_like<R: Files + AllocGlobal>(
     rt: &R,
     place: String,

@@ -52,7 +52,8 @@ pub fn write_json_string<W: Write>(text: &[u8], out: &mut W) -> Result<(), Write
 ///
 /// After a failure a beginning of it was written.
 pub fn write_string_or_null<W: Write>(text: Option<&[u8]>, out: &mut W) -> Result<(), WriteFailed>
-    ensures written { W.told ≡ true → Writes (W.written out.old) (W.written out.new) (string_or_null (option_map (λ text. text.now) text.entry)) result }
+    ensures written { W.told ≡ true → Writes (W.written out.old) (W.written out.new)
+        (string_or_null (option_map (λ text. text.now) text.entry)) result }
     ensures failures { W.failures out.new ≡ failures_after (W.failures out.old) result }
 {
     match text {

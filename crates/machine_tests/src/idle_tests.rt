@@ -1,6 +1,6 @@
-//! No source is idle: for each spot from which what a step writes is said to come there are two machines that differ there,
-//! make the same step, and then hold different things where it wrote. Z and the banks are left out, where an operand
-//! names them: what a step is tells them.
+//! No source is idle: for each spot from which what a step writes is said to come there are two machines that differ
+//! there, make the same step, and then hold different things where it wrote. Z and the banks are left out, where an
+//! operand names them: what a step is tells them.
 
 use cpu::{Cell, Machine, Processor, Spot};
 use feed::{Feed, read};
@@ -26,7 +26,8 @@ const EXTRA: [u16; 35] = [
     0o60020, 0o62100, 0o70100, 0o70020, 0o74013,
 ];
 
-/// The cells in which the first of the words given stand: those of 0100, 0101, ZRUPT, BRUPT, CYR, L, Q, channel 012 and A.
+/// The cells in which the first of the words given stand: those of 0100, 0101, ZRUPT, BRUPT, CYR, L, Q, channel 012 and
+/// A.
 const CELLS: [u16; 9] = [0o100, 0o101, 0o15, 0o17, 0o20, 1, 2, 0o4012, 0];
 
 /// What may be given.
@@ -72,7 +73,8 @@ fn rope_of(alloc: Global, words: &[u16]) -> Result<Rope, RopeFault> {
     Ok(rope)
 }
 
-/// What runs before an instruction that finds these words: in the cells, the tenth added to A, and the last two at 04013 and 04014.
+/// What runs before an instruction that finds these words: in the cells, the tenth added to A, and the last two at
+/// 04013 and 04014.
 fn before(alloc: Global, row: Row, given: &[u16; 12]) -> Result<Running, RopeFault> {
     let words = [
         0o14015,

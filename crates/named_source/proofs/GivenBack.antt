@@ -1,5 +1,6 @@
 -- The source with names gives the words back, since it is tried.
-use Rattle.std.proofs.Common.{◌≡◌, ◌<◌, ◌&&◌, ℕ, zero, suc, Bool, true, false, List, Option, Some, None, Result, Ok, Err, refl, ap, arith, inl, inr, if◌then◌else◌}
+use Rattle.std.proofs.Common.{◌≡◌, ◌<◌, ◌&&◌, ℕ, zero, suc, Bool, true, false, List, Option, Some, None, Result, Ok, Err, refl, ap, arith}
+use Rattle.std.proofs.Common.{inl, inr, if◌then◌else◌}
 use Rattle.std.proofs.lemmas.Bool.{cases_order}
 use Rattle.std.proofs.lemmas.Bool.Decides.{nat_tests}
 use Rattle.rope.specs.Places.{banks, bank_words, Words, slot_at}
@@ -51,7 +52,8 @@ in_banks words asked given (suc n) bank e lt = elim (cases_order bank n) [
 ]
 
 -- a source that was tried gives back
-tried : (words : Words) (asked : Option ℕ) (source : List ℕ) (r : Result Program Fault) → program Standard source ≡ r → gives_words words asked r ≡ true → GivesBack words asked source
+tried : (words : Words) (asked : Option ℕ) (source : List ℕ) (r : Result Program Fault) → program Standard source ≡ r
+    → gives_words words asked r ≡ true → GivesBack words asked source
 tried words asked source (Ok p) is e = record {
   given = p;
   assembles = is;
@@ -60,13 +62,17 @@ tried words asked source (Ok p) is e = record {
 tried words asked source (Err fault) is e = absurd (let never : false ≡ true = e in cc)
 
 -- the one that is chosen
-chosen : (words : Words) (asked : Option ℕ) (source other : List ℕ) (test : Bool) → (test ≡ true → GivesBack words asked source) → GivesBack words asked other
+chosen : (words : Words) (asked : Option ℕ) (source other : List ℕ) (test : Bool) → (test ≡ true → GivesBack words asked source)
+    → GivesBack words asked other
     → GivesBack words asked (if test then source else other)
 chosen words asked source other true named octals = named refl
 chosen words asked source other false named octals = octals
 
-pub given_back : (names : SymbolTable) (words : Words) (asked : Option ℕ) → AreWords words → IsBank asked → GivesBack words asked (named_source names words asked)
+pub given_back : (names : SymbolTable) (words : Words) (asked : Option ℕ) → AreWords words → IsBank asked
+    → GivesBack words asked (named_source names words asked)
 unfolding named_source
 given_back names words asked few is =
-    chosen words asked (with_names names words asked) (source_text words asked) (gives_words words asked (program Standard (with_names names words asked)))
-    (tried words asked (with_names names words asked) (program Standard (with_names names words asked)) refl) (octal.given_back words asked few is)
+    chosen words asked (with_names names words asked) (source_text words asked)
+    (gives_words words asked (program Standard (with_names names words asked)))
+    (tried words asked (with_names names words asked) (program Standard (with_names names words asked)) refl)
+    (octal.given_back words asked few is)

@@ -1,5 +1,6 @@
 -- Fixed memory as a source with names and instructions, which gives its words.
-use Rattle.std.specs.Prelude.{ℕ, zero, suc, ◌+◌, ◌-◌, ◌==◌, ◌&&◌, ◌||◌, not, Bool, true, false, nat_le, List, [], ◌∷◌, ◌++◌, length, unwrap_or, codes, Option, None, Some, Result, Ok, Err, if◌then◌else◌}
+use Rattle.std.specs.Prelude.{ℕ, zero, suc, ◌+◌, ◌-◌, ◌==◌, ◌&&◌, ◌||◌, not, Bool, true, false, nat_le, List, [], ◌∷◌, ◌++◌, length}
+use Rattle.std.specs.Prelude.{unwrap_or, codes, Option, None, Some, Result, Ok, Err, if◌then◌else◌}
 use Rattle.std.specs.List.{range_with_len, flat_map}
 use Rattle.std.specs.Option.{option_map_or}
 use Rattle.words.specs.Numerals.{octal_text}
@@ -33,11 +34,21 @@ is_register name =
 -- the name of a cell with a use of its own
 unfoldable pub is_kept : List ℕ → Bool
 is_kept name =
-    same_name name (codes "ARUPT") || (same_name name (codes "LRUPT") || (same_name name (codes "QRUPT") || (same_name name (codes "ZRUPT") || (same_name name (codes "BBRUPT") || (same_name name (codes "BRUPT") || (same_name name (codes "CYR") || (same_name name (codes "SR") || (same_name name (codes "CYL") || (same_name name (codes "EDOP"))))))))))
+    same_name name (codes "ARUPT") || (same_name name (codes "LRUPT")
+    || (same_name name (codes "QRUPT") || (same_name name (codes "ZRUPT")
+    || (same_name name (codes "BBRUPT") || (same_name name (codes "BRUPT")
+    || (same_name name (codes "CYR") || (same_name name (codes "SR")
+    || (same_name name (codes "CYL") || (same_name name (codes "EDOP"))))))))))
 
 unfoldable pub is_counter : List ℕ → Bool
 is_counter name =
-    same_name name (codes "TIME2") || (same_name name (codes "TIME1") || (same_name name (codes "TIME3") || (same_name name (codes "TIME4") || (same_name name (codes "TIME5") || (same_name name (codes "TIME6") || (same_name name (codes "CDUX") || (same_name name (codes "CDUY") || (same_name name (codes "CDUZ") || (same_name name (codes "OPTY") || (same_name name (codes "OPTX") || (same_name name (codes "PIPAX") || (same_name name (codes "PIPAY") || (same_name name (codes "PIPAZ") || (same_name name (codes "INLINK")))))))))))))))
+    same_name name (codes "TIME2") || (same_name name (codes "TIME1")
+    || (same_name name (codes "TIME3") || (same_name name (codes "TIME4")
+    || (same_name name (codes "TIME5") || (same_name name (codes "TIME6")
+    || (same_name name (codes "CDUX") || (same_name name (codes "CDUY")
+    || (same_name name (codes "CDUZ") || (same_name name (codes "OPTY")
+    || (same_name name (codes "OPTX") || (same_name name (codes "PIPAX")
+    || (same_name name (codes "PIPAY") || (same_name name (codes "PIPAZ") || (same_name name (codes "INLINK")))))))))))))))
 
 -- whether a name may be a label of the source
 unfoldable pub is_label : List ℕ → Bool
@@ -73,7 +84,8 @@ erasable_lines name place = codes "         SETLOC  " ++ octal_text 4 place ++ c
 -- the lines that give a label a place of fixed memory, before any word stands
 abbrev pub fixed_lines : List ℕ → ℕ → ℕ → List ℕ
 fixed_lines name bank offset =
-    codes "         BANK    " ++ octal_text 2 bank ++ codes "\n         SETLOC  +" ++ octal_text 4 offset ++ codes "\n" ++ name ++ codes "\n"
+    codes "         BANK    " ++ octal_text 2 bank ++ codes "\n         SETLOC  +" ++ octal_text 4 offset ++ codes "\n" ++ name
+    ++ codes "\n"
 
 -- the lines that give a label its value: none where it stands at its word
 abbrev pub label_lines : SymbolTable → Option ℕ → List ℕ → Value → List ℕ
@@ -94,15 +106,21 @@ name_lines labels asked entry =
 -- those of the registers, and of the cells with a use of their own
 unfoldable pub register_lines : List ℕ
 register_lines =
-    codes "A        EQUALS  0\nL        EQUALS  1\nQ        EQUALS  2\nEB       EQUALS  3\nFB       EQUALS  4\nZ        EQUALS  5\nBB       EQUALS  6\nARUPT    EQUALS  10\nLRUPT    EQUALS  11\nQRUPT    EQUALS  12\nZRUPT    EQUALS  15\nBBRUPT   EQUALS  16\nBRUPT    EQUALS  17\nCYR      EQUALS  20\nSR       EQUALS  21\nCYL      EQUALS  22\nEDOP     EQUALS  23\nTIME2    EQUALS  24\nTIME1    EQUALS  25\nTIME3    EQUALS  26\nTIME4    EQUALS  27\nTIME5    EQUALS  30\nTIME6    EQUALS  31\nCDUX     EQUALS  32\nCDUY     EQUALS  33\nCDUZ     EQUALS  34\nOPTY     EQUALS  35\nOPTX     EQUALS  36\nPIPAX    EQUALS  37\nPIPAY    EQUALS  40\nPIPAZ    EQUALS  41\nINLINK   EQUALS  45\n"
+    (codes "A        EQUALS  0\nL        EQUALS  1\nQ        EQUALS  2\nEB       EQUALS  3\nFB       EQUALS  4\nZ        EQUALS  5\nBB     "
+    ++ (codes "  EQUALS  6\nARUPT    EQUALS  10\nLRUPT    EQUALS  11\nQRUPT    EQUALS  12\nZRUPT    EQUALS  15\nBBRUPT   EQUALS  "
+    ++ (codes "16\nBRUPT    EQUALS  17\nCYR      EQUALS  20\nSR       EQUALS  21\nCYL      EQUALS  22\nEDOP     EQUALS  23\nTIME2    "
+    ++ (codes "EQUALS  24\nTIME1    EQUALS  25\nTIME3    EQUALS  26\nTIME4    EQUALS  27\nTIME5    EQUALS  30\nTIME6    EQUALS  "
+    ++ (codes "31\nCDUX     EQUALS  32\nCDUY     EQUALS  33\nCDUZ     EQUALS  34\nOPTY     EQUALS  35\nOPTX     EQUALS  36\nPIPAX    "
+    ++ codes "EQUALS  37\nPIPAY    EQUALS  40\nPIPAZ    EQUALS  41\nINLINK   EQUALS  45\n")))))
 
 -- ## Lines of words
--- the words that stand as numbers: those of EDRUPT, which has no operator, and 0 where no extracode is in force, as places without a word hold it
+-- the words that stand as numbers: those of EDRUPT, which has no operator, and 0 where no extracode is in force, as places without a word
+-- hold it
 abbrev pub is_number : Bool → ℕ → Bool
 is_number extracode word = if extracode then nat_le 0o7000 word && nat_le word 0o7777 else word == 0
 
--- whether a word stands as its instruction, with so many words left in its bank: the language has it, and where it puts extracode in force so does
--- the next word
+-- whether a word stands as its instruction, with so many words left in its bank: the language has it, and where it puts extracode in force
+-- so does the next word
 unfoldable pub is_said_from : Words → ℕ → ℕ → ℕ → Bool
 is_said_from words bank offset zero = false
 is_said_from words bank offset (suc left) =
@@ -123,8 +141,10 @@ remark extracode word said = if said then octal_text 5 word else disassembly ext
 -- the line of a word that stands as an instruction or not: a label, the word, and its place with the remark in a comment
 unfoldable pub line_of : SymbolTable → Words → ℕ → ℕ → Bool → List ℕ
 line_of labels words bank offset said =
-    column 9 (unwrap_or (symbol_at labels (linear.Fixed bank offset)) []) ++ column 26 (statement labels words bank offset said) ++ codes "# "
-    ++ place_text (linear.Fixed bank offset) ++ codes " " ++ remark (extracode_at words bank offset) (word_at words bank offset) said ++ codes "\n"
+    column 9 (unwrap_or (symbol_at labels (linear.Fixed bank offset)) []) ++ column 26 (statement labels words bank offset said)
+    ++ codes "# "
+    ++ place_text (linear.Fixed bank offset) ++ codes " " ++ remark (extracode_at words bank offset) (word_at words bank offset) said
+    ++ codes "\n"
 
 abbrev pub said_line : SymbolTable → Words → ℕ → ℕ → List ℕ
 said_line labels words bank offset = line_of labels words bank offset (is_said words bank offset)
@@ -164,7 +184,8 @@ is_same _ _ = false
 -- whether what has to stand there does at the first offsets of a bank, and in the first banks
 unfoldable pub bank_given : Words → Option ℕ → Words → ℕ → ℕ → Bool
 bank_given words asked given bank zero = true
-bank_given words asked given bank (suc offset) = is_same (slot_at given bank offset) (wanted words asked bank offset) && bank_given words asked given bank offset
+bank_given words asked given bank (suc offset) = is_same (slot_at given bank offset) (wanted words asked bank offset)
+    && bank_given words asked given bank offset
 
 unfoldable pub banks_given : Words → Option ℕ → Words → ℕ → Bool
 banks_given words asked given zero = true
@@ -178,4 +199,5 @@ gives_words words asked (Err fault) = false
 -- the source with names and instructions where it gives the words, as it is tried; else the one of octal words
 unfoldable pub named_source : SymbolTable → Words → Option ℕ → List ℕ
 named_source names words asked =
-    if gives_words words asked (program Standard (with_names names words asked)) then with_names names words asked else source_text words asked
+    if gives_words words asked (program Standard (with_names names words asked))
+    then with_names names words asked else source_text words asked

@@ -1,7 +1,8 @@
 //! The lines that give names their values.
 
 ghost use Rattle.std.specs.Prelude.{◌≡◌, ◌++◌, ◌≤◌, IfOk, length};
-ghost use Rattle.named_source.specs.NamedSources.{all_names, erasable_lines, fixed_lines, is_first, label_lines, labels_of, name_lines, no_label_line, number_line, with_label};
+ghost use Rattle.named_source.specs.NamedSources.{all_names, erasable_lines, fixed_lines, is_first, label_lines};
+ghost use Rattle.named_source.specs.NamedSources.{labels_of, name_lines, no_label_line, number_line, with_label};
 ghost use Rattle.source_laws.specs.GivenBack.{is_written};
 
 use crate::label::is_label;

@@ -9,8 +9,9 @@ use rope::Rope;
 use space::Bank;
 use symbols::Symbols;
 
-/// What is written as a source with names and instructions is given back: whatever the names are, the source assembles, and then
-/// at the places of the banks that were written the words stand which stood there, 0 where none did, and no other word stands.
+/// What is written as a source with names and instructions is given back: whatever the names are, the source assembles,
+/// and then at the places of the banks that were written the words stand which stood there, 0 where none did, and no
+/// other word stands.
 pub fn named_source_gives_back(names: &Symbols, words: &Rope, bank: Option<Bank>)
     ensures { AreWords words.now → IsBank bank → GivesBack words.now bank (named_source names.now words.now bank) }
 {

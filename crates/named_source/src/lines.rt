@@ -8,7 +8,8 @@ ghost use Rattle.space.specs.declared.place.Linear.TheVariants as linear;
 ghost use Rattle.rope.specs.Places.{bank_words, banks};
 ghost use Rattle.trace.specs.TraceLines.{symbol_at};
 ghost use Rattle.audit.specs.WordLines.{extracode_at};
-ghost use Rattle.named_source.specs.NamedSources.{bank_line, column, is_number, is_said_from, line_of, remark, said_bank, said_banks, said_line, statement};
+ghost use Rattle.named_source.specs.NamedSources.{bank_line, column, is_number, is_said_from, line_of, remark};
+ghost use Rattle.named_source.specs.NamedSources.{said_bank, said_banks, said_line, statement};
 
 use arrayvec::ArrayVec;
 use audit::{bank_of, offset_of};
@@ -43,7 +44,8 @@ pub(crate) fn push_banks(
 
 /// Appends the lines of all banks.
 fn push_all_banks(out: &mut Vec<u8>, labels: &PlaceNames, rope: &Rope) -> Result<(), AllocError>
-    ensures { IfOk result (λ _. out.new.items ≡ out.old.items ++ flat_map (said_bank labels.now rope.now) (range_with_len 0 banks)) }
+    ensures { IfOk result (λ _. out.new.items
+        ≡ out.old.items ++ flat_map (said_bank labels.now rope.now) (range_with_len 0 banks)) }
 {
     for bank in 0..FIXED_BANKS {
         push_bank(out, labels, rope, bank_of(bank))?;
@@ -72,7 +74,8 @@ fn push_words(
     rope: &Rope,
     bank: Bank,
 ) -> Result<(), AllocError>
-    ensures { IfOk result (λ _. out.new.items ≡ out.old.items ++ flat_map (said_line labels.now rope.now bank) (range_with_len 0 bank_words)) }
+    ensures { IfOk result (λ _. out.new.items
+        ≡ out.old.items ++ flat_map (said_line labels.now rope.now bank) (range_with_len 0 bank_words)) }
 {
     let mut extra = false;
     for number in 0..BANK_WORDS {
@@ -158,7 +161,8 @@ fn line_of(
 /// Appends the label of a place, and blanks up to the next column.
 fn push_label(line: &mut Line, labels: &PlaceNames, bank: Bank, offset: Offset)
     requires { array_vec_len line.old ≡ 0 }
-    ensures items { line.new.items ≡ line.old.items ++ column 9 (unwrap_or (symbol_at labels.now (linear.Fixed bank offset)) []) }
+    ensures items { line.new.items ≡ line.old.items
+        ++ column 9 (unwrap_or (symbol_at labels.now (linear.Fixed bank offset)) []) }
     ensures len { array_vec_len line.new ≡ 9 }
 {
     match labels.symbol_at(&Linear::Fixed(bank, offset)) {

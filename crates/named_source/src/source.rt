@@ -5,7 +5,8 @@ ghost use Rattle.std.specs.Option.{option_map_or};
 ghost use Rattle.audit.specs.SourceLines.{source_text};
 ghost use Rattle.yayul.specs.Program.{program};
 ghost use Rattle.yayul.specs.declared.language.Language.TheVariants.{Standard};
-ghost use Rattle.named_source.specs.NamedSources.{gives_words, named_source, with_names, register_lines, labels_of, said_banks, all_names};
+ghost use Rattle.named_source.specs.NamedSources.{gives_words, named_source, with_names, register_lines, labels_of};
+ghost use Rattle.named_source.specs.NamedSources.{said_banks, all_names};
 
 use crate::definitions::{labels_of, push_names};
 use crate::given::is_given;
@@ -19,7 +20,14 @@ use yayul::{Language, assemble};
 
 /// The lines of the registers, of the cells that keep a register or edit, and of the counters.
 const REGISTERS: &[u8] =
-    b"A        EQUALS  0\nL        EQUALS  1\nQ        EQUALS  2\nEB       EQUALS  3\nFB       EQUALS  4\nZ        EQUALS  5\nBB       EQUALS  6\nARUPT    EQUALS  10\nLRUPT    EQUALS  11\nQRUPT    EQUALS  12\nZRUPT    EQUALS  15\nBBRUPT   EQUALS  16\nBRUPT    EQUALS  17\nCYR      EQUALS  20\nSR       EQUALS  21\nCYL      EQUALS  22\nEDOP     EQUALS  23\nTIME2    EQUALS  24\nTIME1    EQUALS  25\nTIME3    EQUALS  26\nTIME4    EQUALS  27\nTIME5    EQUALS  30\nTIME6    EQUALS  31\nCDUX     EQUALS  32\nCDUY     EQUALS  33\nCDUZ     EQUALS  34\nOPTY     EQUALS  35\nOPTX     EQUALS  36\nPIPAX    EQUALS  37\nPIPAY    EQUALS  40\nPIPAZ    EQUALS  41\nINLINK   EQUALS  45\n";
+    b"A        EQUALS  0\nL        EQUALS  1\nQ        EQUALS  2\nEB       EQUALS  3\n\
+        FB       EQUALS  4\nZ        EQUALS  5\nBB       EQUALS  6\nARUPT    EQUALS  10\n\
+        LRUPT    EQUALS  11\nQRUPT    EQUALS  12\nZRUPT    EQUALS  15\nBBRUPT   EQUALS  16\n\
+        BRUPT    EQUALS  17\nCYR      EQUALS  20\nSR       EQUALS  21\nCYL      EQUALS  22\n\
+        EDOP     EQUALS  23\nTIME2    EQUALS  24\nTIME1    EQUALS  25\nTIME3    EQUALS  26\n\
+        TIME4    EQUALS  27\nTIME5    EQUALS  30\nTIME6    EQUALS  31\nCDUX     EQUALS  32\n\
+        CDUY     EQUALS  33\nCDUZ     EQUALS  34\nOPTY     EQUALS  35\nOPTX     EQUALS  36\n\
+        PIPAX    EQUALS  37\nPIPAY    EQUALS  40\nPIPAZ    EQUALS  41\nINLINK   EQUALS  45\n";
 
 #[tactic(auto, unfolding(crate::specs::NamedSources::register_lines))]
 fn register_lines() -> &'static [u8]
@@ -37,7 +45,8 @@ pub fn named_source(
     rope: &Rope,
     bank: &Option<Bank>,
 ) -> Result<Option<Vec<u8>>, AllocError>
-    ensures { IfOk result (λ text. option_map_or (λ t. t.items) text (source_text rope.now bank.now) ≡ named_source names.now rope.now bank.now) }
+    ensures { IfOk result (λ text. option_map_or (λ t. t.items) text (source_text rope.now bank.now)
+        ≡ named_source names.now rope.now bank.now) }
 {
     let text = with_names(alloc, names, rope, bank)?;
     let given = gives(alloc, text.as_slice(), rope, bank)?;

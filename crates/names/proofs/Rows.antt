@@ -112,7 +112,8 @@ named_symbols = refl
 
 -- ## Words
 table : SymbolTable
-table = (codes "START", Fixed 2 0) ∷ (codes "FIVE", Fixed 2 5) ∷ (codes "SECOND", Fixed 2 5) ∷ (codes "WAITLIST", Fixed 2 0o100) ∷ (codes "TABLE", Fixed 0o12 1) ∷ (codes "SUM", Erasable 0o100) ∷ (codes "N", Num 0o61) ∷ []
+table = (codes "START", Fixed 2 0) ∷ (codes "FIVE", Fixed 2 5) ∷ (codes "SECOND", Fixed 2 5) ∷ (codes "WAITLIST", Fixed 2 0o100)
+    ∷ (codes "TABLE", Fixed 0o12 1) ∷ (codes "SUM", Erasable 0o100) ∷ (codes "N", Num 0o61) ∷ []
 
 -- the first of two names
 five : named_text table 2 (code_of false 0o64005) (address_of (code_of false 0o64005)) ≡ codes "AD FIVE"

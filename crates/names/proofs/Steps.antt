@@ -15,7 +15,8 @@ pub after_wrong : (table : SymbolTable) → (n : ℕ) → (line : List ℕ) → 
 unfolding names_of
 after_wrong table n line more is = ap (λ e. names_after e (λ given. names_of given (n + 1) more) table n) is
 
-pub after_name : (table : SymbolTable) → (n : ℕ) → (line : List ℕ) → (more : List (List ℕ)) → (name : List ℕ) → (value : Value) → entry line ≡ Names name value
+pub after_name : (table : SymbolTable) → (n : ℕ) → (line : List ℕ) → (more : List (List ℕ)) → (name : List ℕ) → (value : Value)
+    → entry line ≡ Names name value
     → names_of table n (line ∷ more) ≡ names_of (with_name table name value) (n + 1) more
 unfolding names_of
 after_name table n line more name value is = ap (λ e. names_after e (λ given. names_of given (n + 1) more) table n) is
@@ -33,10 +34,12 @@ pub at_heading : (n : ℕ) → (line : List ℕ) → (more : List (List ℕ)) �
 unfolding below
 at_heading n line more is = ap (λ heading. sought heading (is_row line) n more) is
 
-pub past_row : (n : ℕ) → (line : List ℕ) → (more : List (List ℕ)) → is_heading line ≡ false → is_row line ≡ true → below n (line ∷ more) ≡ below (n + 1) more
+pub past_row : (n : ℕ) → (line : List ℕ) → (more : List (List ℕ)) → is_heading line ≡ false → is_row line ≡ true
+    → below n (line ∷ more) ≡ below (n + 1) more
 unfolding below
 past_row n line more is_none is = ap (λ heading. sought heading (is_row line) n more) is_none ∙ ap (λ row. sought false row n more) is
 
-pub at_other : (n : ℕ) → (line : List ℕ) → (more : List (List ℕ)) → is_heading line ≡ false → is_row line ≡ false → below n (line ∷ more) ≡ None
+pub at_other : (n : ℕ) → (line : List ℕ) → (more : List (List ℕ)) → is_heading line ≡ false → is_row line ≡ false
+    → below n (line ∷ more) ≡ None
 unfolding below
 at_other n line more is_none is = ap (λ heading. sought heading (is_row line) n more) is_none ∙ ap (λ row. sought false row n more) is

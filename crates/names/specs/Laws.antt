@@ -9,4 +9,5 @@ use Rattle.names.specs.NamedLines.{place_told}
 -- registers hold besides
 abbrev pub LeadsThere : ℕ → ℕ → Linear → Type 0
 LeadsThere bank address there =
-    (counter offset eb fb : ℕ) (sup : Bool) → place counter eb fb sup ≡ Fixed bank offset → place_told bank address ≡ Some there → place address eb fb sup ≡ there
+    (counter offset eb fb : ℕ) (sup : Bool) → place counter eb fb sup ≡ Fixed bank offset → place_told bank address ≡ Some there
+    → place address eb fb sup ≡ there

@@ -1,5 +1,6 @@
 -- The words of fixed memory as text, a line for each as without names, where names stand for the places to which they lead.
-use Rattle.std.specs.Prelude.{ℕ, zero, suc, ◌+◌, ◌-◌, ◌==◌, ◌||◌, Bool, nat_lt, List, [], ◌++◌, unwrap_or, codes, Option, None, Some, if◌then◌else◌}
+use Rattle.std.specs.Prelude.{ℕ, zero, suc, ◌+◌, ◌-◌, ◌==◌, ◌||◌, Bool, nat_lt, List, [], ◌++◌, unwrap_or, codes, Option, None, Some}
+use Rattle.std.specs.Prelude.{if◌then◌else◌}
 use Rattle.std.specs.List.{range_with_len, flat_map}
 use Rattle.std.specs.Option.{option_map, option_or}
 use Rattle.words.specs.Numerals.{octal_text}
@@ -41,7 +42,8 @@ place_before (Fixed bank offset) d = Fixed bank (offset - d)
 -- the first name of the nearest place before a place that has one, sought from so many places before on; and how far before it is
 abbrev pub nearest : SymbolTable → Linear → ℕ → ℕ → Option (List ℕ × ℕ)
 nearest names place d zero = None
-nearest names place d (suc more) = option_or (option_map (λ name. (name, d)) (symbol_at names (place_before place d))) (nearest names place (d + 1) more)
+nearest names place d (suc more) = option_or (option_map (λ name. (name, d)) (symbol_at names (place_before place d)))
+    (nearest names place (d + 1) more)
 
 abbrev pub nearest_name : SymbolTable → Linear → Option (List ℕ × ℕ)
 nearest_name names place = nearest names place 0 (places_before place + 1)
@@ -64,16 +66,19 @@ named_place names address (Some there) = unwrap_or (place_name names there) (nea
 -- an instruction at a word of a bank, with a name in place of the address that it has, if any
 abbrev pub named_text : SymbolTable → ℕ → Code → Option ℕ → List ℕ
 named_text names bank code None = instruction_text code
-named_text names bank code (Some address) = (row_of code.instruction).name ++ codes " " ++ named_place names address (place_told bank address)
+named_text names bank code (Some address) = (row_of code.instruction).name ++ codes " "
+    ++ named_place names address (place_told bank address)
 
 -- the instruction that the word at a place is
 unfoldable pub named_instruction : SymbolTable → Words → ℕ → ℕ → List ℕ
-named_instruction names words bank offset = let code = code_of (extracode_at words bank offset) (word_at words bank offset) in named_text names bank code (address_of code)
+named_instruction names words bank offset = let code = code_of (extracode_at words bank offset) (word_at words bank offset) in named_text
+    names bank code (address_of code)
 
 -- the line of a word: its place, the word, and the instruction that it is
 unfoldable pub named_line : SymbolTable → Words → ℕ → ℕ → List ℕ
 named_line names words bank offset =
-    place_text (Fixed bank offset) ++ codes " " ++ octal_text 5 (word_at words bank offset) ++ codes " " ++ named_instruction names words bank offset ++ codes "\n"
+    place_text (Fixed bank offset) ++ codes " " ++ octal_text 5 (word_at words bank offset) ++ codes " "
+    ++ named_instruction names words bank offset ++ codes "\n"
 
 -- the lines of a bank's words, each of its places once, by rising offsets
 unfoldable pub named_bank_lines : SymbolTable → Words → ℕ → List ℕ

@@ -2,7 +2,8 @@
 
 ghost use Rattle.std.specs.Prelude.{◌≡◌};
 ghost use Rattle.agc_text.specs.Fields.{runs, texts};
-ghost use Rattle.names.specs.Tables.{entry, entry_of, erasable_value, fixed_value, listed_in, named, number_in, place_in};
+ghost use Rattle.names.specs.Tables.{entry, entry_of, erasable_value, fixed_value, listed_in, named, number_in};
+ghost use Rattle.names.specs.Tables.{place_in};
 
 use agc_text::{before_comment, is_text, octal, split_field};
 use commands::unnamed_place;

@@ -17,15 +17,15 @@ use space::{BANK_WORDS, Bank, FIXED_BANKS, Linear, Offset};
 use trace::{Names, PlaceNames, place_text};
 use words::{Write, WriteFailed, push_all, push_octal, write_all};
 
-/// The most bytes of a line: a place of 7, a word of 5 digits, an instruction's name of at most 10, a name of 8 with a distance of
-/// 6, and what stands between.
+/// The most bytes of a line: a place of 7, a word of 5 digits, an instruction's name of at most 10, a name of 8 with a
+/// distance of 6, and what stands between.
 const LINE: usize = 48;
 
 pub type Line = ArrayVec<u8, LINE>;
 
-/// Writes a line for each word of a bank, or of all banks by their numbers, as `02,4001 64005 AD FIVE`: its place, the word, and
-/// the instruction that it is, with the name of the place to which its address leads, where the image tells that place: the
-/// first name that stands for it, or the nearest before it and how far, as `TC WAITLIST +2`.
+/// Writes a line for each word of a bank, or of all banks by their numbers, as `02,4001 64005 AD FIVE`: its place, the
+/// word, and the instruction that it is, with the name of the place to which its address leads, where the image tells
+/// that place: the first name that stands for it, or the nearest before it and how far, as `TC WAITLIST +2`.
 ///
 /// After a failure a beginning of it was written.
 pub fn write_named_words<W: Write>(
@@ -34,7 +34,8 @@ pub fn write_named_words<W: Write>(
     bank: Option<Bank>,
     out: &mut W,
 ) -> Result<(), WriteFailed>
-    ensures written { W.told ≡ true → Writes (W.written out.old) (W.written out.new) (named_lines names.now rope.now bank) result }
+    ensures written { W.told ≡ true → Writes (W.written out.old) (W.written out.new)
+        (named_lines names.now rope.now bank) result }
     ensures failures { W.failures out.new ≡ failures_after (W.failures out.old) result }
 {
     match bank {
@@ -44,7 +45,8 @@ pub fn write_named_words<W: Write>(
 }
 
 fn write_banks<W: Write>(rope: &Rope, names: &PlaceNames, out: &mut W) -> Result<(), WriteFailed>
-    ensures written { W.told ≡ true → Writes (W.written out.old) (W.written out.new) (flat_map (named_bank_lines names.now rope.now) (range_with_len 0 banks)) result }
+    ensures written { W.told ≡ true → Writes (W.written out.old) (W.written out.new)
+        (flat_map (named_bank_lines names.now rope.now) (range_with_len 0 banks)) result }
     ensures failures { W.failures out.new ≡ failures_after (W.failures out.old) result }
 {
     for bank in 0..FIXED_BANKS {
@@ -59,7 +61,8 @@ fn write_bank<W: Write>(
     bank: Bank,
     out: &mut W,
 ) -> Result<(), WriteFailed>
-    ensures written { W.told ≡ true → Writes (W.written out.old) (W.written out.new) (named_bank_lines names.now rope.now bank) result }
+    ensures written { W.told ≡ true → Writes (W.written out.old) (W.written out.new)
+        (named_bank_lines names.now rope.now bank) result }
     ensures failures { W.failures out.new ≡ failures_after (W.failures out.old) result }
 {
     let mut extra = false;

@@ -3,7 +3,8 @@
 ghost use Rattle.std.specs.Prelude.{◌≡◌, ◌+◌, ◌-◌, ◌<◌, ◌≤◌, ◌++◌, unwrap_or, None, Some, nat_lt, if◌then◌else◌};
 ghost use Rattle.arrayvec.specs.ArrayVec.{array_vec_len};
 ghost use Rattle.trace.specs.TraceLines.{octal_digits, place_name};
-ghost use Rattle.names.specs.NamedLines.{distance_text, named_place, near_text, nearest_name, needs_no_fb, place_before, place_told, places_before};
+ghost use Rattle.names.specs.NamedLines.{distance_text, named_place, near_text, nearest_name, needs_no_fb};
+ghost use Rattle.names.specs.NamedLines.{place_before, place_told, places_before};
 ghost use Rattle.space.specs.declared.place.Linear.TheVariants.{Fixed};
 
 use crate::lines::Line;
@@ -15,11 +16,13 @@ use words::{push_all, push_octal};
 /// The first address whose place FB selects.
 const FIRST_SWITCHED: u16 = 0o2000;
 
-/// Appends an address of a word of a bank: the name of the place to which it leads, or the nearest before it, or the address.
+/// Appends an address of a word of a bank: the name of the place to which it leads, or the nearest before it, or the
+/// address.
 #[tactic(auto, unfolding(crate::specs::NamedLines::place_told))]
 pub(crate) fn push_address<N: Names>(line: &mut Line, names: &N, bank: Bank, address: Addr12)
     requires { array_vec_len line.old ≤ 32 }
-    ensures items { line.new.items ≡ line.old.items ++ named_place (N.table names.now) address (place_told bank address) }
+    ensures items { line.new.items ≡ line.old.items
+        ++ named_place (N.table names.now) address (place_told bank address) }
     ensures len { array_vec_len line.new ≤ array_vec_len line.old + 14 }
 {
     match place_told(bank, address) {
@@ -31,7 +34,9 @@ pub(crate) fn push_address<N: Names>(line: &mut Line, names: &N, bank: Bank, add
 /// Appends an address that leads to a place.
 fn push_place<N: Names>(line: &mut Line, names: &N, place: &Linear, address: Addr12)
     requires { array_vec_len line.old ≤ 32 }
-    ensures items { line.new.items ≡ line.old.items ++ unwrap_or (place_name (N.table names.now) place.now) (near_text (nearest_name (N.table names.now) place.now) address) }
+    ensures items { line.new.items ≡ line.old.items
+        ++ unwrap_or (place_name (N.table names.now) place.now)
+        (near_text (nearest_name (N.table names.now) place.now) address) }
     ensures len { array_vec_len line.new ≤ array_vec_len line.old + 14 }
 {
     match place_name(names, *place) {

@@ -19,9 +19,9 @@ pub enum TableFault {
     Line(u32),
 }
 
-/// The names that the lines of a text give, in their order; of a name that stands twice the first. A line has a name and a
-/// place, or a name, one of FIXED, ERASABLE and NUM, and a value; or no field at all. Of a listing, where a line SYMBOLS with a
-/// count stands and nothing above it but rows with their numbers, only the lines below are taken.
+/// The names that the lines of a text give, in their order; of a name that stands twice the first. A line has a name
+/// and a place, or a name, one of FIXED, ERASABLE and NUM, and a value; or no field at all. Of a listing, where a line
+/// SYMBOLS with a count stands and nothing above it but rows with their numbers, only the lines below are taken.
 ///
 /// The first line that has another form is told, or that memory ran out.
 pub fn names_in(alloc: Global, text: &[u8]) -> Result<Symbols, TableFault>
@@ -35,8 +35,8 @@ pub fn names_in(alloc: Global, text: &[u8]) -> Result<Symbols, TableFault>
     }
 }
 
-/// How many lines stand before those below the heading of a listing's symbols, and those, where there is one and rows alone
-/// stand above it.
+/// How many lines stand before those below the heading of a listing's symbols, and those, where there is one and rows
+/// alone stand above it.
 fn below_heading(text: &[u8]) -> Option<(u32, &[u8])>
     requires { length text.now ≤ 8388608 }
     ensures below { option_map (λ r. (r.0, lines r.1.now)) result ≡ below 0 (lines text.now) }

@@ -3,7 +3,8 @@ use Rattle.std.proofs.Common.{◌≡◌, ℕ, ◌++◌, List, [], refl, sym, ap,
 use Rattle.std.proofs.lemmas.List.{append_assoc}
 use Rattle.json_text.specs.declared.notation.Notation.{Notation}
 use Rattle.notes.specs.declared.kind.Kind.{Kind}
-use Rattle.notes.specs.declared.kind.Kind.TheVariants.{Quotient, Skip, NoWord, InErasable, NoHandler, OtherBank, NotKept, MinusZero, Overwritten, Shared}
+use Rattle.notes.specs.declared.kind.Kind.TheVariants.{Quotient, Skip, NoWord, InErasable, NoHandler, OtherBank, NotKept, MinusZero}
+use Rattle.notes.specs.declared.kind.Kind.TheVariants.{Overwritten, Shared}
 use Rattle.notes.specs.declared.notebook.Told.{Told}
 use Rattle.notes.specs.Counted.{told_of}
 use Rattle.notes.specs.RunNotes.{kinds_text, told_line}
@@ -39,5 +40,7 @@ ten_lines notation what number cycles t l0 l1 l2 l3 l4 l5 l6 l7 l8 l9 l10 e0 e1 
     let r3 = line NoWord ++ r4 in
     let r2 = line Skip ++ r3 in
     let r1 = line Quotient ++ r2 in
-    sym (started l0 r1 e0 ∙ more l0 l1 (line Quotient) r2 e1 ∙ more l1 l2 (line Skip) r3 e2 ∙ more l2 l3 (line NoWord) r4 e3 ∙ more l3 l4 (line InErasable) r5 e4
-    ∙ more l4 l5 (line NoHandler) r6 e5 ∙ more l5 l6 (line OtherBank) r7 e6 ∙ more l6 l7 (line NotKept) r8 e7 ∙ more l7 l8 (line MinusZero) r9 e8 ∙ more l8 l9 (line Overwritten) r10 e9 ∙ sym e10)
+    sym (started l0 r1 e0 ∙ more l0 l1 (line Quotient) r2 e1 ∙ more l1 l2 (line Skip) r3 e2 ∙ more l2 l3 (line NoWord) r4 e3
+    ∙ more l3 l4 (line InErasable) r5 e4
+    ∙ more l4 l5 (line NoHandler) r6 e5 ∙ more l5 l6 (line OtherBank) r7 e6 ∙ more l6 l7 (line NotKept) r8 e7
+    ∙ more l7 l8 (line MinusZero) r9 e8 ∙ more l8 l9 (line Overwritten) r10 e9 ∙ sym e10)

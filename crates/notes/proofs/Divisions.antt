@@ -19,7 +19,8 @@ chosen false r o here later = later
 
 found : (p : Range → Bool) (rs : List Range) → list_any is_division rs ≡ false → is_division (unwrap_or (find p rs) no_range) ≡ false
 found p [] none = refl
-found p (r ∷ rs) none = let both = neither (is_division r) (list_any is_division rs) none in chosen (p r) r (find p rs) both.0 (found p rs both.1)
+found p (r ∷ rs) none = let both = neither (is_division r) (list_any is_division rs) none in chosen (p r) r (find p rs) both.0
+    (found p rs both.1)
 
 pub basic_never : (word : ℕ) → same_name (row_of (code_of false word).instruction).name (codes "DV") ≡ false
 unfolding basic_rows code_of

@@ -15,7 +15,8 @@ use Rattle.notes.specs.Past.{seen}
 use Rattle.notes.specs.RunNotes.{FirstStep, NotesAreExact, SomeStep, here, happens_at, times, told}
 
 -- none of some steps
-none_of_steps : (named : Named) (scenario : Scenario) (kind : Kind) (a : Account) (n : ℕ) → times named scenario kind a n ≡ 0 → (t : ℕ) → t < n → happens_at named scenario kind a (seen scenario t) ≡ false
+none_of_steps : (named : Named) (scenario : Scenario) (kind : Kind) (a : Account) (n : ℕ) → times named scenario kind a n ≡ 0 → (t : ℕ)
+    → t < n → happens_at named scenario kind a (seen scenario t) ≡ false
 unfolding times
 none_of_steps named scenario kind a zero e t lt = absurd (omega (arith, lt))
 none_of_steps named scenario kind a (suc n) e t lt =
@@ -32,7 +33,8 @@ none_of_steps named scenario kind a (suc n) e t lt =
     ]
 
 -- and the other way round
-never : (named : Named) (scenario : Scenario) (kind : Kind) (a : Account) (n : ℕ) → ((t : ℕ) → t < n → happens_at named scenario kind a (seen scenario t) ≡ false) → times named scenario kind a n ≡ 0
+never : (named : Named) (scenario : Scenario) (kind : Kind) (a : Account) (n : ℕ)
+    → ((t : ℕ) → t < n → happens_at named scenario kind a (seen scenario t) ≡ false) → times named scenario kind a n ≡ 0
 unfolding times
 never named scenario kind a zero none = refl
 never named scenario kind a (suc n) none =
@@ -40,7 +42,8 @@ never named scenario kind a (suc n) none =
     rw (none n (omega arith), before) refl
 
 -- what happens is counted
-some : (named : Named) (scenario : Scenario) (kind : Kind) (a : Account) (n t : ℕ) → t < n → happens_at named scenario kind a (seen scenario t) ≡ true → 1 ≤ times named scenario kind a n
+some : (named : Named) (scenario : Scenario) (kind : Kind) (a : Account) (n t : ℕ) → t < n
+    → happens_at named scenario kind a (seen scenario t) ≡ true → 1 ≤ times named scenario kind a n
 unfolding times
 some named scenario kind a zero t lt hit = absurd (omega (arith, lt))
 some named scenario kind a (suc n) t lt hit =
@@ -50,7 +53,8 @@ some named scenario kind a (suc n) t lt hit =
     ]
 
 -- what is counted happens
-found : (named : Named) (scenario : Scenario) (kind : Kind) (a : Account) (n : ℕ) → 1 ≤ times named scenario kind a n → SomeStep named scenario kind a n
+found : (named : Named) (scenario : Scenario) (kind : Kind) (a : Account) (n : ℕ) → 1 ≤ times named scenario kind a n
+    → SomeStep named scenario kind a n
 unfolding times
 found named scenario kind a zero h = absurd (omega (arith, h))
 found named scenario kind a (suc n) h =
@@ -72,11 +76,13 @@ one_account Waiting = refl
 one_account (Place (Erasable p)) = same_number p
 one_account (Place (Fixed bank offset)) = rw (same_number bank, same_number offset) refl
 
-happens_here : (named : Named) (scenario : Scenario) (kind : Kind) (t : ℕ) → happens named scenario kind (seen scenario t) ≡ true → happens_at named scenario kind (here scenario (run scenario t)) (seen scenario t) ≡ true
+happens_here : (named : Named) (scenario : Scenario) (kind : Kind) (t : ℕ) → happens named scenario kind (seen scenario t) ≡ true
+    → happens_at named scenario kind (here scenario (run scenario t)) (seen scenario t) ≡ true
 happens_here named scenario kind t hit = rw (hit, one_account (here scenario (run scenario t))) refl
 
 -- what is told happens for the first time
-first_told : (named : Named) (scenario : Scenario) (kind : Kind) (n t : ℕ) → t < n → (nat_le 1 (told named scenario n t kind) ≡ true) → FirstStep named scenario kind t
+first_told : (named : Named) (scenario : Scenario) (kind : Kind) (n t : ℕ) → t < n → (nat_le 1 (told named scenario n t kind) ≡ true)
+    → FirstStep named scenario kind t
 unfolding told
 first_told named scenario kind n t lt e =
     elim (cases_Bool (happens named scenario kind (seen scenario t))) [
@@ -90,7 +96,8 @@ first_told named scenario kind n t lt e =
       | inr miss ↦ let wrong : false ≡ true = rw miss at e in cc
     ]
 
-told_first : (named : Named) (scenario : Scenario) (kind : Kind) (n t : ℕ) → t < n → FirstStep named scenario kind t → nat_le 1 (told named scenario n t kind) ≡ true
+told_first : (named : Named) (scenario : Scenario) (kind : Kind) (n t : ℕ) → t < n → FirstStep named scenario kind t
+    → nat_le 1 (told named scenario n t kind) ≡ true
 unfolding told
 told_first named scenario kind n t lt first =
     let a = here scenario (run scenario t) in
@@ -101,6 +108,10 @@ told_first named scenario kind n t lt first =
 pub are_exact : NotesAreExact
 are_exact = λ named scenario kind n.
     record {
-      counted = λ a. (λ e. found named scenario kind a n (leb-true 1 (times named scenario kind a n) e), λ s. le-leb 1 (times named scenario kind a n) (some named scenario kind a n s.step s.within s.happens));
+      counted = λ a. (
+        λ e. found named scenario kind a n (leb-true 1 (times named scenario kind a n) e),
+        λ s. le-leb 1
+            (times named scenario kind a n) (some named scenario kind a n s.step s.within s.happens),
+      );
       told = λ t lt. (first_told named scenario kind n t lt, told_first named scenario kind n t lt);
     }

@@ -1,5 +1,6 @@
 -- Interrupts that are asked for, step by step; and what a line of one that waits says.
-use Rattle.std.proofs.Common.{◌≡◌, ◌≢◌, ℕ, zero, suc, ◌+◌, ◌-◌, ◌≤◌, ◌++◌, Bool, true, false, List, length, replicate, get_or, set, Option, Some, None, is_some, unwrap_or, refl, sym, ap, ◌∙◌, inl, inr, arith, add-one, if◌then◌else◌, subst}
+use Rattle.std.proofs.Common.{◌≡◌, ◌≢◌, ℕ, zero, suc, ◌+◌, ◌-◌, ◌≤◌, ◌++◌, Bool, true, false, List, length, replicate, get_or, set, Option}
+use Rattle.std.proofs.Common.{Some, None, is_some, unwrap_or, refl, sym, ap, ◌∙◌, inl, inr, arith, add-one, if◌then◌else◌, subst}
 use Rattle.std.proofs.lemmas.Bool.{cases_Bool, leb-true, le-leb}
 use Rattle.std.proofs.lemmas.Bool.Decides.{eqb_tells, nat_tests}
 use Rattle.std.proofs.lemmas.List.{get_or-set_same, get_or-set_other, length-set, length-replicate, append-nil, append_assoc}
@@ -22,7 +23,8 @@ use Rattle.cpu.specs.Asking.{interrupt_asked}
 use Rattle.cpu.specs.Codes.{code_of}
 use Rattle.cpu.specs.Effects.{change}
 use Rattle.cpu.specs.Effects.Change.{OnChannel}
-use Rattle.cpu.specs.Inputs.{asked, asked_after, asked_on, carried, carries_into, count_of, counted, input_cycles, input_effect, received, step_of, stepped, take}
+use Rattle.cpu.specs.Inputs.{asked, asked_after, asked_on, carried, carries_into, count_of, counted, input_cycles, input_effect, received}
+use Rattle.cpu.specs.Inputs.{step_of, stepped, take}
 use Rattle.cpu.specs.Next.{entered, entry, execute, executed, fetched, instruction_word, next, next_by}
 use Rattle.cpu.specs.NextStep.{next_step, next_step_by}
 use Rattle.cpu.specs.Run.{run}
@@ -30,7 +32,8 @@ use Rattle.cpu.specs.State.{State, Scenario, start}
 use Rattle.cpu.proofs.LeavingFlags.{leaves_flags}
 use Rattle.cpu.proofs.RunLaws.{counted_in, cycles-effect, rise-run, run-add-one, run-zero}
 use Rattle.notes.specs.declared.waits.Moment.{Moment}
-use Rattle.notes.specs.Waits.{IsAskedSince, Keeps, LongWait, MomentsAreExact, Waits, WaitsAreExact, asked_at, asked_by, is_long, kept_from, kept_text, long_wait, moment_of, since, wait_text, waits_after, waits_since, waits_text}
+use Rattle.notes.specs.Waits.{IsAskedSince, Keeps, LongWait, MomentsAreExact, Waits, WaitsAreExact, asked_at, asked_by, is_long, kept_from}
+use Rattle.notes.specs.Waits.{kept_text, long_wait, moment_of, since, wait_text, waits_after, waits_since, waits_text}
 
 -- ## What a step does to what is asked for
 abbrev asked_set : FinSet nat_cmp → Option ℕ → FinSet nat_cmp
@@ -89,13 +92,15 @@ LastsAfter s (Takes input) t = t.cycles ≡ s.cycles + input_cycles input
 LastsAfter s step t = Unit {0}
 
 by_requests : (rope : Words) (s : State) (d : Option (Input × Option ℕ)) (k : Option ℕ)
-    → ((next_by rope s d k).0.requests ≡ asked_after_step s (next_step_by rope s d k)) × LastsAfter s (next_step_by rope s d k) (next_by rope s d k).0
+    → ((next_by rope s d k).0.requests ≡ asked_after_step s (next_step_by rope s d k))
+    × LastsAfter s (next_step_by rope s d k) (next_by rope s d k).0
 unfolding entered
 by_requests rope s (Some given) k = (take_asks s given, take_lasts s given)
 by_requests rope s None (Some k) = (refl, tt)
 by_requests rope s None None = (execution_asks_nothing rope s, tt)
 
-step_asks : (scenario : Scenario) (s : State) → ((next scenario s).0.requests ≡ asked_after_step s (next_step scenario s)) × LastsAfter s (next_step scenario s) (next scenario s).0
+step_asks : (scenario : Scenario) (s : State) → ((next scenario s).0.requests ≡ asked_after_step s (next_step scenario s))
+    × LastsAfter s (next_step scenario s) (next scenario s).0
 unfolding next next_step
 step_asks scenario s = by_requests scenario.rope s (due scenario.inputs s.taken s.cycles) (entry s)
 
@@ -140,10 +145,12 @@ same_since : (f : ℕ → Moment) (t : Option ℕ) (n : ℕ) → option_map f t 
 same_since f None n = refl
 same_since f (Some t) n = refl
 
-kept_same : (scenario : Scenario) (k n : ℕ) → contains (run scenario (n + 1)).requests k ≡ contains (run scenario n).requests k → since scenario k n ≡ since scenario k (n + 1)
+kept_same : (scenario : Scenario) (k n : ℕ) → contains (run scenario (n + 1)).requests k ≡ contains (run scenario n).requests k
+    → since scenario k n ≡ since scenario k (n + 1)
 kept_same scenario k n e =
     same_since (moment_of scenario) (waits_since scenario k n) (n + 1)
-    ∙ ap (λ b. option_map (moment_of scenario) (if b then Some (unwrap_or (waits_since scenario k n) (n + 1)) else None)) (stands scenario k n ∙ sym e)
+    ∙ ap (λ b. option_map (moment_of scenario) (if b then Some (unwrap_or (waits_since scenario k n) (n + 1)) else None))
+    (stands scenario k n ∙ sym e)
     ∙ ap (λ t. option_map (moment_of scenario) t) (sym (since_more scenario k n _ refl))
 
 -- no longer
@@ -163,7 +170,8 @@ asked_here : (f : ℕ → Moment) (waits : Waits) (k n : ℕ) (t : Option ℕ) �
 asked_here f waits k n None known each e = rw e (get_or-set_same waits k (Some (f n)) None (omega (arith, known, each)))
 asked_here f waits k n (Some t) known each e = rw e e
 
-kept_asked : (scenario : Scenario) (k n : ℕ) → contains (run scenario (n + 1)).requests k ≡ true → Some (moment_of scenario (unwrap_or (waits_since scenario k n) (n + 1))) ≡ since scenario k (n + 1)
+kept_asked : (scenario : Scenario) (k n : ℕ) → contains (run scenario (n + 1)).requests k ≡ true
+    → Some (moment_of scenario (unwrap_or (waits_since scenario k n) (n + 1))) ≡ since scenario k (n + 1)
 kept_asked scenario k n e = ap (λ t. option_map (moment_of scenario) t) (sym (since_more scenario k n true e))
 
 -- what is asked for after a step, one by one
@@ -181,15 +189,19 @@ removed_here requests k = contains-remove nat_cmp_total requests k k ∙ grind (
 
 -- a step more, which is an input
 kept_by : (scenario : Scenario) (n k : ℕ) (old : Waits) (input : Input) (o : Option ℕ) → Keeps scenario n old → k ≤ 10
-    → (run scenario (n + 1)).requests ≡ asked_set (run scenario n).requests o → (run scenario (n + 1)).cycles ≡ (run scenario n).cycles + input_cycles input
-    → get_or (asked_by o (record { step = n + 1; cycles = (run scenario n).cycles + input_cycles input }) old) k None ≡ since scenario k (n + 1)
+    → (run scenario (n + 1)).requests ≡ asked_set (run scenario n).requests o
+    → (run scenario (n + 1)).cycles ≡ (run scenario n).cycles + input_cycles input
+    → get_or (asked_by o (record { step = n + 1; cycles = (run scenario n).cycles + input_cycles input }) old) k None
+    ≡ since scenario k (n + 1)
 kept_by scenario n k old input None before known asks lasts =
     before.since k known ∙ kept_same scenario k n (ap (λ r. contains r k) asks)
 kept_by scenario n k old input (Some j) before known asks lasts =
     let m : Moment = record { step = n + 1; cycles = (run scenario n).cycles + input_cycles input } in
     elim (eqb_tells k j) [
       | inl one ↦
-          let here : contains (run scenario (n + 1)).requests k ≡ true = ap (λ r. contains r k) asks ∙ ap (λ i. contains (insert (run scenario n).requests i) k) (sym one.1) ∙ inserted_here (run scenario n).requests k in
+          let here : contains (run scenario (n + 1)).requests k
+          ≡ true = ap (λ r. contains r k) asks ∙ ap (λ i. contains (insert (run scenario n).requests i) k) (sym one.1)
+          ∙ inserted_here (run scenario n).requests k in
           let now : m ≡ moment_of scenario (n + 1) = ap (λ c. record { step = n + 1; cycles = c }) (sym lasts) in
           ap (λ i. get_or (asked_at i m old) k None) (sym one.1) ∙ ap (λ (x : Moment). get_or (asked_at k x old) k None) now
           ∙ asked_here (moment_of scenario) old k (n + 1) (waits_since scenario k n) known before.each (before.since k known)
@@ -208,8 +220,11 @@ kept_of scenario n k old (Executes f) before known asks lasts =
 kept_of scenario n k old (Enters j) before known asks lasts =
     elim (eqb_tells k j) [
       | inl one ↦
-          let here : contains (run scenario (n + 1)).requests k ≡ false = ap (λ r. contains r k) asks ∙ ap (λ i. contains (remove (run scenario n).requests i) k) (sym one.1) ∙ removed_here (run scenario n).requests k in
-          ap (λ i. get_or (set old i None) k None) (sym one.1) ∙ get_or-set_same old k None None (omega (arith, known, before.each)) ∙ kept_none scenario k n here
+          let here : contains (run scenario (n + 1)).requests k
+          ≡ false = ap (λ r. contains r k) asks ∙ ap (λ i. contains (remove (run scenario n).requests i) k) (sym one.1)
+          ∙ removed_here (run scenario n).requests k in
+          ap (λ i. get_or (set old i None) k None) (sym one.1) ∙ get_or-set_same old k None None (omega (arith, known, before.each))
+          ∙ kept_none scenario k n here
       | inr apart ↦
           get_or-set_other old j k None None apart.1 ∙ before.since k known
           ∙ kept_same scenario k n (ap (λ r. contains r k) asks ∙ removed_other (run scenario n).requests j k apart.1)
@@ -230,7 +245,8 @@ length_after s (Takes input) n waits = length_asked (interrupt_asked s input) _ 
 length_after s (Enters k) n waits = length-set waits k None
 length_after s (Executes f) n waits = refl
 
-pub keeps_more : (scenario : Scenario) (n : ℕ) (old new : Waits) → Keeps scenario n old → new ≡ waits_after (run scenario n) (next_step scenario (run scenario n)) (n + 1) old → Keeps scenario (n + 1) new
+pub keeps_more : (scenario : Scenario) (n : ℕ) (old new : Waits) → Keeps scenario n old
+    → new ≡ waits_after (run scenario n) (next_step scenario (run scenario n)) (n + 1) old → Keeps scenario (n + 1) new
 keeps_more scenario n old new before e =
     let s = run scenario n in
     let asks = step_asks scenario s in
@@ -243,7 +259,8 @@ keeps_more scenario n old new before e =
     }
 
 -- the lines of what is kept are those of the run
-pub kept_is : (notation : Notation) (scenario : Scenario) (n cycles : ℕ) (waits : Waits) → Keeps scenario n waits → cycles ≡ (run scenario n).cycles → kept_text notation cycles waits ≡ waits_text notation scenario n
+pub kept_is : (notation : Notation) (scenario : Scenario) (n cycles : ℕ) (waits : Waits) → Keeps scenario n waits
+    → cycles ≡ (run scenario n).cycles → kept_text notation cycles waits ≡ waits_text notation scenario n
 unfolding waits_text
 kept_is notation scenario n cycles waits keeps e =
     rw (
@@ -261,29 +278,41 @@ kept_is notation scenario n cycles waits keeps e =
     ) refl
 
 -- the lines of one interrupt after another
-kept_first : (notation : Notation) (cycles : ℕ) (waits : Waits) (k n : ℕ) → k ≤ 10 → n ≡ 11 - k → kept_from notation cycles waits k n ≡ wait_text notation cycles k (get_or waits k None) ++ kept_from notation cycles waits (k + 1) (11 - (k + 1))
+kept_first : (notation : Notation) (cycles : ℕ) (waits : Waits) (k n : ℕ) → k ≤ 10 → n ≡ 11 - k
+    → kept_from notation cycles waits k n ≡ wait_text notation cycles k (get_or waits k None)
+    ++ kept_from notation cycles waits (k + 1) (11 - (k + 1))
 kept_first notation cycles waits k zero le e = absurd (omega (arith, le, e))
-kept_first notation cycles waits k (suc n) le e = ap (λ m. wait_text notation cycles k (get_or waits k None) ++ kept_from notation cycles waits (k + 1) m) (omega (arith, le, e))
+kept_first notation cycles waits k (suc n) le e = ap
+    (λ m. wait_text notation cycles k (get_or waits k None) ++ kept_from notation cycles waits (k + 1) m) (omega (arith, le, e))
 
-pub kept_more : (notation : Notation) (cycles : ℕ) (waits : Waits) (k j : ℕ) (lines new all : List ℕ) (m : Option Moment) → k ≤ 10 → lines ++ kept_from notation cycles waits k (11 - k) ≡ all → new ≡ lines ++ wait_text notation cycles j m
+pub kept_more : (notation : Notation) (cycles : ℕ) (waits : Waits) (k j : ℕ) (lines new all : List ℕ) (m : Option Moment) → k ≤ 10
+    → lines ++ kept_from notation cycles waits k (11 - k) ≡ all → new ≡ lines ++ wait_text notation cycles j m
     → j ≡ k → m ≡ get_or waits j None → new ++ kept_from notation cycles waits (k + 1) (11 - (k + 1)) ≡ all
 kept_more notation cycles waits k j lines new all m le before e same since =
     let rest = kept_from notation cycles waits (k + 1) (11 - (k + 1)) in
-    ap (λ text. text ++ rest) (e ∙ ap (λ (x : Option Moment). lines ++ wait_text notation cycles j x) since ∙ ap (λ i. lines ++ wait_text notation cycles i (get_or waits i None)) same)
+    ap (λ text. text ++ rest) (e ∙ ap (λ (x : Option Moment). lines ++ wait_text notation cycles j x) since
+    ∙ ap (λ i. lines ++ wait_text notation cycles i (get_or waits i None)) same)
     ∙ append_assoc lines (wait_text notation cycles k (get_or waits k None)) rest
     ∙ ap (λ text. lines ++ text) (sym (kept_first notation cycles waits k (11 - k) le refl)) ∙ before
 
-pub kept_last : (notation : Notation) (cycles : ℕ) (waits : Waits) (k : ℕ) (lines all : List ℕ) → k ≡ 11 → lines ++ kept_from notation cycles waits k (11 - k) ≡ all → lines ≡ all
-kept_last notation cycles waits k lines all e before = sym (append-nil lines) ∙ ap (λ i. lines ++ kept_from notation cycles waits i (11 - i)) (sym e) ∙ before
+pub kept_last : (notation : Notation) (cycles : ℕ) (waits : Waits) (k : ℕ) (lines all : List ℕ) → k ≡ 11
+    → lines ++ kept_from notation cycles waits k (11 - k) ≡ all → lines ≡ all
+kept_last notation cycles waits k lines all e before = sym (append-nil lines)
+    ∙ ap (λ i. lines ++ kept_from notation cycles waits i (11 - i)) (sym e) ∙ before
 
 -- ## What a line says
 -- since when it is asked for: from then on without a break
 abbrev Lasts : Scenario → ℕ → ℕ → ℕ → Type 0
 Lasts scenario k n t = (t ≤ n) × ((u : ℕ) → t ≤ u → u ≤ n → contains (run scenario u).requests k ≡ true)
 
-longer : (scenario : Scenario) (k n t : ℕ) → contains (run scenario (suc n)).requests k ≡ true → (before : Option ℕ) → waits_since scenario k n ≡ before → unwrap_or before (suc n) ≡ t
+longer : (scenario : Scenario) (k n t : ℕ) → contains (run scenario (suc n)).requests k ≡ true → (before : Option ℕ)
+    → waits_since scenario k n ≡ before → unwrap_or before (suc n) ≡ t
     → ((b : ℕ) → waits_since scenario k n ≡ Some b → Lasts scenario k n b) → Lasts scenario k (suc n) t
-longer scenario k n t hit None e is shorter = (omega (arith, is), λ u from to. let last : u ≡ suc n = omega (arith, is, from, to) in rw last hit)
+longer scenario k n t hit None e is shorter = (
+  omega (arith, is),
+  λ u from to. let last : u
+      ≡ suc n = omega (arith, is, from, to) in rw last hit,
+)
 longer scenario k n t hit (Some b) e is shorter =
     let rest = shorter b e in (
       omega (arith, is, rest.0),
@@ -306,16 +335,20 @@ without_break scenario k (suc n) t e =
     ]
 
 -- what is asked for from some step on is so since that step at the latest
-earlier : (scenario : Scenario) (k n t from : ℕ) → t ≤ n → contains (run scenario n).requests k ≡ true → (before : Option ℕ) → waits_since scenario k n ≡ before
+earlier : (scenario : Scenario) (k n t from : ℕ) → t ≤ n → contains (run scenario n).requests k ≡ true → (before : Option ℕ)
+    → waits_since scenario k n ≡ before
     → Some (unwrap_or before (suc n)) ≡ Some from → ((b : ℕ) → waits_since scenario k n ≡ Some b → b ≤ t) → from ≤ t
 earlier scenario k n t from le hit None e is shorter =
-    absurd (let none : is_some (waits_since scenario k n) ≡ false = ap is_some e in let there = stands scenario k n in let wrong : true ≡ false = sym hit ∙ sym there ∙ none in cc)
+    absurd (let none : is_some (waits_since scenario k n) ≡ false = ap is_some e in let there = stands scenario k n in let wrong : true
+    ≡ false = sym
+    hit ∙ sym there ∙ none in cc)
 earlier scenario k n t from le hit (Some b) e is shorter =
     let same : b ≡ from = cc in
     let low = shorter b e in
     omega (arith, same, low)
 
-not_later : (scenario : Scenario) (k n t : ℕ) → t ≤ n → ((u : ℕ) → t ≤ u → u ≤ n → contains (run scenario u).requests k ≡ true) → (from : ℕ) → waits_since scenario k n ≡ Some from → from ≤ t
+not_later : (scenario : Scenario) (k n t : ℕ) → t ≤ n → ((u : ℕ) → t ≤ u → u ≤ n → contains (run scenario u).requests k ≡ true) → (from : ℕ)
+    → waits_since scenario k n ≡ Some from → from ≤ t
 unfolding waits_since
 not_later scenario k zero t le all from e = absurd (let no : None ≡ Some from = e in cc)
 not_later scenario k (suc n) t le all from e =
@@ -329,25 +362,42 @@ not_later scenario k (suc n) t le all from e =
           (not_later scenario k n t before (λ u low high. all u low (omega (arith, high))))
     ]
 
-long_told : (scenario : Scenario) (k n : ℕ) (t : Option ℕ) → waits_since scenario k n ≡ t → is_long (run scenario n).cycles (option_map (moment_of scenario) t) ≡ true → LongWait scenario k n
+long_told : (scenario : Scenario) (k n : ℕ) (t : Option ℕ) → waits_since scenario k n ≡ t
+    → is_long (run scenario n).cycles (option_map (moment_of scenario) t) ≡ true → LongWait scenario k n
 long_told scenario k n None e long = absurd (cc)
 long_told scenario k n (Some t) e long =
     let rest = without_break scenario k n t e in
-    record { step = t; within = rest.0; asked = rest.1; long = omega (arith, leb-true long_wait ((run scenario n).cycles - (run scenario t).cycles) long) }
+    record {
+      step = t;
+      within = rest.0;
+      asked = rest.1;
+      long = omega
+          (arith, leb-true long_wait ((run scenario n).cycles - (run scenario t).cycles) long);
+    }
 
-told_long : (scenario : Scenario) (k n : ℕ) (t : Option ℕ) → waits_since scenario k n ≡ t → LongWait scenario k n → is_long (run scenario n).cycles (option_map (moment_of scenario) t) ≡ true
+told_long : (scenario : Scenario) (k n : ℕ) (t : Option ℕ) → waits_since scenario k n ≡ t → LongWait scenario k n
+    → is_long (run scenario n).cycles (option_map (moment_of scenario) t) ≡ true
 told_long scenario k n None e w =
-    absurd (let hit = w.asked n w.within (omega arith) in let there = stands scenario k n in let none : is_some (waits_since scenario k n) ≡ false = ap is_some e in let wrong : true ≡ false = sym hit ∙ sym there ∙ none in cc)
+    absurd (let hit = w.asked n w.within (omega arith) in
+    let there = stands scenario k n in
+    let none : is_some (waits_since scenario k n) ≡ false = ap is_some e in
+    let wrong : true ≡ false = sym hit ∙ sym there ∙ none in
+    cc)
 told_long scenario k n (Some t) e w =
     let from = not_later scenario k n w.step w.within w.asked t e in
     le-leb long_wait ((run scenario n).cycles - (run scenario t).cycles) (omega (arith, w.long, rise-run scenario t w.step from))
 
 pub are_exact : WaitsAreExact
-are_exact = λ scenario k n. (λ e. long_told scenario k n (waits_since scenario k n) refl e, λ w. told_long scenario k n (waits_since scenario k n) refl w)
+are_exact = λ scenario k n. (
+  λ e. long_told scenario k n (waits_since scenario k n) refl e,
+  λ w. told_long scenario k n
+      (waits_since scenario k n) refl w,
+)
 
 -- and not before
 begins_by : (scenario : Scenario) (k n t : ℕ) (before : Option ℕ) → waits_since scenario k n ≡ before → unwrap_or before (suc n) ≡ t
-    → ((b : ℕ) → waits_since scenario k n ≡ Some b → contains (run scenario (b - 1)).requests k ≡ false) → contains (run scenario (t - 1)).requests k ≡ false
+    → ((b : ℕ) → waits_since scenario k n ≡ Some b → contains (run scenario (b - 1)).requests k ≡ false)
+    → contains (run scenario (t - 1)).requests k ≡ false
 begins_by scenario k n t None e is shorter =
     let last : t - 1 ≡ n = omega (arith, is) in
     ap (λ u. contains (run scenario u).requests k) last ∙ sym (stands scenario k n) ∙ ap is_some e
@@ -364,23 +414,35 @@ begins scenario k (suc n) t e =
       | inr miss ↦ absurd (let no : None ≡ Some t = rw miss at e in cc)
     ]
 
-moment_told : (scenario : Scenario) (k n : ℕ) (m : Moment) (t : Option ℕ) → waits_since scenario k n ≡ t → option_map (moment_of scenario) t ≡ Some m → IsAskedSince scenario k n m
+moment_told : (scenario : Scenario) (k n : ℕ) (m : Moment) (t : Option ℕ) → waits_since scenario k n ≡ t
+    → option_map (moment_of scenario) t ≡ Some m → IsAskedSince scenario k n m
 moment_told scenario k n m None e is = absurd (let no : None ≡ Some m = is in cc)
 moment_told scenario k n m (Some t) e is =
     let same : moment_of scenario t ≡ m = cc in
     let rest = without_break scenario k n t e in
-    subst (λ (x : Moment). IsAskedSince scenario k n x) same (record { within = rest.0; asked = rest.1; not_before = begins scenario k n t e; cycles = refl })
+    subst (λ (x : Moment). IsAskedSince scenario k n x) same
+    (record { within = rest.0; asked = rest.1; not_before = begins scenario k n t e; cycles = refl })
 
-told_moment : (scenario : Scenario) (k n : ℕ) (m : Moment) (t : Option ℕ) → waits_since scenario k n ≡ t → IsAskedSince scenario k n m → option_map (moment_of scenario) t ≡ Some m
+told_moment : (scenario : Scenario) (k n : ℕ) (m : Moment) (t : Option ℕ) → waits_since scenario k n ≡ t → IsAskedSince scenario k n m
+    → option_map (moment_of scenario) t ≡ Some m
 told_moment scenario k n m None e w =
-    absurd (let hit = w.asked n w.within (omega arith) in let there = stands scenario k n in let none : is_some (waits_since scenario k n) ≡ false = ap is_some e in let wrong : true ≡ false = sym hit ∙ sym there ∙ none in cc)
+    absurd (let hit = w.asked n w.within (omega arith) in
+    let there = stands scenario k n in
+    let none : is_some (waits_since scenario k n) ≡ false = ap is_some e in
+    let wrong : true ≡ false = sym hit ∙ sym there ∙ none in
+    cc)
 told_moment scenario k n m (Some t) e w =
     let low = not_later scenario k n m.step w.within w.asked t e in
     elim (eqb_tells t m.step) [
       | inl one ↦ λ i. Some (record { step = one.1 i; cycles = (ap (λ u. (run scenario u).cycles) one.1 ∙ sym w.cycles) i })
       | inr apart ↦
-          absurd (let hit = (without_break scenario k n t e).1 (m.step - 1) (omega (arith, low, apart.1)) (omega (arith, w.within)) in let wrong : true ≡ false = sym hit ∙ w.not_before in cc)
+          absurd (let hit = (without_break scenario k n t e).1 (m.step - 1) (omega (arith, low, apart.1)) (omega (arith, w.within)) in
+          let wrong : true ≡ false = sym hit ∙ w.not_before in cc)
     ]
 
 pub moments_are_exact : MomentsAreExact
-moments_are_exact = λ scenario k n m. (λ is. moment_told scenario k n m (waits_since scenario k n) refl is, λ w. told_moment scenario k n m (waits_since scenario k n) refl w)
+moments_are_exact = λ scenario k n m. (
+  λ is. moment_told scenario k n m (waits_since scenario k n) refl is,
+  λ w. told_moment scenario k n m
+      (waits_since scenario k n) refl w,
+)

@@ -21,7 +21,8 @@ use Rattle.cpu.specs.declared.next_step.Fetched.{Fetched}
 use Rattle.feed.specs.declared.input.Input.TheVariants.{Word}
 use Rattle.words.specs.Numerals.{octal_text}
 use Rattle.notes.specs.Unread.{unread_at, unread_line, unread_object}
-use Rattle.notes.specs.Past.{came_first, enters_shared, entered_at, executes_shared, is_lost, loses, marked, no_past, overwrites, reads_on, unread_by}
+use Rattle.notes.specs.Past.{came_first, enters_shared, entered_at, executes_shared, is_lost, loses, marked, no_past, overwrites, reads_on}
+use Rattle.notes.specs.Past.{unread_by}
 use Rattle.notes.specs.Notes.{is_ccs, is_code_in_erasable, is_elsewhere, is_one_way, place_named, reaches_other}
 use Rattle.json_text.specs.Strings.{escaped, escaped_byte}
 use Rattle.trace.specs.StepMembers.{step_members}
@@ -29,7 +30,8 @@ use Rattle.notes.specs.RunNotes.{end_text, note_line, note_object, told_line, wh
 use Rattle.notes.specs.Waits.{asked_at, is_long, kept_text, wait_line, wait_object, waits_since}
 use Rattle.notes.proofs.LongWaits.{since_more}
 
--- 5 in A and 0 in L divided by 1 does not fit, nor does 1 by 1, nor what is divided by 0; 1 divided by 2 does, and so do 5 in L by 1 and -1 by 2
+-- 5 in A and 0 in L divided by 1 does not fit, nor does 1 by 1, nor what is divided by 0; 1 divided by 2 does, and so do 5 in L by 1 and -1
+-- by 2
 five_by_one : quotient_fits 5 0 1 ≡ false
 five_by_one = refl
 
@@ -68,7 +70,8 @@ in_another = refl
 out_of_erasable : is_elsewhere 0o1403 (Fixed 2 0) ≡ true
 out_of_erasable = refl
 
--- CA TABLE +3 at 00,2001, which is named there and nowhere else; under E4 it is told, under E3 it is not, and with an index it is passed over
+-- CA TABLE +3 at 00,2001, which is named there and nowhere else; under E4 it is told, under E3 it is not, and with an index it is passed
+-- over
 abbrev one_named : Named
 one_named = None ∷ Some 0o1403 ∷ None ∷ []
 
@@ -81,18 +84,22 @@ not_before = refl
 not_in_erasable : place_named one_named (Erasable 1) ≡ None
 not_in_erasable = refl
 
-under_e4 : (s : State) → place_in s 0o1403 ≡ Erasable 0o2003 → reaches_other one_named s (record { place = Fixed 0 1; word = 0o31403; extra = false; waited = false; added = None }) ≡ true
+under_e4 : (s : State) → place_in s 0o1403 ≡ Erasable 0o2003
+    → reaches_other one_named s (record { place = Fixed 0 1; word = 0o31403; extra = false; waited = false; added = None }) ≡ true
 unfolding basic_rows code_of
 under_e4 s e = rw e refl
 
-under_e3 : (s : State) → place_in s 0o1403 ≡ Erasable 0o1403 → reaches_other one_named s (record { place = Fixed 0 1; word = 0o31403; extra = false; waited = false; added = None }) ≡ false
+under_e3 : (s : State) → place_in s 0o1403 ≡ Erasable 0o1403
+    → reaches_other one_named s (record { place = Fixed 0 1; word = 0o31403; extra = false; waited = false; added = None }) ≡ false
 unfolding basic_rows code_of
 under_e3 s e = rw e refl
 
-with_an_index : (s : State) → reaches_other one_named s (record { place = Fixed 0 1; word = 0o31403; extra = false; waited = false; added = Some 0 }) ≡ false
+with_an_index : (s : State) → reaches_other one_named s
+    (record { place = Fixed 0 1; word = 0o31403; extra = false; waited = false; added = Some 0 }) ≡ false
 with_an_index s = refl
 
--- CCS A at 02,4002, whose way of +0 is TCF 4010 and that of -0 TCF 4006; whose way of +0 is TCF 4006, where that of -0 is; and whose ways are one word
+-- CCS A at 02,4002, whose way of +0 is TCF 4010 and that of -0 TCF 4006; whose way of +0 is TCF 4006, where that of -0 is; and whose ways
+-- are one word
 two_ways : (rope : Words) → word_at rope 2 4 ≡ 0o14010 → word_at rope 2 6 ≡ 0o14006 → is_one_way rope 0o4002 2 2 ≡ false
 two_ways rope second fourth = rw (second, fourth) refl
 
@@ -116,21 +123,25 @@ of_tcf = refl
 nothing_found : (s : State) → is_lost s None ≡ false
 nothing_found s = refl
 
-gone_elsewhere : (s : State) → get s.cells 0o15 ≡ 0o4003 → is_lost s (Some (record { a = 0; l = 0; q = 0; eb = 0; fb = 0; superbank = 0; back = 0o4002 })) ≡ false
+gone_elsewhere : (s : State) → get s.cells 0o15 ≡ 0o4003
+    → is_lost s (Some (record { a = 0; l = 0; q = 0; eb = 0; fb = 0; superbank = 0; back = 0o4002 })) ≡ false
 gone_elsewhere s e = rw e refl
 
-changed_a : (s : State) → get s.cells 0o15 ≡ 0o4002 → get s.cells 0 ≡ 1 → is_lost s (Some (record { a = 0; l = 0; q = 0; eb = 0; fb = 0; superbank = 0; back = 0o4002 })) ≡ true
+changed_a : (s : State) → get s.cells 0o15 ≡ 0o4002 → get s.cells 0 ≡ 1
+    → is_lost s (Some (record { a = 0; l = 0; q = 0; eb = 0; fb = 0; superbank = 0; back = 0o4002 })) ≡ true
 changed_a s e a = rw (e, a) refl
 
 -- EXTEND before RESUME makes it another instruction
-under_extracode : (s : State) → loses s no_past (record { place = Fixed 2 2; word = 0o50017; extra = true; waited = false; added = None }) ≡ false
+under_extracode : (s : State) → loses s no_past (record { place = Fixed 2 2; word = 0o50017; extra = true; waited = false; added = None })
+    ≡ false
 under_extracode s = refl
 
 -- T3RUPT is entered at 4014; a word that RESUME brought is nowhere
 entry : where_of (Enters 3) ≡ Place (Fixed 2 0o14)
 entry = refl
 
-at_its_place : where_of (Executes (record { place = Fixed 2 4; word = 0o10100; extra = true; waited = false; added = None })) ≡ Place (Fixed 2 4)
+at_its_place : where_of (Executes (record { place = Fixed 2 4; word = 0o10100; extra = true; waited = false; added = None }))
+    ≡ Place (Fixed 2 4)
 at_its_place = refl
 
 resumed : where_of (Executes (record { place = Fixed 2 4; word = 0o10100; extra = false; waited = true; added = None })) ≡ Waiting
@@ -156,11 +167,13 @@ nothing_left : left_after (4 ∷ 7 ∷ 0 ∷ []) 1 true ≡ 4 ∷ 0 ∷ 0 ∷ []
 nothing_left = refl
 
 -- lines
-of_dv : note_line Quotient (codes "02,4004  10100  DV D               ") 5 13 1 ≡ codes "NOTE QUOTIENT   02,4004  10100  DV D               STEP 5 CYCLES 13 TIMES 1" ++ 10 ∷ []
+of_dv : note_line Quotient (codes "02,4004  10100  DV D               ") 5 13 1
+    ≡ codes "NOTE QUOTIENT   02,4004  10100  DV D               STEP 5 CYCLES 13 TIMES 1" ++ 10 ∷ []
 unfolding note_line digits
 of_dv = refl
 
-of_resume : note_line NotKept (codes "02,4016  50017  RESUME             ") 21 39 1 ≡ codes "NOTE NOTKEPT    02,4016  50017  RESUME             STEP 21 CYCLES 39 TIMES 1" ++ 10 ∷ []
+of_resume : note_line NotKept (codes "02,4016  50017  RESUME             ") 21 39 1
+    ≡ codes "NOTE NOTKEPT    02,4016  50017  RESUME             STEP 21 CYCLES 39 TIMES 1" ++ 10 ∷ []
 unfolding note_line digits
 of_resume = refl
 
@@ -176,14 +189,16 @@ unfolding end_text
 outside = refl
 
 -- an interrupt that waits: from the step that asks for it to the one that enters it, and anew from where it is asked for again
-since_first : (scenario : Scenario) → contains (run scenario 1).requests 3 ≡ true → contains (run scenario 2).requests 3 ≡ true → waits_since scenario 3 2 ≡ Some 1
+since_first : (scenario : Scenario) → contains (run scenario 1).requests 3 ≡ true → contains (run scenario 2).requests 3 ≡ true
+    → waits_since scenario 3 2 ≡ Some 1
 unfolding waits_since
 since_first scenario one two = since_more scenario 3 1 true two ∙ ap (λ t. Some (unwrap_or t 2)) (since_more scenario 3 0 true one)
 
 entered : (scenario : Scenario) → contains (run scenario 3).requests 3 ≡ false → waits_since scenario 3 3 ≡ None
 entered scenario three = since_more scenario 3 2 false three
 
-since_again : (scenario : Scenario) → contains (run scenario 3).requests 3 ≡ false → contains (run scenario 4).requests 3 ≡ true → waits_since scenario 3 4 ≡ Some 4
+since_again : (scenario : Scenario) → contains (run scenario 3).requests 3 ≡ false → contains (run scenario 4).requests 3 ≡ true
+    → waits_since scenario 3 4 ≡ Some 4
 since_again scenario three four = since_more scenario 3 3 true four ∙ ap (λ t. Some (unwrap_or t 4)) (since_more scenario 3 2 false three)
 
 -- 853 cycles are long, and 852 are not
@@ -197,10 +212,12 @@ never : is_long 872 None ≡ false
 never = refl
 
 -- asked for once more an interrupt waits since when it did
-asked_first : asked_at 2 (record { step = 7; cycles = 9 }) (None ∷ None ∷ None ∷ []) ≡ None ∷ None ∷ Some (record { step = 7; cycles = 9 }) ∷ []
+asked_first : asked_at 2 (record { step = 7; cycles = 9 }) (None ∷ None ∷ None ∷ [])
+    ≡ None ∷ None ∷ Some (record { step = 7; cycles = 9 }) ∷ []
 asked_first = refl
 
-asked_again : asked_at 1 (record { step = 7; cycles = 9 }) (None ∷ Some (record { step = 5; cycles = 6 }) ∷ []) ≡ None ∷ Some (record { step = 5; cycles = 6 }) ∷ []
+asked_again : asked_at 1 (record { step = 7; cycles = 9 }) (None ∷ Some (record { step = 5; cycles = 6 }) ∷ [])
+    ≡ None ∷ Some (record { step = 5; cycles = 6 }) ∷ []
 asked_again = refl
 
 -- T3RUPT, asked for by step 12 that ends at cycle 20
@@ -209,14 +226,17 @@ unfolding wait_line digits
 of_waiting = refl
 
 -- of ten the two that wait long, in their order
-two_of_ten : kept_text Text 1000 (None ∷ None ∷ None ∷ Some (record { step = 12; cycles = 20 }) ∷ Some (record { step = 500; cycles = 900 }) ∷ None ∷ None ∷ None ∷ None ∷ None ∷ Some (record { step = 2; cycles = 4 }) ∷ [])
+two_of_ten : kept_text Text 1000 (None ∷ None ∷ None ∷ Some (record { step = 12; cycles = 20 }) ∷ Some (record { step = 500; cycles = 900 })
+    ∷ None ∷ None ∷ None ∷ None ∷ None ∷ Some (record { step = 2; cycles = 4 }) ∷ [])
     ≡ codes "NOTE WAITING T3RUPT STEP 12 CYCLES 20" ++ 10 ∷ codes "NOTE WAITING RUPT10 STEP 2 CYCLES 4" ++ 10 ∷ []
 unfolding wait_line digits
 two_of_ten = refl
 
 -- the same as JSON: the note of DV, at a place whose symbol has a quote
-object_of_dv : note_object Quotient (step_members (Some (codes "02,4004")) (Some (codes "Q\"")) (Some (codes "10100")) (codes "DV D")) 5 13 1
-    ≡ codes "{\"kind\":\"QUOTIENT\",\"place\":\"02,4004\",\"symbol\":\"Q\\\"\",\"word\":\"10100\",\"text\":\"DV D\",\"step\":5,\"cycles\":13,\"count\":1}" ++ 10 ∷ []
+object_of_dv : note_object Quotient (step_members (Some (codes "02,4004")) (Some (codes "Q\"")) (Some (codes "10100")) (codes "DV D")) 5 13
+    1
+    ≡ (codes "{\"kind\":\"QUOTIENT\",\"place\":\"02,4004\",\"symbol\":\"Q\\\"\",\"word\":\"10100\",\"text\":\"DV D\",\"step\":5,"
+    ++ codes "\"cycles\":13,\"count\":1}") ++ 10 ∷ []
 unfolding note_object step_members digits escaped escaped_byte
 object_of_dv = refl
 
@@ -227,11 +247,13 @@ inside_object : end_text Json true 20 ≡ codes "{\"kind\":\"INSIDE\",\"step\":2
 unfolding end_text digits
 inside_object = refl
 
-waiting_object : wait_object 3 (record { step = 12; cycles = 20 }) ≡ codes "{\"kind\":\"WAITING\",\"interrupt\":\"T3RUPT\",\"step\":12,\"cycles\":20}" ++ 10 ∷ []
+waiting_object : wait_object 3 (record { step = 12; cycles = 20 })
+    ≡ codes "{\"kind\":\"WAITING\",\"interrupt\":\"T3RUPT\",\"step\":12,\"cycles\":20}" ++ 10 ∷ []
 unfolding wait_object digits
 waiting_object = refl
 
--- READ 15, RXOR 15 and WAND 15 read channel 15; WRITE 15 does not, nor READ 16, the seventh instruction of channels, or TC 15 without EXTEND
+-- READ 15, RXOR 15 and WAND 15 read channel 15; WRITE 15 does not, nor READ 16, the seventh instruction of channels, or TC 15 without
+-- EXTEND
 abbrev of_channel : ℕ → Bool → Fetched
 of_channel word extra = record { place = Fixed 2 2; word = word; extra = extra; waited = false; added = None }
 
@@ -306,13 +328,17 @@ own_entry : enters_shared (record no_past { passed = marked no_past.passed (Some
 own_entry = refl
 
 -- it comes there after T5RUPT was entered; within an interrupt it is the handler
-comes_there : (s : State) → s.inside ≡ false → executes_shared s (record no_past { entered = marked no_past.entered (Some 2) }) (record { place = Fixed 2 0o10; word = 0o30007; extra = false; waited = false; added = None }) ≡ true
+comes_there : (s : State) → s.inside ≡ false → executes_shared s (record no_past { entered = marked no_past.entered (Some 2) })
+    (record { place = Fixed 2 0o10; word = 0o30007; extra = false; waited = false; added = None }) ≡ true
 comes_there s out = rw out refl
 
-is_the_handler : (s : State) → s.inside ≡ true → executes_shared s (record no_past { entered = marked no_past.entered (Some 2) }) (record { place = Fixed 2 0o10; word = 0o30007; extra = false; waited = false; added = None }) ≡ false
+is_the_handler : (s : State) → s.inside ≡ true
+    → executes_shared s (record no_past { entered = marked no_past.entered (Some 2) })
+    (record { place = Fixed 2 0o10; word = 0o30007; extra = false; waited = false; added = None }) ≡ false
 is_the_handler s served = rw served refl
 
-resumes_nothing : (s : State) → s.inside ≡ false → executes_shared s no_past (record { place = Fixed 2 0o100; word = 0o50017; extra = false; waited = false; added = None }) ≡ true
+resumes_nothing : (s : State) → s.inside ≡ false
+    → executes_shared s no_past (record { place = Fixed 2 0o100; word = 0o50017; extra = false; waited = false; added = None }) ≡ true
 resumes_nothing s out = rw out refl
 
 -- the first word on channel 1 of three comes after 9 cycles, and another one after 12

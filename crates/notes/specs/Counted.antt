@@ -7,7 +7,8 @@ use Rattle.cpu.specs.State.{State, Scenario}
 use Rattle.yayul.specs.Named.{Named}
 use Rattle.cover.specs.Tallies.{account_count, account_number, IsAccount}
 use Rattle.notes.specs.declared.kind.Kind.{Kind}
-use Rattle.notes.specs.declared.kind.Kind.TheVariants.{Quotient, Skip, NoWord, InErasable, NoHandler, OtherBank, NotKept, MinusZero, Overwritten, Shared}
+use Rattle.notes.specs.declared.kind.Kind.TheVariants.{Quotient, Skip, NoWord, InErasable, NoHandler, OtherBank, NotKept, MinusZero}
+use Rattle.notes.specs.declared.kind.Kind.TheVariants.{Overwritten, Shared}
 use Rattle.notes.specs.declared.notebook.Told.{Told}
 use Rattle.notes.specs.declared.past.Past.{Past}
 use Rattle.notes.specs.Past.{no_past, past, past_by, Seen, seen}
@@ -15,8 +16,8 @@ use Rattle.notes.specs.Notes.{happens}
 use Rattle.notes.specs.RunNotes.{here, times, times_from}
 use Rattle.notes.specs.Waits.{Keeps, Waits, waits_after}
 
--- the erasable places that words name, the counts of each kind, since when each interrupt is asked for, what the steps before have left, how many steps were
--- noted, and the last of them in which some kind has happened for the first time at its place
+-- the erasable places that words name, the counts of each kind, since when each interrupt is asked for, what the steps before have left,
+-- how many steps were noted, and the last of them in which some kind has happened for the first time at its place
 pub record Book : Type 0 where
   pub named : Named
   pub counts : List (List ℕ)
@@ -47,7 +48,8 @@ is_first counts number happens = happens && get_or counts number 0 == 0
 
 -- whether something is so of some kind
 abbrev pub some_kind : (Kind → Bool) → Bool
-some_kind p = p Quotient || (p Skip || (p NoWord || (p InErasable || (p NoHandler || (p OtherBank || (p NotKept || (p MinusZero || (p Overwritten || p Shared))))))))
+some_kind p = p Quotient || (p Skip || (p NoWord
+    || (p InErasable || (p NoHandler || (p OtherBank || (p NotKept || (p MinusZero || (p Overwritten || p Shared))))))))
 
 -- what is held at a number, where something happens, and what is left after it is taken
 abbrev pub taken : List ℕ → ℕ → Bool → ℕ
@@ -68,21 +70,25 @@ seen_by s book = record { state = s; past = book.past }
 -- what happens in the step that follows a state is counted
 pub record Notes (scenario : Scenario) (s : State) (old new : Book) : Type 0 where
   pub known : IsAccount (here scenario s)
-  pub each : (kind : Kind) → counts_of new kind ≡ counted_more (counts_of old kind) (account_number (here scenario s)) (happens old.named scenario kind (seen_by s old))
+  pub each : (kind : Kind) → counts_of new kind ≡ counted_more (counts_of old kind) (account_number (here scenario s))
+      (happens old.named scenario kind (seen_by s old))
   pub named : new.named ≡ old.named
   pub waits : new.waits ≡ waits_after s (next_step scenario s) (old.steps + 1) old.waits
   pub past : new.past ≡ past_by s old.past (next_step scenario s)
   pub steps : new.steps ≡ old.steps + 1
-  pub last : new.last ≡ (if some_kind (λ kind. is_first (counts_of old kind) (account_number (here scenario s)) (happens old.named scenario kind (seen_by s old))) then new.steps else old.last)
+  pub last : new.last ≡ (if some_kind (λ kind. is_first (counts_of old kind) (account_number (here scenario s))
+      (happens old.named scenario kind (seen_by s old))) then new.steps else old.last)
 
 -- what is held of each kind that happens in the step that follows a state
 abbrev pub taken_at : Scenario → State → Book → Kind → ℕ
-taken_at scenario s book kind = taken (counts_of book kind) (account_number (here scenario s)) (happens book.named scenario kind (seen_by s book))
+taken_at scenario s book kind = taken (counts_of book kind) (account_number (here scenario s))
+    (happens book.named scenario kind (seen_by s book))
 
 -- what happens in the step that follows a state is taken
 pub record Takes (scenario : Scenario) (s : State) (old new : Book) : Type 0 where
   pub known : IsAccount (here scenario s)
-  pub each : (kind : Kind) → counts_of new kind ≡ left_after (counts_of old kind) (account_number (here scenario s)) (happens old.named scenario kind (seen_by s old))
+  pub each : (kind : Kind) → counts_of new kind ≡ left_after (counts_of old kind) (account_number (here scenario s))
+      (happens old.named scenario kind (seen_by s old))
   pub named : new.named ≡ old.named
   pub waits : new.waits ≡ old.waits
   pub past : new.past ≡ past_by s old.past (next_step scenario s)
@@ -104,7 +110,8 @@ told_of t Shared = t.shared
 pub record Counted (named : Named) (scenario : Scenario) (n : ℕ) (book : Book) : Type 0 where
   pub same : book.named ≡ named
   pub within : book.last ≤ n
-  pub later : (t : ℕ) → book.last ≤ t → t < n → (kind : Kind) → happens named scenario kind (seen scenario t) ≡ true → 1 ≤ times named scenario kind (here scenario (run scenario t)) t
+  pub later : (t : ℕ) → book.last ≤ t → t < n → (kind : Kind) → happens named scenario kind (seen scenario t) ≡ true
+      → 1 ≤ times named scenario kind (here scenario (run scenario t)) t
   pub each : (kind : Kind) → length (counts_of book kind) ≡ account_count
   pub times : (kind : Kind) (a : Account) → IsAccount a → get_or (counts_of book kind) (account_number a) 0 ≡ times named scenario kind a n
   pub waits : Keeps scenario n book.waits
@@ -119,6 +126,7 @@ rewound book = record book { past = no_past }
 pub record Left (named : Named) (scenario : Scenario) (t n : ℕ) (book : Book) : Type 0 where
   pub same : book.named ≡ named
   pub each : (kind : Kind) → length (counts_of book kind) ≡ account_count
-  pub times : (kind : Kind) (a : Account) → IsAccount a → get_or (counts_of book kind) (account_number a) 0 ≡ times_from named scenario kind a t n
+  pub times : (kind : Kind) (a : Account) → IsAccount a
+      → get_or (counts_of book kind) (account_number a) 0 ≡ times_from named scenario kind a t n
   pub waits : Keeps scenario n book.waits
   pub past : book.past ≡ past scenario t

@@ -1,5 +1,6 @@
 -- What happens in a step that is seldom meant.
-use Rattle.std.specs.Prelude.{ℕ, ◌+◌, ◌*◌, ◌/◌, ◌%◌, ◌==◌, ◌&&◌, ◌||◌, nat_le, nat_lt, Bool, true, false, not, List, codes, Option, Some, None, is_some}
+use Rattle.std.specs.Prelude.{ℕ, ◌+◌, ◌*◌, ◌/◌, ◌%◌, ◌==◌, ◌&&◌, ◌||◌, nat_le, nat_lt, Bool, true, false, not, List, codes, Option, Some}
+use Rattle.std.specs.Prelude.{None, is_some}
 use Rattle.words.specs.Numbers.{correct}
 use Rattle.words.specs.Products.{quotient_fits}
 use Rattle.words.specs.Signs.{over}
@@ -18,7 +19,8 @@ use Rattle.cpu.specs.NextStep.{next_step}
 use Rattle.cpu.specs.Operands.{address_of}
 use Rattle.cpu.specs.State.{State, Scenario}
 use Rattle.notes.specs.declared.kind.Kind.{Kind}
-use Rattle.notes.specs.declared.kind.Kind.TheVariants.{Quotient, Skip, NoWord, InErasable, NoHandler, OtherBank, NotKept, MinusZero, Overwritten, Shared}
+use Rattle.notes.specs.declared.kind.Kind.TheVariants.{Quotient, Skip, NoWord, InErasable, NoHandler, OtherBank, NotKept, MinusZero}
+use Rattle.notes.specs.declared.kind.Kind.TheVariants.{Overwritten, Shared}
 use Rattle.notes.specs.declared.past.Past.{Past}
 use Rattle.notes.specs.Past.{Seen, comes_by, enters_shared, executes_shared, loses, overwrites}
 
@@ -101,7 +103,8 @@ counts_minus_zero rope s f = is_ccs f && is_minus_zero rope s (place_in s (f.wor
 -- the way of +0 and that of -0 are one: the same word stands there, or at that of +0 a TCF to the other
 abbrev pub is_one_way : Words → ℕ → ℕ → ℕ → Bool
 is_one_way rope z bank offset =
-    word_at rope bank (offset + 2) == word_at rope bank (offset + 4) || word_at rope bank (offset + 2) == 0o10000 + (z % 0o10000 + 4) % 0o10000
+    word_at rope bank (offset + 2) == word_at rope bank (offset + 4)
+    || word_at rope bank (offset + 2) == 0o10000 + (z % 0o10000 + 4) % 0o10000
 
 abbrev pub has_two_ways : Words → State → Linear → Bool
 has_two_ways rope s (Erasable p) = false
@@ -139,7 +142,8 @@ abbrev pub is_quiet : Named → Words → State → Fetched → Bool
 is_quiet named rope s f =
     not f.waited
     && (not f.extra
-    && (is_at_word rope f.place && (not (f.word == 0o50017) && (not (skips s f) && (not (counts_minus_zero rope s f) && (not (reaches_other named s f) && not (is_some (comes_by s f))))))))
+    && (is_at_word rope f.place && (not (f.word == 0o50017)
+    && (not (skips s f) && (not (counts_minus_zero rope s f) && (not (reaches_other named s f) && not (is_some (comes_by s f))))))))
 
 abbrev pub is_quiet_step : Named → Words → State → NextStep → Bool
 is_quiet_step named rope s (Executes f) = is_quiet named rope s f

@@ -1,7 +1,8 @@
--- What the steps before a step have left, by which it is told what it does: what the interrupt that was entered last has found, whether the words that keys
--- have left were read, which interrupts were entered, by the places of which the program itself came, on which channels words came, and
--- which were read.
-use Rattle.std.specs.Prelude.{ℕ, zero, suc, ◌+◌, ◌/◌, ◌%◌, ◌==◌, ◌&&◌, ◌||◌, nat_le, nat_lt, Bool, true, false, not, List, get_or, set, replicate, Option, Some, None, is_some, if◌then◌else◌}
+-- What the steps before a step have left, by which it is told what it does: what the interrupt that was entered last has found, whether the
+-- words that keys have left were read, which interrupts were entered, by the places of which the program itself came, on which channels
+-- words came, and which were read.
+use Rattle.std.specs.Prelude.{ℕ, zero, suc, ◌+◌, ◌/◌, ◌%◌, ◌==◌, ◌&&◌, ◌||◌, nat_le, nat_lt, Bool, true, false, not, List, get_or, set}
+use Rattle.std.specs.Prelude.{replicate, Option, Some, None, is_some, if◌then◌else◌}
 use Rattle.feed.specs.declared.input.Input.{Input}
 use Rattle.feed.specs.declared.input.Input.TheVariants.{Count, Word, Interrupt}
 use Rattle.space.specs.declared.place.Linear.{Linear}
@@ -34,7 +35,8 @@ kept_by s =
 -- whether all of them are again as they were
 abbrev pub is_as : State → Kept → Bool
 is_as s k =
-    accumulator_of s == k.a && lower_of s == k.l && get s.cells return_address == k.q && get s.cells erasable_bank == k.eb && get s.cells fixed_bank == k.fb
+    accumulator_of s == k.a && lower_of s == k.l && get s.cells return_address == k.q && get s.cells erasable_bank == k.eb
+    && get s.cells fixed_bank == k.fb
     && get_channel s.cells superbank_channel == k.superbank
 
 -- whether RESUME goes back where the interrupt was entered: a handler that has set ZRUPT leads elsewhere
@@ -120,7 +122,8 @@ abbrev pub is_marked : List Bool → Option ℕ → Bool
 is_marked flags None = false
 is_marked flags (Some k) = get_or flags k false
 
--- an interrupt is entered at a place by which the program itself came; the program comes by one where an interrupt was entered, or to RESUME of none
+-- an interrupt is entered at a place by which the program itself came; the program comes by one where an interrupt was entered, or to
+-- RESUME of none
 abbrev pub enters_shared : Past → ℕ → Bool
 enters_shared p k = get_or p.passed k false
 

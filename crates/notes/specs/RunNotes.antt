@@ -1,5 +1,6 @@
 -- The notes of a run: what has happened in its steps, by kind and place, with the first step and how often; and how it ends.
-use Rattle.std.specs.Prelude.{◌≡◌, ℕ, zero, suc, ◌+◌, ◌*◌, ◌<◌, ◌==◌, ◌&&◌, Bool, true, false, nat_le, List, [], ◌++◌, codes, decimal, if◌then◌else◌, ◌↔◌}
+use Rattle.std.specs.Prelude.{◌≡◌, ℕ, zero, suc, ◌+◌, ◌*◌, ◌<◌, ◌==◌, ◌&&◌, Bool, true, false, nat_le, List, [], ◌++◌, codes, decimal}
+use Rattle.std.specs.Prelude.{if◌then◌else◌, ◌↔◌}
 use Rattle.std.specs.List.{flat_map, range_with_len}
 use Rattle.json_text.specs.declared.notation.Notation.{Notation}
 use Rattle.json_text.specs.declared.notation.Notation.TheVariants.{Text, Json}
@@ -19,7 +20,8 @@ use Rattle.rope.specs.Places.{Words}
 use Rattle.trace.specs.TraceLines.{field, what_text}
 use Rattle.trace.specs.StepMembers.{what_members}
 use Rattle.notes.specs.declared.kind.Kind.{Kind}
-use Rattle.notes.specs.declared.kind.Kind.TheVariants.{Quotient, Skip, NoWord, InErasable, NoHandler, OtherBank, NotKept, MinusZero, Overwritten, Shared}
+use Rattle.notes.specs.declared.kind.Kind.TheVariants.{Quotient, Skip, NoWord, InErasable, NoHandler, OtherBank, NotKept, MinusZero}
+use Rattle.notes.specs.declared.kind.Kind.TheVariants.{Overwritten, Shared}
 use Rattle.notes.specs.Notes.{happens}
 use Rattle.notes.specs.Past.{Seen, past, seen}
 use Rattle.notes.specs.Unread.{unread_text}
@@ -48,7 +50,8 @@ times named scenario kind a (suc n) = times named scenario kind a n + (if happen
 abbrev pub times_from : Named → Scenario → Kind → Account → ℕ → ℕ → ℕ
 times_from named scenario kind a t n = if times named scenario kind a t == 0 then times named scenario kind a n else 0
 
--- what is told of a kind at the step after t others: how often it happens there in n steps, where it happens in this step and in none before
+-- what is told of a kind at the step after t others: how often it happens there in n steps, where it happens in this step and in none
+-- before
 unfoldable pub told : Named → Scenario → ℕ → ℕ → Kind → ℕ
 told named scenario n t kind =
     if happens named scenario kind (seen scenario t) then times_from named scenario kind (here scenario (run scenario t)) t n else 0
@@ -84,7 +87,8 @@ note_line kind what number cycles count =
 -- its object
 unfoldable pub note_object : Kind → List ℕ → ℕ → ℕ → ℕ → List ℕ
 note_object kind what number cycles count =
-    codes "{\"kind\":\"" ++ (kind_word kind ++ (codes "\"" ++ (what ++ (codes ",\"step\":" ++ (decimal number ++ (codes ",\"cycles\":" ++ (decimal cycles
+    codes "{\"kind\":\"" ++ (kind_word kind ++ (codes "\""
+    ++ (what ++ (codes ",\"step\":" ++ (decimal number ++ (codes ",\"cycles\":" ++ (decimal cycles
     ++ (codes ",\"count\":" ++ (decimal count ++ codes "}\n")))))))))
 
 abbrev pub note_in : Notation → Kind → List ℕ → ℕ → ℕ → ℕ → List ℕ
@@ -129,11 +133,13 @@ end_text notation inside n = if inside then inside_in notation n else []
 -- which interrupts wait long there, and on which channels words came that no instruction has read
 abbrev pub ending_text : Notation → Scenario → ℕ → List ℕ
 ending_text notation scenario n =
-    (end_text notation (run scenario n).inside n ++ waits_text notation scenario n) ++ unread_text notation (run scenario n).cycles (past scenario n)
+    (end_text notation (run scenario n).inside n ++ waits_text notation scenario n)
+    ++ unread_text notation (run scenario n).cycles (past scenario n)
 
 -- the notes of the first n steps of a run, in the order of their first steps, and of its end
 unfoldable pub notes_text : Notation → SymbolTable → Named → Scenario → ℕ → List ℕ
-notes_text notation symbols named scenario n = flat_map (step_text notation symbols named scenario n) (range_with_len 0 n) ++ ending_text notation scenario n
+notes_text notation symbols named scenario n = flat_map (step_text notation symbols named scenario n) (range_with_len 0 n)
+    ++ ending_text notation scenario n
 
 -- ## What a note says
 -- it happens somewhere in some of the first n steps

@@ -1,5 +1,6 @@
 -- Channels on which words come in a run, and that no instruction reads.
-use Rattle.std.specs.Prelude.{◌≡◌, ℕ, ◌-◌, ◌<◌, ◌&&◌, Bool, true, false, nat_le, not, List, [], ◌++◌, codes, decimal, get_or, Option, Some, None, if◌then◌else◌, ◌↔◌}
+use Rattle.std.specs.Prelude.{◌≡◌, ℕ, ◌-◌, ◌<◌, ◌&&◌, Bool, true, false, nat_le, not, List, [], ◌++◌, codes, decimal, get_or, Option, Some}
+use Rattle.std.specs.Prelude.{None, if◌then◌else◌, ◌↔◌}
 use Rattle.std.specs.List.{flat_map, range_with_len}
 use Rattle.words.specs.Numerals.{octal_text}
 use Rattle.json_text.specs.declared.notation.Notation.{Notation}
@@ -18,7 +19,8 @@ unfoldable pub unread_line : ℕ → ℕ → List ℕ
 unread_line c since = codes "NOTE UNREAD CHAN " ++ octal_text 3 c ++ codes " CYCLES " ++ decimal since ++ codes "\n"
 
 unfoldable pub unread_object : ℕ → ℕ → List ℕ
-unread_object c since = codes "{\"kind\":\"UNREAD\",\"channel\":\"" ++ octal_text 3 c ++ codes "\",\"cycles\":" ++ decimal since ++ codes "}\n"
+unread_object c since = codes "{\"kind\":\"UNREAD\",\"channel\":\"" ++ octal_text 3 c ++ codes "\",\"cycles\":" ++ decimal since
+    ++ codes "}\n"
 
 abbrev pub unread_in : Notation → ℕ → ℕ → List ℕ
 unread_in Text c since = unread_line c since

@@ -1,5 +1,6 @@
 -- Interrupts that are asked for while a run goes on, and are not entered.
-use Rattle.std.specs.Prelude.{◌≡◌, ℕ, zero, suc, ◌+◌, ◌-◌, ◌≤◌, Bool, true, false, nat_le, List, ◌++◌, codes, decimal, get_or, set, length, Option, Some, None, is_some, unwrap_or, if◌then◌else◌, ◌↔◌}
+use Rattle.std.specs.Prelude.{◌≡◌, ℕ, zero, suc, ◌+◌, ◌-◌, ◌≤◌, Bool, true, false, nat_le, List, ◌++◌, codes, decimal, get_or, set, length}
+use Rattle.std.specs.Prelude.{Option, Some, None, is_some, unwrap_or, if◌then◌else◌, ◌↔◌}
 use Rattle.std.specs.List.{flat_map, range_with_len}
 use Rattle.std.specs.Option.{option_map}
 use Rattle.std.specs.FinSet.{contains}
@@ -17,7 +18,8 @@ use Rattle.notes.specs.declared.waits.Moment.{Moment}
 -- the step since which an interrupt is asked for, where it is after n steps: it is after that step and after each up to the last
 unfoldable pub waits_since : Scenario → ℕ → ℕ → Option ℕ
 waits_since scenario k zero = None
-waits_since scenario k (suc n) = if contains (run scenario (suc n)).requests k then Some (unwrap_or (waits_since scenario k n) (suc n)) else None
+waits_since scenario k (suc n) = if contains (run scenario (suc n)).requests k
+    then Some (unwrap_or (waits_since scenario k n) (suc n)) else None
 
 -- the end of a step: its number, and the cycles after it
 abbrev pub moment_of : Scenario → ℕ → Moment
@@ -40,7 +42,8 @@ wait_line k m =
 -- its object
 unfoldable pub wait_object : ℕ → Moment → List ℕ
 wait_object k m =
-    codes "{\"kind\":\"WAITING\",\"interrupt\":\"" ++ (interrupt_name k ++ (codes "\",\"step\":" ++ (decimal m.step ++ (codes ",\"cycles\":" ++ (decimal m.cycles ++ codes "}\n")))))
+    codes "{\"kind\":\"WAITING\",\"interrupt\":\""
+    ++ (interrupt_name k ++ (codes "\",\"step\":" ++ (decimal m.step ++ (codes ",\"cycles\":" ++ (decimal m.cycles ++ codes "}\n")))))
 
 abbrev pub wait_in : Notation → ℕ → Moment → List ℕ
 wait_in Text k m = wait_line k m
@@ -76,7 +79,8 @@ asked_by (Some k) m waits = asked_at k m waits
 
 -- after a step: an input may ask, an entry withdraws
 abbrev pub waits_after : State → NextStep → ℕ → Waits → Waits
-waits_after s (Takes input) number waits = asked_by (interrupt_asked s input) (record { step = number; cycles = s.cycles + input_cycles input }) waits
+waits_after s (Takes input) number waits = asked_by (interrupt_asked s input)
+    (record { step = number; cycles = s.cycles + input_cycles input }) waits
 waits_after s (Enters k) number waits = set waits k None
 waits_after s (Executes f) number waits = waits
 
@@ -104,7 +108,8 @@ pub record LongWait (scenario : Scenario) (k n : ℕ) : Type 0 where
 abbrev pub WaitsAreExact : Type 0
 WaitsAreExact = (scenario : Scenario) (k n : ℕ) → (waits_long scenario k n ≡ true) ↔ LongWait scenario k n
 
--- an interrupt is asked for since a moment: after its step, with so many cycles, and after each later one of n, and not after the step before
+-- an interrupt is asked for since a moment: after its step, with so many cycles, and after each later one of n, and not after the step
+-- before
 pub record IsAskedSince (scenario : Scenario) (k n : ℕ) (m : Moment) : Type 0 where
   pub within : m.step ≤ n
   pub asked : (u : ℕ) → m.step ≤ u → u ≤ n → contains (run scenario u).requests k ≡ true

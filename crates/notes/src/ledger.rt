@@ -35,7 +35,8 @@ impl Ledger {
         Ok(Ledger { counts })
     }
 
-    /// Counts once more at the number of an account, where something happens, and answers whether that is the first time.
+    /// Counts once more at the number of an account, where something happens, and answers whether that is the first
+    /// time.
     pub(crate) fn count(&mut self, number: usize, happens: bool) -> bool
         requires within { number < account_count }
         requires small { get_or self.old number 0 ≤ 2 ^ 62 }

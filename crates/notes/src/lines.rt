@@ -3,7 +3,8 @@
 ghost use Rattle.std.specs.Prelude.{◌≡◌, ◌+◌, ◌≤◌, ◌++◌, codes, decimal, length};
 ghost use Rattle.arrayvec.specs.ArrayVec.{array_vec_len};
 ghost use Rattle.notes.specs.Counted.{told_of};
-ghost use Rattle.notes.specs.RunNotes.{end_text, inside_in, kind_field, kinds_text, note_in, note_line, told_line, what_in};
+ghost use Rattle.notes.specs.RunNotes.{end_text, inside_in, kind_field, kinds_text, note_in, note_line, told_line};
+ghost use Rattle.notes.specs.RunNotes.{what_in};
 ghost use Rattle.notes.specs.Waits.{kept_text, wait_in, wait_line, wait_text};
 ghost use Rattle.cpu.specs.NextStep.{next_step};
 ghost use Rattle.cpu.specs.State.{FitsRun};
@@ -56,7 +57,8 @@ pub(crate) fn what_in(
     machine: &Machine,
 ) -> What
     requires { FitsRun processor.now.scenario machine.now }
-    ensures items { result.items ≡ what_in notation names.now processor.now.scenario.rope machine.now (next_step processor.now.scenario machine.now) }
+    ensures items { result.items ≡ what_in notation names.now processor.now.scenario.rope machine.now
+        (next_step processor.now.scenario machine.now) }
     ensures short { array_vec_len result ≤ 487 }
 {
     let mut what = ArrayVec::new();
@@ -73,7 +75,8 @@ pub(crate) fn what_in(
 /// The lines of what is told at a step.
 pub(crate) fn lines_of(notation: Notation, heading: &Heading, told: &Told) -> Lines
     requires { array_vec_len heading.now.what ≤ 487 }
-    ensures { result.items ≡ kinds_text notation heading.now.what.items heading.now.number heading.now.cycles (told_of told.now) }
+    ensures { result.items ≡ kinds_text notation heading.now.what.items heading.now.number heading.now.cycles
+        (told_of told.now) }
 {
     let mut lines = ArrayVec::new();
     push_line(
@@ -129,7 +132,8 @@ pub(crate) fn lines_of(notation: Notation, heading: &Heading, told: &Told) -> Li
 fn push_line(notation: Notation, lines: &mut Lines, heading: &Heading, kind: Kind, count: u64)
     requires what { array_vec_len heading.now.what ≤ 487 }
     requires room { array_vec_len lines.old ≤ 5760 }
-    ensures items { lines.new.items ≡ lines.old.items ++ told_line notation kind heading.now.what.items heading.now.number heading.now.cycles count }
+    ensures items { lines.new.items ≡ lines.old.items
+        ++ told_line notation kind heading.now.what.items heading.now.number heading.now.cycles count }
     ensures short { array_vec_len lines.new ≤ array_vec_len lines.old + 640 }
 {
     if count == 0 {

@@ -43,7 +43,16 @@ impl Model for Notebook {
 
     ghost Value = { Book };
 
-    ghost view = { λ n. record { named = n.named; counts = n.quotients ∷ n.skips ∷ n.no_words ∷ n.in_erasable ∷ n.no_handlers ∷ n.other_banks ∷ n.not_kept ∷ n.minus_zeros ∷ n.overwritten ∷ n.shared ∷ []; waits = n.waits; past = n.past; steps = n.steps; last = n.last } };
+    ghost view = { λ n. record {
+      named = n.named;
+      counts = n.quotients ∷ n.skips ∷ n.no_words ∷ n.in_erasable
+          ∷ n.no_handlers ∷ n.other_banks ∷ n.not_kept ∷ n.minus_zeros ∷ n.overwritten ∷ n.shared
+          ∷ [];
+      waits = n.waits;
+      past = n.past;
+      steps = n.steps;
+      last = n.last;
+    } };
 }
 
 /// How often each kind happens that is told at a step: 0 of what is not told there.
@@ -261,7 +270,9 @@ fn is_some(
     overwritten: bool,
     shared: bool,
 ) -> bool
-    ensures { result ≡ (quotient || (skip || (no_word || (in_erasable || (no_handler || (other_bank || (not_kept || (minus_zero || (overwritten || shared))))))))) }
+    ensures { result ≡ (quotient || (skip ||
+        (no_word || (in_erasable || (no_handler
+        || (other_bank || (not_kept || (minus_zero || (overwritten || shared))))))))) }
 {
     quotient
         || skip

@@ -12,8 +12,8 @@ use yayul::NamedPlaces;
 /// How many words an erasable bank holds.
 const BANK_SIZE: u16 = 0o400;
 
-/// Whether an instruction reaches another bank than that of the erasable place that its source names. What INDEX added something to
-/// is passed over, and so is a word that waited.
+/// Whether an instruction reaches another bank than that of the erasable place that its source names. What INDEX added
+/// something to is passed over, and so is a word that waited.
 pub(crate) fn reaches_other(named: &NamedPlaces, machine: &Machine, fetched: &Fetched) -> bool
     ensures { result ≡ reaches_other named.now machine.now fetched.now }
 {

@@ -1,5 +1,6 @@
-//! What the steps before have left: what the interrupt that was entered last has found, whether the words of keys were read, which
-//! interrupts were entered, by the places of which the program itself came, on which channels words came, and which were read.
+//! What the steps before have left: what the interrupt that was entered last has found, whether the words of keys were
+//! read, which interrupts were entered, by the places of which the program itself came, on which channels words came,
+//! and which were read.
 
 ghost use Rattle.std.specs.Prelude.{◌≡◌};
 ghost use Rattle.notes.specs.Past.{goes_back, is_as, is_lost, kept_by, loses, no_past, past_by};
@@ -29,9 +30,10 @@ pub(crate) struct Kept {
     pub(crate) back: u16,
 }
 
-/// What the steps before have left: what the interrupt that was entered last has found; whether the last word of each keyboard is
-/// unread; of each interrupt, by its number, whether it was entered, and whether the program came by its place outside of one; and of
-/// each channel the cycles before the first word there, and whether some instruction has read it.
+/// What the steps before have left: what the interrupt that was entered last has found; whether the last word of each
+/// keyboard is unread; of each interrupt, by its number, whether it was entered, and whether the program came by its
+/// place outside of one; and of each channel the cycles before the first word there, and whether some instruction has
+/// read it.
 #[derive(Clone, Copy, Drop)]
 pub(crate) struct Past {
     pub(crate) entry: Option<Kept>,

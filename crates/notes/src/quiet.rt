@@ -28,7 +28,8 @@ pub(crate) fn is_quiet_step(
     }
 }
 
-/// Whether no note is made of an instruction: it stands in fixed memory, is no extracode, and is none of the few that are told.
+/// Whether no note is made of an instruction: it stands in fixed memory, is no extracode, and is none of the few that
+/// are told.
 fn is_quiet(
     named: &NamedPlaces,
     processor: &Processor,

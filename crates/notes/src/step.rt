@@ -2,7 +2,8 @@
 
 ghost use Rattle.std.specs.Prelude.{◌≡◌, ◌*◌, ◌&&◌, ◌==◌, not};
 ghost use Rattle.rope.specs.Places.{stands};
-ghost use Rattle.notes.specs.Notes.{divides, happens_in, has_word, is_code_in_erasable, is_too_great, is_z, names_z, skips};
+ghost use Rattle.notes.specs.Notes.{divides, happens_in, has_word, is_code_in_erasable, is_too_great, is_z, names_z};
+ghost use Rattle.notes.specs.Notes.{skips};
 ghost use Rattle.notes.specs.RunNotes.{where_of};
 
 use crate::division::quotient_fits;

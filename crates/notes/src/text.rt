@@ -21,11 +21,13 @@ use trace::PlaceNames;
 use words::{Write, WriteFailed, write_all};
 
 /// Writes the notes of the first steps of a run, whose steps are made again: as text as
-/// `NOTE QUOTIENT   02,4004  10100  DV D               STEP 5 CYCLES 13 TIMES 1`: the kind, what its first step is, that step and
-/// the cycles after it, and how often; as JSON as an object with the same. They stand in the order of their first steps.
+/// `NOTE QUOTIENT   02,4004  10100  DV D               STEP 5 CYCLES 13 TIMES 1`: the kind, what its first step is,
+/// that step and the cycles after it, and how often; as JSON as an object with the same. They stand in the order of
+/// their first steps.
 ///
-/// What is told is taken from the notebook, and what is told of the run's end from the machine that stands there. After a failure a
-/// beginning of the text was written. Only steps up to the last are made in which something happened for the first time.
+/// What is told is taken from the notebook, and what is told of the run's end from the machine that stands there. After
+/// a failure a beginning of the text was written. Only steps up to the last are made in which something happened for
+/// the first time.
 pub fn write_notes<W: Write>(
     notation: Notation,
     notebook: &mut Notebook,
@@ -38,7 +40,8 @@ pub fn write_notes<W: Write>(
     requires few { steps ≤ 2 ^ 40 }
     requires end { end.now ≡ run processor.old.scenario steps }
     requires counted { Counted notebook.old.named processor.old.scenario steps notebook.old }
-    ensures written { W.told ≡ true → Writes (W.written out.old) (W.written out.new) (notes_text notation names.now notebook.old.named processor.old.scenario steps) result }
+    ensures written { W.told ≡ true → Writes (W.written out.old) (W.written out.new)
+        (notes_text notation names.now notebook.old.named processor.old.scenario steps) result }
     ensures failures { W.failures out.new ≡ failures_after (W.failures out.old) result }
     ensures meter { processor.new.meter ≤ processor.old.meter + steps }
 {
@@ -72,7 +75,8 @@ fn write_ending<W: Write>(
     out: &mut W,
 ) -> Result<(), WriteFailed>
     ensures written { W.told ≡ true → Writes (W.written out.old) (W.written out.new)
-        ((end_text notation end.now.inside steps ++ kept_text notation end.now.cycles waits.now) ++ unread_text notation end.now.cycles past.now) result }
+        ((end_text notation end.now.inside steps ++ kept_text notation end.now.cycles waits.now)
+        ++ unread_text notation end.now.cycles past.now) result }
     ensures failures { W.failures out.new ≡ failures_after (W.failures out.old) result }
 {
     let ending = end_lines(notation, end.inside(), steps, waits, end.cycles());
@@ -96,7 +100,8 @@ fn write_step<W: Write>(
     ensures state { machine.new ≡ (next processor.old.scenario machine.old).0 }
     ensures takes { Takes processor.old.scenario machine.old notebook.old notebook.new }
     ensures written { W.told ≡ true → Writes (W.written out.old) (W.written out.new)
-        (text_after notation names.now processor.old.scenario number machine.old (taken_at processor.old.scenario machine.old notebook.old)) result }
+        (text_after notation names.now processor.old.scenario number machine.old
+        (taken_at processor.old.scenario machine.old notebook.old)) result }
     ensures failures { W.failures out.new ≡ failures_after (W.failures out.old) result }
     ensures meter { processor.new.meter ≤ processor.old.meter + 1 }
 {

@@ -46,15 +46,16 @@ fn is_used_otherwise(channel: Chan) -> bool
     channel == Chan::L || channel == Chan::Q || channel == Chan::SUPERBANK
 }
 
-/// Writes the lines of the channels on which words came long ago, as `NOTE UNREAD CHAN 013 CYCLES 20`, and that no instruction has read.
-/// After a failure a beginning of them was written.
+/// Writes the lines of the channels on which words came long ago, as `NOTE UNREAD CHAN 013 CYCLES 20`, and that no
+/// instruction has read. After a failure a beginning of them was written.
 pub(crate) fn write_unread<W: Write>(
     notation: Notation,
     past: &Past,
     cycles: u64,
     out: &mut W,
 ) -> Result<(), WriteFailed>
-    ensures written { W.told ≡ true → Writes (W.written out.old) (W.written out.new) (unread_text notation cycles past.now) result }
+    ensures written { W.told ≡ true → Writes (W.written out.old) (W.written out.new)
+        (unread_text notation cycles past.now) result }
     ensures failures { W.failures out.new ≡ failures_after (W.failures out.old) result }
 {
     for number in 0..CHANNELS {
@@ -72,7 +73,8 @@ fn write_channel<W: Write>(
     out: &mut W,
 ) -> Result<(), WriteFailed>
     requires { number < channels }
-    ensures written { W.told ≡ true → Writes (W.written out.old) (W.written out.new) (unread_of notation cycles past.now number) result }
+    ensures written { W.told ≡ true → Writes (W.written out.old) (W.written out.new)
+        (unread_of notation cycles past.now number) result }
     ensures failures { W.failures out.new ≡ failures_after (W.failures out.old) result }
 {
     if let Some(since) = past.came[number]

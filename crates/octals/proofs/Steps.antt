@@ -12,7 +12,8 @@ pub puts_refused : (s : State) (all more : List (List ℕ)) (field : List ℕ) �
 unfolding put_all
 puts_refused s all more field e none = rw (e, none) refl
 
-pub puts_next : (s t : State) (all more : List (List ℕ)) (field : List ℕ) → all ≡ field ∷ more → put s field ≡ Some t → put_all s all ≡ put_all t more
+pub puts_next : (s t : State) (all more : List (List ℕ)) (field : List ℕ) → all ≡ field ∷ more → put s field ≡ Some t
+    → put_all s all ≡ put_all t more
 unfolding put_all
 puts_next s t all more field e some = rw (e, some) refl
 
@@ -22,10 +23,12 @@ unfolding read_lines
 reads_none n s all e = rw e refl
 
 -- one line more, which is not taken, or is
-pub reads_refused : (n : ℕ) (s : State) (all more : List (List ℕ)) (line : List ℕ) → all ≡ line ∷ more → take_line s line ≡ None → read_lines n s all ≡ Err (n + 1)
+pub reads_refused : (n : ℕ) (s : State) (all more : List (List ℕ)) (line : List ℕ) → all ≡ line ∷ more → take_line s line ≡ None
+    → read_lines n s all ≡ Err (n + 1)
 unfolding read_lines
 reads_refused n s all more line e none = rw (e, none) refl
 
-pub reads_next : (n : ℕ) (s t : State) (all more : List (List ℕ)) (line : List ℕ) → all ≡ line ∷ more → take_line s line ≡ Some t → read_lines n s all ≡ read_lines (n + 1) t more
+pub reads_next : (n : ℕ) (s t : State) (all more : List (List ℕ)) (line : List ℕ) → all ≡ line ∷ more → take_line s line ≡ Some t
+    → read_lines n s all ≡ read_lines (n + 1) t more
 unfolding read_lines
 reads_next n s t all more line e some = rw (e, some) refl

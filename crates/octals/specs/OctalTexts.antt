@@ -1,5 +1,6 @@
 -- What words a text of octal words has.
-use Rattle.std.specs.Prelude.{◌≡◌, ℕ, ◌+◌, ◌-◌, ◌==◌, ◌&&◌, Bool, nat_le, nat_lt, not, List, [], ◌∷◌, length, take, drop, slice_index_or, Option, Some, None, Result, Ok, Err, if◌then◌else◌}
+use Rattle.std.specs.Prelude.{◌≡◌, ℕ, ◌+◌, ◌-◌, ◌==◌, ◌&&◌, Bool, nat_le, nat_lt, not, List, [], ◌∷◌, length, take, drop, slice_index_or}
+use Rattle.std.specs.Prelude.{Option, Some, None, Result, Ok, Err, if◌then◌else◌}
 use Rattle.std.specs.List.{position_or_len}
 use Rattle.rope.specs.Places.{Words, banks, bank_words, no_words, stands, with_word}
 use Rattle.rope.specs.Image.{image}
@@ -36,7 +37,8 @@ fields line = texts (runs (said line))
 -- whether a field begins with BANK=
 abbrev pub names_bank : List ℕ → Bool
 names_bank field =
-    nat_le 5 (length field) && (slice_index_or field 0 0 == 0o102 && (slice_index_or field 1 0 == 0o101 && (slice_index_or field 2 0 == 0o116
+    nat_le 5 (length field) && (slice_index_or field 0 0 == 0o102
+    && (slice_index_or field 1 0 == 0o101 && (slice_index_or field 2 0 == 0o116
     && (slice_index_or field 3 0 == 0o113 && slice_index_or field 4 0 == 0o75))))
 
 -- whether a word may be put at a place: one of the 36 banks where none stands

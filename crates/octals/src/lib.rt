@@ -1,11 +1,14 @@
 //! Texts of octal words, in place of images of ropes.
 #![tactic(auto)]
 
-ghost use Rattle.std.specs.Prelude.{ℕ, Option, true, ◌≡◌, ◌∷◌, ◌≤◌, ◌<◌, ◌^◌, [], Some, None, Ok, Err, IfOk, IfErr, MatchOption, length, drop};
+ghost use Rattle.std.specs.Prelude.{ℕ, Option, true, ◌≡◌, ◌∷◌, ◌≤◌, ◌<◌, ◌^◌, [], Some, None, Ok, Err, IfOk, IfErr};
+ghost use Rattle.std.specs.Prelude.{MatchOption, length, drop};
 ghost use Rattle.std.specs.Option.{SomeIff};
 ghost use Rattle.agc_text.specs.Fields.{runs, texts};
 ghost use Rattle.rope.specs.Image.{image};
-ghost use Rattle.octals.specs.OctalTexts.{GivesImage, before_comment, before_return, begin, begin_bank, is_free, names_bank, octal_words, put, put_all, put_word, said, state, take_fields, take_line, word_of};
+ghost use Rattle.octals.specs.OctalTexts.{GivesImage, before_comment, before_return, begin, begin_bank, is_free};
+ghost use Rattle.octals.specs.OctalTexts.{names_bank, octal_words, put, put_all, put_word, said, state, take_fields};
+ghost use Rattle.octals.specs.OctalTexts.{take_line, word_of};
 
 use agc_text::{length_before_byte, next_line, octal, split_field};
 use rope::{Rope, RopeFault, Version};
@@ -25,8 +28,9 @@ const TITLE: usize = 5;
 /// The bank to which the next word belongs, and how many of its words were read.
 type Next = (Option<Bank>, u16);
 
-/// The words of a text: lines `BANK=` with the number of a bank, in octal, and below each the words of the bank from its first place on, five octal
-/// digits each, as many in a line as there are. A semicolon begins a comment, a line may be empty, and one may end with a carriage return. Inside is an
+/// The words of a text: lines `BANK=` with the number of a bank, in octal, and below each the words of the bank from
+/// its first place on, five octal digits each, as many in a line as there are. A semicolon begins a comment, a line may
+/// be empty, and one may end with a carriage return. Inside is an
 /// `Err` with the number of the first line of another form.
 #[tactic(auto, using(crate::proofs::Steps::reads_none, crate::proofs::Steps::reads_refused, crate::proofs::Steps::reads_next))]
 pub fn octal_words(alloc: Global, text: &[u8]) -> Result<Result<Rope, u64>, RopeFault>
@@ -47,7 +51,8 @@ pub fn octal_words(alloc: Global, text: &[u8]) -> Result<Result<Rope, u64>, Rope
     Ok(Ok(words))
 }
 
-/// The bytes of an image of a version of the words of a text, or the number of the first line of another form than `octal_words` takes.
+/// The bytes of an image of a version of the words of a text, or the number of the first line of another form than
+/// `octal_words` takes.
 pub fn octal_image(
     alloc: Global,
     text: &[u8],
@@ -77,7 +82,8 @@ fn image_of(alloc: Global, words: &Rope, version: Version) -> Result<Vec<u8>, Ro
     Ok(bytes)
 }
 
-/// Whether a text begins as one of octal words does: its first line that is neither empty nor a comment names a bank, or begins with a word.
+/// Whether a text begins as one of octal words does: its first line that is neither empty nor a comment names a bank,
+/// or begins with a word.
 pub fn is_beginning(text: &[u8]) -> bool {
     let mut rest = text;
     while let Some((line, following)) = next_line(rest) {
@@ -129,7 +135,8 @@ fn before_return(text: &[u8]) -> &[u8]
 fn take_fields(words: &mut Rope, next: Next, text: &[u8]) -> Option<Next>
     ensures { MatchOption result
         (take_fields (state words.old next.0 next.1) (texts (runs text.now)) ≡ None)
-        (λ after. take_fields (state words.old next.0 next.1) (texts (runs text.now)) ≡ Some (state words.new after.0 after.1)) }
+        (λ after. take_fields (state words.old next.0 next.1) (texts (runs text.now))
+        ≡ Some (state words.new after.0 after.1)) }
 {
     match split_field(text) {
         Some((field, rest)) => {
@@ -161,7 +168,9 @@ fn begin(words: &Rope, field: &[u8], rest: &[u8]) -> Option<Next>
     requires { 5 ≤ length field.now }
     ensures { MatchOption result
         ((bank : Option ℕ) (count : ℕ) → begin (state words.now bank count) field.now (texts (runs rest.now)) ≡ None)
-        (λ after. (bank : Option ℕ) (count : ℕ) → begin (state words.now bank count) field.now (texts (runs rest.now)) ≡ Some (state words.now after.0 after.1)) }
+        (λ after. (bank : Option ℕ) (count : ℕ)
+        → begin (state words.now bank count) field.now (texts (runs rest.now))
+        ≡ Some (state words.now after.0 after.1)) }
 {
     match split_field(rest) {
         Some(_) => None,
@@ -173,7 +182,8 @@ fn begin(words: &Rope, field: &[u8], rest: &[u8]) -> Option<Next>
 fn begin_bank(words: &Rope, number: Option<u64>) -> Option<Next>
     ensures { MatchOption result
         ((bank : Option ℕ) (count : ℕ) → begin_bank (state words.now bank count) number ≡ None)
-        (λ after. (bank : Option ℕ) (count : ℕ) → begin_bank (state words.now bank count) number ≡ Some (state words.now after.0 after.1)) }
+        (λ after. (bank : Option ℕ) (count : ℕ)
+        → begin_bank (state words.now bank count) number ≡ Some (state words.now after.0 after.1)) }
 {
     let bank = bank_of(number?)?;
     if is_free(words, bank, 0) {
@@ -212,7 +222,8 @@ fn is_free(words: &Rope, bank: Bank, offset: u16) -> bool
 fn put_all(words: &mut Rope, next: Next, text: &[u8]) -> Option<Next>
     ensures { MatchOption result
         (put_all (state words.old next.0 next.1) (texts (runs text.now)) ≡ None)
-        (λ after. put_all (state words.old next.0 next.1) (texts (runs text.now)) ≡ Some (state words.new after.0 after.1)) }
+        (λ after. put_all (state words.old next.0 next.1) (texts (runs text.now))
+        ≡ Some (state words.new after.0 after.1)) }
 {
     let mut next = next;
     let mut rest = text;
@@ -242,7 +253,8 @@ fn put(words: &mut Rope, next: Next, field: &[u8]) -> Option<Next>
 fn put_word(words: &mut Rope, bank: Bank, count: u16, word: Word) -> Option<Next>
     ensures { MatchOption result
         (put_word (state words.old (Some bank) count) (Some word) (Some bank) ≡ None)
-        (λ after. put_word (state words.old (Some bank) count) (Some word) (Some bank) ≡ Some (state words.new after.0 after.1)) }
+        (λ after. put_word (state words.old (Some bank) count) (Some word) (Some bank)
+        ≡ Some (state words.new after.0 after.1)) }
 {
     if !is_free(words, bank, count) {
         return None;

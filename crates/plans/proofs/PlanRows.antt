@@ -10,7 +10,8 @@ use Rattle.plans.specs.declared.plan.Plan.{Plan}
 use Rattle.plans.specs.declared.plan.Plan.TheVariants.{Align, Carry, TooManySteps}
 use Rattle.plans.specs.declared.plan.Shown.TheVariants.{Instructions, Named, NamedSource, Source, Octals}
 use Rattle.plans.specs.declared.plan.Image.{Image}
-use Rattle.plans.specs.Plans.{aligned, bank_of, first_of, form_of, image_of, is_before, language_of, last_of, shown_of, version_of, with_steps}
+use Rattle.plans.specs.Plans.{aligned, bank_of, first_of, form_of, image_of, is_before, language_of, last_of, shown_of, version_of}
+use Rattle.plans.specs.Plans.{with_steps}
 
 -- --form hardware, --parity ignore, both and none
 plain : form_of false false ≡ AsWritten

@@ -34,7 +34,10 @@ use Rattle.arguments.specs.declared.SumsArguments.{SumsArguments}
 use Rattle.plans.specs.declared.plan.Plan.{Plan}
 use Rattle.plans.specs.declared.plan.Verdicts.{Verdicts}
 use Rattle.plans.specs.declared.plan.Verdicts.TheVariants.{Lines, Tap, Junit}
-use Rattle.plans.specs.declared.plan.Plan.TheVariants.{Assemble, AssembleWithSums, Run, Trace, Cover, Reach, ReachRun, Debug, DebugExtended, Check, Explain, Upgrade, Show, Compare, CompareOnly, Sum, SumBothForms, ShowParity, ShowDamages, ShowMended, NoSteps, TooManySteps, Access, Delays, Differ, Align, Carry, Find, Expect, WhatIf}
+use Rattle.plans.specs.declared.plan.Plan.TheVariants.{Assemble, AssembleWithSums, Run, Trace, Cover, Reach, ReachRun, Debug, DebugExtended}
+use Rattle.plans.specs.declared.plan.Plan.TheVariants.{Check, Explain, Upgrade, Show, Compare, CompareOnly, Sum, SumBothForms, ShowParity}
+use Rattle.plans.specs.declared.plan.Plan.TheVariants.{ShowDamages, ShowMended, NoSteps, TooManySteps, Access, Delays, Differ, Align, Carry}
+use Rattle.plans.specs.declared.plan.Plan.TheVariants.{Find, Expect, WhatIf}
 use Rattle.arguments.specs.declared.AlignArguments.{AlignArguments}
 use Rattle.arguments.specs.declared.FindArguments.{FindArguments}
 use Rattle.plans.specs.declared.plan.Assembly.{Assembly}
@@ -80,7 +83,8 @@ image_of a = record {
 
 -- what the file of a program is: with --image an image, else a source
 abbrev pub kind_of : Bool → Bool → ImageArguments → Kind
-kind_of is_image is_flight file = if is_image then kind.Image (version_of file.is_parity_ignored file.version) else kind.Source (language_of is_flight)
+kind_of is_image is_flight file = if is_image then kind.Image (version_of file.is_parity_ignored file.version) else kind.Source
+    (language_of is_flight)
 
 -- a program that is run
 abbrev pub program_of : ProgramArguments → Program

@@ -1,4 +1,5 @@
-//! What is to be done where a command line gives some arguments: with which files, in which forms, in which language, by which engine.
+//! What is to be done where a command line gives some arguments: with which files, in which forms, in which language,
+//! by which engine.
 #![tactic(auto)]
 
 mod making;

@@ -28,41 +28,50 @@ unfolding executed
 executed_more scenario n = rw (add-one n) refl
 
 -- a step more
-step_more : (scenario : Scenario) (n : ℕ) (old new : Came) → HasExecuted scenario n old → ((q : Spot) → Among q (executed_at scenario n) → IsSpot q)
-    → new.marks ≡ marks_all old.marks (executed_at scenario n) → new.order ≡ order_all old.marks old.order (executed_at scenario n) → HasExecuted scenario (n + 1) new
+step_more : (scenario : Scenario) (n : ℕ) (old new : Came) → HasExecuted scenario n old
+    → ((q : Spot) → Among q (executed_at scenario n) → IsSpot q)
+    → new.marks ≡ marks_all old.marks (executed_at scenario n) → new.order ≡ order_all old.marks old.order (executed_at scenario n)
+    → HasExecuted scenario (n + 1) new
 step_more scenario n old new h are marks order =
     let come = come_to_all old.marks old.order (executed_at scenario n) h.agree are in
     record {
-      agree = subst (λ ms. Agree ms new.order) (sym marks) (subst (λ ps. Agree (marks_all old.marks (executed_at scenario n)) ps) (sym order) come.agree);
-      all = λ q g. subst (λ ps. Among q ps) (sym order) (elim (among_either q (executed scenario n) (executed_at scenario n) (subst (λ ps. Among q ps) (executed_more scenario n) g)) [
-        | inl before ↦ come.stays q (h.all q before)
-        | inr here ↦ come.agree.found q (are q here) (come.here q here)
-      ]);
+      agree = subst (λ ms. Agree ms new.order) (sym marks)
+          (subst (λ ps. Agree (marks_all old.marks (executed_at scenario n)) ps) (sym order) come.agree);
+      all = λ q g. subst (λ ps. Among q ps) (sym order)
+          (elim (among_either q (executed scenario n) (executed_at scenario n) (subst (λ ps. Among q ps) (executed_more scenario n) g)) [
+            | inl before ↦ come.stays q (h.all q before)
+            | inr here ↦ come.agree.found q (are q here) (come.here q here)
+          ]);
       only = λ q g. subst (λ ps. Among q ps) (sym (executed_more scenario n)) (elim (come.among q (subst (λ ps. Among q ps) order g)) [
         | inl before ↦ among_left q (executed scenario n) (executed_at scenario n) (h.only q before)
         | inr here ↦ among_right q (executed scenario n) (executed_at scenario n) here
       ]);
     }
 
-pub executed_by : (scenario now : Scenario) (n : ℕ) (s : State) (old new : Came) → now ≡ scenario → s ≡ run scenario n → HasExecuted scenario n old
+pub executed_by : (scenario now : Scenario) (n : ℕ) (s : State) (old new : Came) → now ≡ scenario → s ≡ run scenario n
+    → HasExecuted scenario n old
     → ((q : Spot) → Among q (spots_in (spot_executed s (next_step now s))) → IsSpot q)
-    → new.marks ≡ marks_all old.marks (spots_in (spot_executed s (next_step now s))) → new.order ≡ order_all old.marks old.order (spots_in (spot_executed s (next_step now s)))
+    → new.marks ≡ marks_all old.marks (spots_in (spot_executed s (next_step now s)))
+    → new.order ≡ order_all old.marks old.order (spots_in (spot_executed s (next_step now s)))
     → HasExecuted scenario (n + 1) new
 executed_by scenario now n s old new same from h are marks order =
     step_more scenario n old new h (rw (same, from) at are) (rw (same, from) at marks) (rw (same, from) at order)
 
 -- what is reached from some roots is reached from any that have them
-reached_from : (words : Words) (roots more : List Spot) → ((q : Spot) → Among q roots → Among q more) → (q : Spot) → Reached words roots q → Reached words more q
+reached_from : (words : Words) (roots more : List Spot) → ((q : Spot) → Among q roots → Among q more) → (q : Spot) → Reached words roots q
+    → Reached words more q
 reached_from words roots more has q (Root r root) = Root r (has r root)
 reached_from words roots more has q (Way p r before way) = Way p r (reached_from words roots more has p before) way
 
-pub reached_run : (words : Words) (scenario : Scenario) (n : ℕ) (c : Came) (roots : List Spot) (marks : List Bool) → roots ≡ vectors ++ c.order → AreReached words roots marks
+pub reached_run : (words : Words) (scenario : Scenario) (n : ℕ) (c : Came) (roots : List Spot) (marks : List Bool)
+    → roots ≡ vectors ++ c.order → AreReached words roots marks
     → HasExecuted scenario n c → AreReached words (run_roots scenario n) marks
 reached_run words scenario n c roots marks e reached h =
     record {
       each = λ q i. (
         λ g. reached_from words roots (run_roots scenario n) (λ r root. to r (subst (λ ps. Among r ps) e root)) q ((reached.each q i).0 g),
-        λ g. (reached.each q i).1 (reached_from words (run_roots scenario n) roots (λ r root. subst (λ ps. Among r ps) (sym e) (back r root)) q g),
+        λ g. (reached.each q i).1 (reached_from words (run_roots scenario n) roots
+            (λ r root. subst (λ ps. Among r ps) (sym e) (back r root)) q g),
       );
     }
   where

@@ -1,5 +1,6 @@
 -- What is reached from some roots is explored.
-use Rattle.std.proofs.Common.{◌≡◌, ℕ, zero, suc, ◌+◌, ◌-◌, ◌*◌, ◌<◌, ◌≤◌, Bool, List, [], ◌∷◌, length, take, get_or, sym, ap, subst, ◌∙◌, inl, inr, arith}
+use Rattle.std.proofs.Common.{◌≡◌, ℕ, zero, suc, ◌+◌, ◌-◌, ◌*◌, ◌<◌, ◌≤◌, Bool, List, [], ◌∷◌, length, take, get_or, sym, ap, subst, ◌∙◌}
+use Rattle.std.proofs.Common.{inl, inr, arith}
 use Rattle.std.proofs.lemmas.List.{take_all}
 use Rattle.rope.specs.Places.{Words}
 use Rattle.reach.specs.declared.spot.Spot.{Spot}
@@ -24,7 +25,8 @@ explored_first words roots none e i =
     }
 
 -- those are come to, to which the next one leads
-pub explored_more : (words : Words) (roots : List Spot) (marks : List Bool) (order : List Spot) (done : ℕ) (p : Spot) → Explored words roots marks order done → done < length order
+pub explored_more : (words : Words) (roots : List Spot) (marks : List Bool) (order : List Spot) (done : ℕ) (p : Spot)
+    → Explored words roots marks order done → done < length order
     → p ≡ get_or order done p → ((q : Spot) → Among q (leads words p) → IsSpot q)
     → Explored words roots (marks_all marks (leads words p)) (order_all marks order (leads words p)) (done + 1)
 explored_more words roots marks order done p x lt is i =
@@ -37,7 +39,8 @@ explored_more words roots marks order done p x lt is i =
       rooted = λ q h. all.stays q (x.rooted q h);
       closed = λ r h q g. elim (among_taken r p order done lt (subst (λ ys. Among r ys) front h)) [
         | inl before ↦ all.stays q (x.closed r before q g)
-        | inr last ↦ (let way : Among q (leads words p) = subst (λ (s : Spot). Among q (leads words s)) (last_is r last) g in all.agree.found q (i q way) (all.here q way))
+        | inr last ↦ (let way : Among q (leads words p) = subst (λ (s : Spot). Among q (leads words s)) (last_is r last) g in
+            all.agree.found q (i q way) (all.here q way))
       ];
       within = omega (arith, lt, all.longer);
     }
@@ -51,38 +54,51 @@ explored_more words roots marks order done p x lt is i =
     last_is r e = cc
 
 -- where none is left each is in order that is reached
-stands : (words : Words) (roots : List Spot) (marks : List Bool) (order : List Spot) (done : ℕ) → Explored words roots marks order done → take done order ≡ order
+stands : (words : Words) (roots : List Spot) (marks : List Bool) (order : List Spot) (done : ℕ) → Explored words roots marks order done
+    → take done order ≡ order
     → (q : Spot) → Reached words roots q → Among q order
 stands words roots marks order done x whole _ (Root q root) = x.rooted q root
 stands words roots marks order done x whole _ (Way p q before way) =
     x.closed p (subst (λ ys. Among p ys) (sym whole) (stands words roots marks order done x whole p before)) q way
 
 -- and all is marked that is reached, and nothing else
-pub explored_all : (words : Words) (roots : List Spot) (marks : List Bool) (order : List Spot) (done : ℕ) → Explored words roots marks order done → length order ≤ done
+pub explored_all : (words : Words) (roots : List Spot) (marks : List Bool) (order : List Spot) (done : ℕ)
+    → Explored words roots marks order done → length order ≤ done
     → AreReached words roots marks
 explored_all words roots marks order done x le = record {
-  each = λ q i. (λ h. x.reached q (x.agree.found q i h), λ r. x.agree.marked q (stands words roots marks order done x (take_all done order le) q r));
+  each = λ q i. (
+    λ h. x.reached q (x.agree.found q i h),
+    λ r. x.agree.marked q
+        (stands words roots marks order done x (take_all done order le) q r),
+  );
 }
 
 -- the same, and that what is left to do falls, by what calls have left
-pub explored_first_by : (words : Words) (roots : List Spot) (none marks : List Bool) (nothing order : List Spot) → IsNothing none → nothing ≡ [] → marks ≡ marks_all none roots
+pub explored_first_by : (words : Words) (roots : List Spot) (none marks : List Bool) (nothing order : List Spot) → IsNothing none
+    → nothing ≡ [] → marks ≡ marks_all none roots
     → order ≡ order_all none nothing roots → ((q : Spot) → Among q roots → IsSpot q) → Explored words roots marks order 0
 explored_first_by words roots none marks nothing order e empty m o i =
     let is : order ≡ order_all none [] roots = o ∙ ap (λ ps. order_all none ps roots) empty in
-    subst (λ ms. Explored words roots ms order 0) (sym m) (subst (λ ps. Explored words roots (marks_all none roots) ps 0) (sym is) (explored_first words roots none e i))
+    subst (λ ms. Explored words roots ms order 0) (sym m)
+    (subst (λ ps. Explored words roots (marks_all none roots) ps 0) (sym is) (explored_first words roots none e i))
 
-pub explored_more_by : (words : Words) (roots : List Spot) (marks m : List Bool) (order o : List Spot) (done : ℕ) (p : Spot) (ways : List Spot) → Explored words roots marks order done
-    → done < length order → p ≡ get_or order done p → ways ≡ leads words p → m ≡ marks_all marks ways → o ≡ order_all marks order ways → ((q : Spot) → Among q ways → IsSpot q)
+pub explored_more_by : (words : Words) (roots : List Spot) (marks m : List Bool) (order o : List Spot) (done : ℕ) (p : Spot)
+    (ways : List Spot) → Explored words roots marks order done
+    → done < length order → p ≡ get_or order done p → ways ≡ leads words p → m ≡ marks_all marks ways → o ≡ order_all marks order ways
+    → ((q : Spot) → Among q ways → IsSpot q)
     → Explored words roots m o (done + 1)
 explored_more_by words roots marks m order o done p ways x lt is w e f i =
     let first : m ≡ marks_all marks (leads words p) = e ∙ ap (marks_all marks) w in
     let second : o ≡ order_all marks order (leads words p) = f ∙ ap (order_all marks order) w in
     let are : (q : Spot) → Among q (leads words p) → IsSpot q = λ q h. i q (subst (λ ps. Among q ps) (sym w) h) in
     subst (λ ms. Explored words roots ms o (done + 1)) (sym first)
-    (subst (λ ps. Explored words roots (marks_all marks (leads words p)) ps (done + 1)) (sym second) (explored_more words roots marks order done p x lt is are))
+    (subst (λ ps. Explored words roots (marks_all marks (leads words p)) ps (done + 1)) (sym second)
+    (explored_more words roots marks order done p x lt is are))
 
-pub less_left_by : (words : Words) (roots : List Spot) (marks m : List Bool) (order o : List Spot) (done : ℕ) (p : Spot) (ways : List Spot) → Explored words roots marks order done
-    → done < length order → p ≡ get_or order done p → ways ≡ leads words p → m ≡ marks_all marks ways → o ≡ order_all marks order ways → ((q : Spot) → Among q ways → IsSpot q)
+pub less_left_by : (words : Words) (roots : List Spot) (marks m : List Bool) (order o : List Spot) (done : ℕ) (p : Spot) (ways : List Spot)
+    → Explored words roots marks order done
+    → done < length order → p ≡ get_or order done p → ways ≡ leads words p → m ≡ marks_all marks ways → o ≡ order_all marks order ways
+    → ((q : Spot) → Among q ways → IsSpot q)
     → 2 * unmarked m + length o - (done + 1) < 2 * unmarked marks + length order - done
 less_left_by words roots marks m order o done p ways x lt is w e f i =
     let all = come_to_all marks order ways x.agree i in

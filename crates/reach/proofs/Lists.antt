@@ -1,5 +1,6 @@
 -- What stands in lists of spots.
-use Rattle.std.proofs.Common.{◌≡◌, ℕ, zero, suc, ◌+◌, ◌<◌, ◌≤◌, ◌⊎◌, List, [], ◌∷◌, ◌++◌, length, take, get_or, refl, inl, inr, arith, subst}
+use Rattle.std.proofs.Common.{◌≡◌, ℕ, zero, suc, ◌+◌, ◌<◌, ◌≤◌, ◌⊎◌, List, [], ◌∷◌, ◌++◌, length, take, get_or, refl, inl, inr, arith}
+use Rattle.std.proofs.Common.{subst}
 use Rattle.std.proofs.lemmas.List.{take_more}
 use Rattle.reach.specs.declared.spot.Spot.{Spot}
 use Rattle.reach.specs.Ways.{Among}
@@ -22,7 +23,8 @@ pub among_one : (q p : Spot) → Among q (p ∷ []) → q ≡ p
 among_one q p (inl here) = here
 among_one q p (inr later) = absurd later
 
-pub among_taken : (q d : Spot) (xs : List Spot) (n : ℕ) → n < length xs → Among q (take (n + 1) xs) → Among q (take n xs) ⊎ (q ≡ get_or xs n d)
+pub among_taken : (q d : Spot) (xs : List Spot) (n : ℕ) → n < length xs → Among q (take (n + 1) xs)
+    → Among q (take n xs) ⊎ (q ≡ get_or xs n d)
 among_taken q d xs n lt h =
     elim (among_either q (take n xs) (get_or xs n d ∷ []) (subst (λ ys. Among q ys) (take_more xs n d lt) h)) [
       | inl before ↦ inl before

@@ -1,5 +1,6 @@
 -- Spots are come to, one after another.
-use Rattle.std.proofs.Common.{◌≡◌, ◌≢◌, ℕ, zero, suc, ◌+◌, ◌*◌, ◌<◌, ◌≤◌, ◌==◌, ◌⊎◌, Bool, true, false, cond, not, List, [], ◌∷◌, ◌++◌, length, take, get_or, set, replicate, refl, sym, ap, subst, ◌∙◌, inl, inr, arith, length-append}
+use Rattle.std.proofs.Common.{◌≡◌, ◌≢◌, ℕ, zero, suc, ◌+◌, ◌*◌, ◌<◌, ◌≤◌, ◌==◌, ◌⊎◌, Bool, true, false, cond, not, List, [], ◌∷◌, ◌++◌}
+use Rattle.std.proofs.Common.{length, take, get_or, set, replicate, refl, sym, ap, subst, ◌∙◌, inl, inr, arith, length-append}
 use Rattle.std.proofs.lemmas.Bool.{cases_Bool, cases_eq, cases_lt}
 use Rattle.std.proofs.lemmas.List.{get_or-set_same, get_or-set_other, get_or_past, length-set, take-append-le}
 use Rattle.reach.specs.declared.spot.How.{How}
@@ -13,7 +14,8 @@ use Rattle.reach.proofs.Lists.{among_either, among_left, among_one, among_right}
 -- the way to come to a word, by its number
 how_at : ℕ → How
 how_at n =
-    cond (n == 0) (Executes false false) (cond (n == 1) (Executes true false) (cond (n == 2) (Executes false true) (cond (n == 3) (Executes true true) Reads)))
+    cond (n == 0) (Executes false false) (cond (n == 1) (Executes true false)
+    (cond (n == 2) (Executes false true) (cond (n == 3) (Executes true true) Reads)))
 
 how_back : (h : How) → how_at (how_number h) ≡ h
 unfolding how_at
@@ -44,7 +46,8 @@ parts b a h c d k la lh ld lk e = record { bank = omega arith; address = omega a
 
 pub same_spot : (p q : Spot) → IsSpot p → IsSpot q → number p ≡ number q → p ≡ q
 same_spot p q ip iq e =
-    let same = parts p.bank p.address (how_number p.how) q.bank q.address (how_number q.how) ip.1 (few_hows p.how) iq.1 (few_hows q.how) e in
+    let same = parts p.bank p.address (how_number p.how) q.bank q.address (how_number q.how) ip.1 (few_hows p.how) iq.1 (few_hows q.how) e
+    in
     let how = same_how p.how q.how same.how in
     λ j. record { bank = same.bank j; address = same.address j; how = how j }
 
@@ -82,7 +85,8 @@ record ComeTo (marks : List Bool) (order : List Spot) (q : Spot) (m : List Bool)
   front : (n : ℕ) → n ≤ length order → take n o ≡ take n order
   less : 2 * unmarked m + length o ≤ 2 * unmarked marks + length order
 
-come_new : (marks : List Bool) (order : List Spot) (q : Spot) → Agree marks order → IsSpot q → has marks q ≡ false → ComeTo marks order q (with_mark marks q) (order ++ q ∷ [])
+come_new : (marks : List Bool) (order : List Spot) (q : Spot) → Agree marks order → IsSpot q → has marks q ≡ false
+    → ComeTo marks order q (with_mark marks q) (order ++ q ∷ [])
 come_new marks order q a i not_so =
     let grows : (p : Spot) → has marks p ≡ true → has (with_mark marks q) p ≡ true = λ p h. marks_stay marks p q a.each i h in
     let here = marked_here marks q a.each i in
@@ -124,7 +128,8 @@ come_again marks order q a so = record {
   less = omega arith;
 }
 
-come_to : (marks : List Bool) (order : List Spot) (q : Spot) → Agree marks order → IsSpot q → ComeTo marks order q (marks_by marks q) (order_by marks order q)
+come_to : (marks : List Bool) (order : List Spot) (q : Spot) → Agree marks order → IsSpot q
+    → ComeTo marks order q (marks_by marks q) (order_by marks order q)
 come_to marks order q a i = go (has marks q) refl
   where
     go : (b : Bool) → has marks q ≡ b → ComeTo marks order q (cond b marks (with_mark marks q)) (cond b order (order ++ q ∷ []))
@@ -168,12 +173,14 @@ come_to_all marks order (q ∷ qs) a i =
       less = omega (arith, one.less, rest.less);
     }
   where
-    here_of : (p : Spot) → Among p (q ∷ qs) → has (marks_by marks q) q ≡ true → ((r : Spot) → has (marks_by marks q) r ≡ true → has (marks_all (marks_by marks q) qs) r ≡ true)
+    here_of : (p : Spot) → Among p (q ∷ qs) → has (marks_by marks q) q ≡ true
+        → ((r : Spot) → has (marks_by marks q) r ≡ true → has (marks_all (marks_by marks q) qs) r ≡ true)
         → ((r : Spot) → Among r qs → has (marks_all (marks_by marks q) qs) r ≡ true) → has (marks_all (marks_by marks q) qs) p ≡ true
     here_of p (inl same) first grows later = subst (λ (r : Spot). has (marks_all (marks_by marks q) qs) r ≡ true) (sym same) (grows q first)
     here_of p (inr more) first grows later = later p more
 
-    among_of : (p : Spot) → Among p (order_by marks order q) ⊎ Among p qs → ((r : Spot) → Among r (order_by marks order q) → Among r order ⊎ (r ≡ q)) → Among p order ⊎ Among p (q ∷ qs)
+    among_of : (p : Spot) → Among p (order_by marks order q) ⊎ Among p qs
+        → ((r : Spot) → Among r (order_by marks order q) → Among r order ⊎ (r ≡ q)) → Among p order ⊎ Among p (q ∷ qs)
     among_of p (inl before) one = elim (one p before) [ inl old ↦ inl old | inr same ↦ inr (inl same) ]
     among_of p (inr more) one = inr (inr more)
 
@@ -187,7 +194,8 @@ nothing_agrees marks e = record {
 }
 
 -- all are made without a mark
-pub none_marked : (marks : List Bool) (n old : ℕ) → length marks ≡ n → n ≡ spots → old ≡ 0 → ((k : ℕ) (d : Bool) → true ≡ true → old ≤ k → k < spots → get_or marks k d ≡ false) → IsNothing marks
+pub none_marked : (marks : List Bool) (n old : ℕ) → length marks ≡ n → n ≡ spots → old ≡ 0
+    → ((k : ℕ) (d : Bool) → true ≡ true → old ≤ k → k < spots → get_or marks k d ≡ false) → IsNothing marks
 none_marked marks n old each is none h = record {
   each = each ∙ is;
   none = λ k. elim (cases_lt k spots) [

@@ -137,7 +137,8 @@ three_end = refl
 lead : ℕ → Linear
 lead k = place k 3 0o12 false
 
--- XCH FB leads elsewhere in a bank that it selects, and not in bank 2; DXCH Z, whose operand is 6, leads elsewhere from anywhere; so do RESUME and RETURN
+-- XCH FB leads elsewhere in a bank that it selects, and not in bank 2; DXCH Z, whose operand is 6, leads elsewhere from anywhere; so do
+-- RESUME and RETURN
 xch_fb : opens lead banked false Xch 4 ≡ true
 unfolding lead place
 xch_fb = refl

@@ -9,8 +9,8 @@ pub record Found : Type 0 where
   pub run : List Bool
   pub done : List Bool
 
--- the column of the root: START where a way leads to the word from 4000 or an entry, RUN where one leads only from what the run executes, DATA where
--- an instruction that is reached reads it, else a sign
+-- the column of the root: START where a way leads to the word from 4000 or an entry, RUN where one leads only from what the run executes,
+-- DATA where an instruction that is reached reads it, else a sign
 unfoldable pub root_column : Found → ℕ → ℕ → List ℕ
 root_column f bank offset =
     if at_place (is_executed f.start) bank offset then codes "START "

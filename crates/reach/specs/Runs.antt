@@ -1,5 +1,6 @@
 -- What a run executes is reached, as long as it goes on where words tell.
-use Rattle.std.specs.Prelude.{◌≡◌, ℕ, suc, ◌+◌, ◌<◌, ◌≤◌, ◌⊎◌, Bool, true, false, not, ◌==◌, ◌&&◌, ◌||◌, nat_lt, nat_le, if◌then◌else◌, List, [], ◌∷◌, Option, Some, None, is_some}
+use Rattle.std.specs.Prelude.{◌≡◌, ℕ, suc, ◌+◌, ◌<◌, ◌≤◌, ◌⊎◌, Bool, true, false, not, ◌==◌, ◌&&◌, ◌||◌, nat_lt, nat_le, if◌then◌else◌}
+use Rattle.std.specs.Prelude.{List, [], ◌∷◌, Option, Some, None, is_some}
 use Rattle.std.specs.List.{list_any}
 use Rattle.words.specs.declared.wide.Overflow.TheVariants.{No}
 use Rattle.space.specs.Cells.{channel_cell, fixed_bank, program_counter, superbank_channel}
@@ -36,11 +37,13 @@ spot_of s =
 abbrev pub steers : Spot → ℕ → Bool
 steers p c = c == program_counter || (nat_lt p.address first_unbanked && (c == fixed_bank || c == channel_cell superbank_channel))
 
--- whether a word tells where a jump leads: INDEX left no sum, and the address is of memory that no bank register selects, or of the bank of p itself
+-- whether a word tells where a jump leads: INDEX left no sum, and the address is of memory that no bank register selects, or of the bank of
+-- p itself
 abbrev pub is_told : Spot → Bool → ℕ → Bool
 is_told p indexed k = not indexed && (nat_le first_unbanked k || (nat_le first_fixed k && nat_lt p.address first_unbanked))
 
--- Whether an instruction at p may lead where its word does not tell: a jump whose target is not told, RESUME, and whatever else writes what steers.
+-- Whether an instruction at p may lead where its word does not tell: a jump whose target is not told, RESUME, and whatever else writes what
+-- steers.
 abbrev pub opens : (ℕ → Linear) → Spot → Bool → Instruction → ℕ → Bool
 opens lead p indexed Tc k = not (is_told p indexed k)
 opens lead p indexed Tcf k = not (is_told p indexed k)
@@ -50,7 +53,8 @@ opens lead p indexed Ccs k = false
 opens lead p indexed Resume k = true
 opens lead p indexed i k = list_any (steers p) (targets_by (flows_of lead No i k))
 
--- A step executes the instruction of the word at a spot, whose operand a sum of INDEX may have changed, and that does not lead where the word does not tell.
+-- A step executes the instruction of the word at a spot, whose operand a sum of INDEX may have changed, and that does not lead where the
+-- word does not tell.
 pub record GoesAsTold (scenario : Scenario) (s : State) (p : Spot) (code : Code) : Type 0 where
   pub executes : ExecutesCode scenario s code
   pub here : spot_of s ≡ Some p
@@ -81,9 +85,11 @@ HaveVectors roots = (q : Spot) → Among q vectors → Among q roots
 
 -- A step that is told leads from what is reached to what is reached, where Z holds an address of 12 bits.
 abbrev pub StepIsCovered : Scenario → List Spot → State → Type 0
-StepIsCovered scenario roots s = next_address s < 0o10000 → HaveVectors roots → IsTold scenario s → IsCovered scenario.rope roots s → IsCovered scenario.rope roots (next scenario s).0
+StepIsCovered scenario roots s = next_address s < 0o10000 → HaveVectors roots → IsTold scenario s → IsCovered scenario.rope roots s
+    → IsCovered scenario.rope roots (next scenario s).0
 
--- Each word of fixed memory that a run executes in n steps is reached from roots that have the vectors, where each step is told, or leads to what is reached.
+-- Each word of fixed memory that a run executes in n steps is reached from roots that have the vectors, where each step is told, or leads
+-- to what is reached.
 abbrev pub RunIsCovered : Scenario → List Spot → ℕ → Type 0
 RunIsCovered scenario roots n =
     HaveVectors roots

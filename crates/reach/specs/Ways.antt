@@ -1,5 +1,6 @@
 -- Where the instructions of fixed memory lead, as far as their words tell, and what is reached from some spots.
-use Rattle.std.specs.Prelude.{◌≡◌, ℕ, ◌+◌, ◌/◌, ◌*◌, ◌%◌, ◌⊎◌, Bool, true, false, not, ◌==◌, ◌&&◌, nat_lt, if◌then◌else◌, List, [], ◌∷◌, ◌++◌, map, Option, Some, None}
+use Rattle.std.specs.Prelude.{◌≡◌, ℕ, ◌+◌, ◌/◌, ◌*◌, ◌%◌, ◌⊎◌, Bool, true, false, not, ◌==◌, ◌&&◌, nat_lt, if◌then◌else◌, List, [], ◌∷◌}
+use Rattle.std.specs.Prelude.{◌++◌, map, Option, Some, None}
 use Rattle.std.specs.List.{range_with_len}
 use Rattle.space.specs.Cells.{program_counter, return_address}
 use Rattle.rope.specs.Places.{Words, word_at}
@@ -84,14 +85,16 @@ abbrev pub second : Option ℕ → Option ℕ
 second None = None
 second (Some address) = Some ((address + 1) % 0o10000)
 
--- Where an instruction leads and what it reads, by its kind and the address that it names, under extracode or not, with a sum of INDEX or without.
--- TC leads to its target and to the word after it, where the routine returns that it calls; RETURN, which is TC Q, and TS Z lead where no word tells.
+-- Where an instruction leads and what it reads, by its kind and the address that it names, under extracode or not, with a sum of INDEX or
+-- without. TC leads to its target and to the word after it, where the routine returns that it calls; RETURN, which is TC Q, and TS Z lead
+-- where no word tells.
 abbrev pub leads_by : Spot → Bool → Bool → Kind → Option ℕ → List Spot
 leads_by p extra indexed Calls address = target p indexed address ++ (if is_register return_address address then [] else further p 1 plain)
 leads_by p extra indexed Jumps address = target p indexed address
 leads_by p extra indexed Branches address = target p indexed address ++ further p 1 plain
 leads_by p extra indexed Skips address = further p 1 plain ++ further p 2 plain ++ further p 3 plain ++ further p 4 plain
-leads_by p extra indexed Stores address = if not indexed && is_register program_counter address then [] else further p 1 plain ++ further p 2 plain
+leads_by p extra indexed Stores address = if not indexed && is_register program_counter address then [] else further p 1 plain
+    ++ further p 2 plain
 leads_by p extra indexed Indexes address = further p 1 (Executes extra true) ++ named p address Reads
 leads_by p extra indexed Extends address = further p 1 (Executes true false)
 leads_by p extra indexed Resumes address = []

@@ -80,9 +80,15 @@ impl Executed {
         requires fits { FitsRun processor.old.scenario machine.old }
         ensures scenario { processor.new.scenario ≡ processor.old.scenario }
         ensures state { OnOk result (machine.new ≡ (next processor.old.scenario machine.old).0) }
-        ensures marks { OnOk result (self.new.marks ≡ marks_all self.old.marks (spots_in (spot_executed machine.old (next_step processor.old.scenario machine.old)))) }
-        ensures order { OnOk result (self.new.order ≡ order_all self.old.marks self.old.order (spots_in (spot_executed machine.old (next_step processor.old.scenario machine.old)))) }
-        ensures are { OnOk result ((q : OfWord) → Among q (spots_in (spot_executed machine.old (next_step processor.old.scenario machine.old))) → IsSpot q) }
+        ensures marks { OnOk result (self.new.marks
+            ≡ marks_all self.old.marks (spots_in
+            (spot_executed machine.old (next_step processor.old.scenario machine.old)))) }
+        ensures order { OnOk result (self.new.order
+            ≡ order_all self.old.marks self.old.order
+            (spots_in (spot_executed machine.old (next_step processor.old.scenario machine.old)))) }
+        ensures are { OnOk result ((q : OfWord)
+            → Among q (spots_in (spot_executed machine.old (next_step processor.old.scenario machine.old)))
+            → IsSpot q) }
     {
         let spot = spot_executed(&processor.next_step(machine), machine);
         self.keep(spot)?;
@@ -109,7 +115,8 @@ pub fn reached_with_run(
     rope: &Rope,
     executed: &Executed,
 ) -> Result<Marks, AllocError>
-    ensures { IfOk result (λ marks. (scenario : Scenario) (n : ℕ) → HasExecuted scenario n executed.now → AreReached rope.now (run_roots scenario n) marks) }
+    ensures { IfOk result (λ marks. (scenario : Scenario) (n : ℕ) → HasExecuted scenario n executed.now
+        → AreReached rope.now (run_roots scenario n) marks) }
 {
     let mut roots = Vec::new(alloc);
     roots.extend_from_slice(&vectors())?;

@@ -12,8 +12,8 @@ use std::marker::Model;
 use words::{Write, WriteFailed, write_all};
 use yayul::Margin;
 
-/// What is reached from where a run starts and from the entries of interrupts; what is reached from there and from all that the run
-/// executes; and what it executes.
+/// What is reached from where a run starts and from the entries of interrupts; what is reached from there and from all
+/// that the run executes; and what it executes.
 #[derive(Drop)]
 pub struct Found {
     start: Marks,
@@ -50,8 +50,8 @@ impl Margin for Found {
 }
 
 impl Found {
-    /// What is reached from where a run starts and from the entries of interrupts; what is reached from there and from all that the run
-    /// executes; and what it executes.
+    /// What is reached from where a run starts and from the entries of interrupts; what is reached from there and from
+    /// all that the run executes; and what it executes.
     pub fn new(start: Marks, run: Marks, done: Executed) -> Found
         ensures { result ≡ record { start = start; run = run; done = done.marks } }
     {
@@ -65,7 +65,8 @@ impl Found {
         offset: Offset,
         writer: &mut W,
     ) -> Result<(), WriteFailed>
-        ensures written { W.told ≡ true → Writes (W.written writer.old) (W.written writer.new) (found_columns self.now bank offset) result }
+        ensures written { W.told ≡ true → Writes (W.written writer.old) (W.written writer.new)
+            (found_columns self.now bank offset) result }
         ensures failures { W.failures writer.new ≡ failures_after (W.failures writer.old) result }
     {
         write_all(writer, self.root_column(bank, offset))?;

@@ -22,7 +22,8 @@ pub(crate) fn write_words<M: Margin, W: Write>(
     names: &Option<PlaceNames>,
     out: &mut W,
 ) -> Result<(), WriteFailed>
-    ensures written { W.told ≡ true → Writes (W.written out.old) (W.written out.new) (image_rows (M.text margin.now) names.now rope.now) result }
+    ensures written { W.told ≡ true → Writes (W.written out.old) (W.written out.new)
+        (image_rows (M.text margin.now) names.now rope.now) result }
     ensures failures { W.failures out.new ≡ failures_after (W.failures out.old) result }
 {
     for number in 0..FIXED_BANKS {
@@ -39,7 +40,8 @@ fn write_bank<M: Margin, W: Write>(
     bank: Bank,
     out: &mut W,
 ) -> Result<(), WriteFailed>
-    ensures written { W.told ≡ true → Writes (W.written out.old) (W.written out.new) (image_rows_of (M.text margin.now) names.now rope.now bank) result }
+    ensures written { W.told ≡ true → Writes (W.written out.old) (W.written out.new)
+        (image_rows_of (M.text margin.now) names.now rope.now bank) result }
     ensures failures { W.failures out.new ≡ failures_after (W.failures out.old) result }
 {
     let mut extra = false;
@@ -62,7 +64,8 @@ fn write_word<M: Margin, W: Write>(
     out: &mut W,
 ) -> Result<(), WriteFailed>
     requires { extra ≡ extracode_at rope.now bank offset }
-    ensures written { W.told ≡ true → Writes (W.written out.old) (W.written out.new) (image_row (M.text margin.now) names.now rope.now bank offset) result }
+    ensures written { W.told ≡ true → Writes (W.written out.old) (W.written out.new)
+        (image_row (M.text margin.now) names.now rope.now bank offset) result }
     ensures failures { W.failures out.new ≡ failures_after (W.failures out.old) result }
 {
     margin.write(Some((bank, offset)), out)?;
@@ -79,7 +82,8 @@ fn write_line<W: Write>(
     out: &mut W,
 ) -> Result<(), WriteFailed>
     requires { extra ≡ extracode_at rope.now bank offset }
-    ensures written { W.told ≡ true → Writes (W.written out.old) (W.written out.new) (image_line names.now rope.now bank offset) result }
+    ensures written { W.told ≡ true → Writes (W.written out.old) (W.written out.new)
+        (image_line names.now rope.now bank offset) result }
     ensures failures { W.failures out.new ≡ failures_after (W.failures out.old) result }
 {
     match names {

@@ -11,8 +11,10 @@ use rope::Rope;
 use words::{Write, WriteFailed};
 use yayul::Margin;
 
-/// Writes a row for each line of a source, as `START    25 02,4104 54100  LOOP    TS      COUNT`, or for each word of an image, as
-/// `START 02,4001 64005 AD 4005`: what is found of its word, as whether a way leads there, and the row as a listing or `agcws words` has it.
+/// Writes a row for each line of a source, as `START    25 02,4104 54100  LOOP    TS      COUNT`, or for each word of
+/// an image, as
+/// `START 02,4001 64005 AD 4005`: what is found of its word, as whether a way leads there, and the row as a listing or
+/// `agcws words` has it.
 ///
 /// After a failure a beginning of it was written.
 pub fn write_reach<M: Margin, W: Write>(
@@ -21,7 +23,8 @@ pub fn write_reach<M: Margin, W: Write>(
     shown: &Shown,
     out: &mut W,
 ) -> Result<(), WriteFailed>
-    ensures written { W.told ≡ true → Writes (W.written out.old) (W.written out.new) (shown_text (M.text margin.now) rope.now shown.now) result }
+    ensures written { W.told ≡ true → Writes (W.written out.old) (W.written out.new)
+        (shown_text (M.text margin.now) rope.now shown.now) result }
     ensures failures { W.failures out.new ≡ failures_after (W.failures out.old) result }
 {
     match shown {

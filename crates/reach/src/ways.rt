@@ -5,7 +5,8 @@ ghost use Rattle.arrayvec.specs.ArrayVec.{array_vec_len};
 ghost use Rattle.cpu.specs.Codes.{code_of};
 ghost use Rattle.space.specs.Cells.{program_counter, return_address};
 ghost use Rattle.reach.specs.declared.spot.How.TheVariants.{Reads};
-ghost use Rattle.reach.specs.Ways.{at_address, further, is_register, leads, leads_by, leads_of, named, plain, second, target, word_of};
+ghost use Rattle.reach.specs.Ways.{at_address, further, is_register, leads, leads_by, leads_of, named, plain, second};
+ghost use Rattle.reach.specs.Ways.{target, word_of};
 
 use crate::kind::{Kind, kind_at};
 use crate::spot::{How, Spot};
@@ -68,7 +69,8 @@ fn leads_by(spot: &Spot, extra: bool, indexed: bool, kind: Kind, address: &Optio
 
 /// TC.
 fn calls(spot: &Spot, indexed: bool, address: &Option<Addr12>) -> Ways
-    ensures { result.items ≡ target spot.now indexed address.now ++ (if is_register return_address address.now then [] else further spot.now 1 plain) }
+    ensures { result.items ≡ target spot.now indexed address.now
+        ++ (if is_register return_address address.now then [] else further spot.now 1 plain) }
 {
     let mut ways = target(spot, indexed, address);
     if !is_register(Eras::Q, address) {
@@ -88,7 +90,8 @@ fn branches(spot: &Spot, indexed: bool, address: &Option<Addr12>) -> Ways
 
 /// CCS.
 fn skips(spot: &Spot) -> Ways
-    ensures { result.items ≡ further spot.now 1 plain ++ further spot.now 2 plain ++ further spot.now 3 plain ++ further spot.now 4 plain }
+    ensures { result.items ≡ further spot.now 1 plain ++ further spot.now 2 plain ++ further spot.now 3 plain
+        ++ further spot.now 4 plain }
 {
     let mut ways = only(spot, PLAIN);
     push_further(&mut ways, spot, 2, PLAIN);
@@ -99,7 +102,8 @@ fn skips(spot: &Spot) -> Ways
 
 /// TS.
 fn stores(spot: &Spot, indexed: bool, address: &Option<Addr12>) -> Ways
-    ensures { result.items ≡ (if not indexed && is_register program_counter address.now then [] else further spot.now 1 plain ++ further spot.now 2 plain) }
+    ensures { result.items ≡ (if not indexed
+        && is_register program_counter address.now then [] else further spot.now 1 plain ++ further spot.now 2 plain) }
 {
     if !indexed && is_register(Eras::Z, address) {
         ArrayVec::new()
@@ -119,7 +123,8 @@ fn next_two(spot: &Spot) -> Ways
 
 /// DCA and DCS.
 fn takes_two(spot: &Spot, address: &Option<Addr12>) -> Ways
-    ensures { result.items ≡ further spot.now 1 plain ++ named spot.now address.now Reads ++ named spot.now (second address.now) Reads }
+    ensures { result.items ≡ further spot.now 1 plain ++ named spot.now address.now Reads
+        ++ named spot.now (second address.now) Reads }
 {
     let mut ways = passes(spot, PLAIN, address);
     push_named(&mut ways, spot, &second(address), How::Reads);

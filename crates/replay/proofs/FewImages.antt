@@ -43,14 +43,18 @@ Rises [] = Unit {0}
 Rises (a ∷ []) = Unit {0}
 Rises (a ∷ b ∷ r) = (a < b) × Rises (b ∷ r)
 
-reaches : (n a : ℕ) (r : List ℕ) → Rises (a ∷ r) → ((c : ℕ) → Contains (a ∷ r) c → c < n) → Sparse n (a ∷ r) → a + reach (length (a ∷ r)) ≤ n + 2
+reaches : (n a : ℕ) (r : List ℕ) → Rises (a ∷ r) → ((c : ℕ) → Contains (a ∷ r) c → c < n) → Sparse n (a ∷ r)
+    → a + reach (length (a ∷ r)) ≤ n + 2
 unfolding reach
 reaches n a [] rises past sparse = omega (arith, past a (contains_first a []))
 reaches n a (b ∷ []) rises past sparse = omega (arith, past b (contains_rest a (b ∷ []) b (contains_first b [])), rises.0)
 reaches n a (b ∷ c ∷ r) rises past sparse =
-    let later : (x : ℕ) → Contains (c ∷ r) x → Contains (a ∷ b ∷ c ∷ r) x = λ x h. contains_rest a (b ∷ c ∷ r) x (contains_rest b (c ∷ r) x h) in
-    let far : n + a + 2 ≤ 2 * c = sparse a b c (contains_first a (b ∷ c ∷ r)) (contains_rest a (b ∷ c ∷ r) b (contains_first b (c ∷ r))) (later c (contains_first c r)) rises.0 rises.1.0 in
-    let rest : c + reach (length (c ∷ r)) ≤ n + 2 = reaches n c r rises.1.1 (λ x h. past x (later x h)) (λ x y z hx hy hz. sparse x y z (later x hx) (later y hy) (later z hz)) in
+    let later : (x : ℕ) → Contains (c ∷ r) x → Contains (a ∷ b ∷ c ∷ r) x = λ x h. contains_rest a (b ∷ c ∷ r) x
+    (contains_rest b (c ∷ r) x h) in
+    let far : n + a + 2 ≤ 2 * c = sparse a b c (contains_first a (b ∷ c ∷ r)) (contains_rest a (b ∷ c ∷ r) b (contains_first b (c ∷ r)))
+    (later c (contains_first c r)) rises.0 rises.1.0 in
+    let rest : c + reach (length (c ∷ r)) ≤ n + 2 = reaches n c r rises.1.1 (λ x h. past x (later x h))
+    (λ x y z hx hy hz. sparse x y z (later x hx) (later y hy) (later z hz)) in
     omega arith
 
 few : (n : ℕ) (kept : List ℕ) → Rises kept → ((c : ℕ) → Contains kept c → c < n) → Sparse n kept → reach (length kept) ≤ n + 2

@@ -1,4 +1,5 @@
-use Rattle.std.proofs.Common.{◌≡◌, ℕ, ◌+◌, ◌<◌, ◌≤◌, List, length, map, get_or, ap, sym, ◌∙◌, inl, inr, Bool, true, false, cond, [], ◌∷◌, suc, zero, refl, arith, not, ◌==◌}
+use Rattle.std.proofs.Common.{◌≡◌, ℕ, ◌+◌, ◌<◌, ◌≤◌, List, length, map, get_or, ap, sym, ◌∙◌, inl, inr, Bool, true, false, cond, [], ◌∷◌}
+use Rattle.std.proofs.Common.{suc, zero, refl, arith, not, ◌==◌}
 use Rattle.std.proofs.lemmas.Bool.Decides.{nat_tests}
 use Rattle.std.specs.List.{AllWithin}
 use Rattle.std.proofs.lemmas.List.{get_or_read, get_or-map, length-map}
@@ -11,7 +12,8 @@ use Rattle.replay.specs.Spacing.{IsPrevious}
 use Rattle.replay.proofs.StepLemmas.{other, contains_cases, contains_none}
 
 -- the image at place k is the latest up to t, where all after it are later
-pub latest_at : (images : List Image) (t k m : ℕ) (c : Image) → m ≤ k + 1 → k < length images → c ≡ get_or images k c → c.0 ≤ t → AllWithin (λ i. t < i.0) images m (length images) → IsRising images → IsLatest images t c
+pub latest_at : (images : List Image) (t k m : ℕ) (c : Image) → m ≤ k + 1 → k < length images → c ≡ get_or images k c → c.0 ≤ t
+    → AllWithin (λ i. t < i.0) images m (length images) → IsRising images → IsLatest images t c
 latest_at images t k m c next in_range is within later rising = record {
   kept = (k, in_range, sym is);
   within = within;
@@ -38,7 +40,8 @@ without-later (i ∷ images) step h =
     rw (t, without-later images step (All-tail (λ (i : Image). step < i.0) i images h)) refl
 
 -- the one image of a step is taken out by its place
-pub without-place : (images : List Image) (k step : ℕ) (d : Image) → IsRising images → k < length images → (get_or images k d).0 ≡ step → remove images k ≡ without images step
+pub without-place : (images : List Image) (k step : ℕ) (d : Image) → IsRising images → k < length images → (get_or images k d).0 ≡ step
+    → remove images k ≡ without images step
 without-place [] k step d rising in_range is = absurd (omega arith)
 without-place (i ∷ images) zero step d rising in_range is =
     let f : not (i.0 == step) ≡ false = grind (arith, nat_tests) in
@@ -46,11 +49,17 @@ without-place (i ∷ images) zero step d rising in_range is =
 without-place (i ∷ images) (suc k) step d rising in_range is =
     let r : i.0 < (get_or images k d).0 = rising 0 (suc k) d (omega arith) (omega arith) in
     let t : not (i.0 == step) ≡ true = grind (arith, nat_tests) in
-    rw t (ap (λ (rest : List Image). i ∷ rest) (without-place images k step d (λ a b e ab below. rising (suc a) (suc b) e (omega arith) (omega arith)) (omega arith) is))
+    rw t (ap (λ (rest : List Image). i ∷ rest) (without-place images k step d
+    (λ a b e ab below. rising (suc a) (suc b) e (omega arith) (omega arith)) (omega arith) is))
 
 -- an image is of one of the steps
 pub contains_step : (images : List Image) (c : Image) → Contains images c → Contains (steps images) c.0
-contains_step images c (k, below, is) = (k, rw length-map below, get_or-map (λ (i : Image). i.0) images k c c.0 below ∙ ap (λ (i : Image). i.0) is)
+contains_step images c (k, below, is) = (
+  k,
+  rw length-map below,
+  get_or-map (λ (i : Image). i.0) images k c c.0 below
+      ∙ ap (λ (i : Image). i.0) is,
+)
 
 pub All-step : (P : ℕ → Type 0) (images : List Image) → All (λ i. P i.0) images → (x : ℕ) → Contains (steps images) x → P x
 All-step P images all x h = All-contains P (steps images) x (All-map P (λ (i : Image). i.0) images all) h
@@ -59,7 +68,8 @@ pub All-from_steps : (P : ℕ → Type 0) (images : List Image) → ((x : ℕ) �
 All-from_steps P images h k d below = h _ (contains_step images (get_or images k d) (Contains-get_or images k d below))
 
 -- something is kept with one of the steps
-pub Any-kept : {T : Type 0} (kept : List (ℕ × T)) (step : ℕ) → Contains (map (λ (k : ℕ × T). k.0) kept) step → Any (λ (k : ℕ × T). k.0 ≡ step) kept
+pub Any-kept : {T : Type 0} (kept : List (ℕ × T)) (step : ℕ) → Contains (map (λ (k : ℕ × T). k.0) kept) step
+    → Any (λ (k : ℕ × T). k.0 ≡ step) kept
 Any-kept [] step h = absurd (contains_none step h)
 Any-kept (k ∷ kept) step h = elim (contains_cases k.0 (map (λ (q : ℕ × _). q.0) kept) step h) [
   | inl is ↦ (0, k, omega arith, refl, is)

@@ -64,11 +64,13 @@ thinned_to_starts n last kept below = record {
 }
 
 -- the next one stays
-pub thinned_to_stays : (n last at step : ℕ) (old kept : List ℕ) → IsThinnedTo n last at old kept → IsPrevious kept at step → step ≤ last → Stays n step → IsThinnedTo n last step old kept
+pub thinned_to_stays : (n last at step : ℕ) (old kept : List ℕ) → IsThinnedTo n last at old kept → IsPrevious kept at step → step ≤ last
+    → Stays n step → IsThinnedTo n last step old kept
 thinned_to_stays n last at step old kept thinned previous early stays = record {
   part = thinned.part;
   left = λ c h late. elim (cases_lt c at) [
-    | inl below ↦ let e : step ≡ c = omega (arith, previous.greatest c h below) in let both : (step ≤ last) × Stays n step = (early, stays) in rw e at both
+    | inl below ↦ let e : step ≡ c = omega (arith, previous.greatest c h below) in let both : (step ≤ last)
+        × Stays n step = (early, stays) in rw e at both
     | inr above ↦ thinned.left c h above
   ];
   full = λ c h either. elim either [
@@ -78,7 +80,8 @@ thinned_to_stays n last at step old kept thinned previous early stays = record {
 }
 
 -- the next one is taken out
-pub thinned_to_goes : (n last at step : ℕ) (old kept : List ℕ) → IsThinnedTo n last at old kept → IsPrevious kept at step → ((step ≤ last) → Stays n step → ⊥) → IsThinnedTo n last step old (filter (other step) kept)
+pub thinned_to_goes : (n last at step : ℕ) (old kept : List ℕ) → IsThinnedTo n last at old kept → IsPrevious kept at step
+    → ((step ≤ last) → Stays n step → ⊥) → IsThinnedTo n last step old (filter (other step) kept)
 thinned_to_goes n last at step old kept thinned previous goes =
     let back = contains_filter (other step) kept in
     let on = contains_filter_back (other step) kept in
@@ -97,7 +100,8 @@ thinned_to_goes n last at step old kept thinned previous goes =
     }
 
 -- all were looked at
-pub thinned_to_ends : (n last : ℕ) (old kept : List ℕ) → IsThinnedTo n last 0 old kept → (c : ℕ) → Contains kept c ↔ (Contains old c × (c ≤ last) × Stays n c)
+pub thinned_to_ends : (n last : ℕ) (old kept : List ℕ) → IsThinnedTo n last 0 old kept → (c : ℕ)
+    → Contains kept c ↔ (Contains old c × (c ≤ last) × Stays n c)
 thinned_to_ends n last old kept thinned c = (
   λ h. let is = thinned.left c h (omega arith) in (thinned.part c h, is.0, is.1),
   λ is. thinned.full c is.0 (inr (is.1, is.2)),
@@ -111,7 +115,8 @@ pub needed_on : (n c gap : ℕ) → IsNeeded n c gap → IsNeeded n (c + 1) gap
 needed_on n c gap needed = record { power = needed.power; enough = omega (arith, needed.enough) }
 
 -- what is thinned up to step base is what stays of the steps up to there
-pub staying_thinned : (n base : ℕ) (old kept : List ℕ) → ((c : ℕ) → Contains kept c ↔ (Contains old c × (c ≤ base) × Stays n c)) → ((c : ℕ) → c ≤ base → Stays n c → Contains old c) → AreStaying (base + 1) n kept
+pub staying_thinned : (n base : ℕ) (old kept : List ℕ) → ((c : ℕ) → Contains kept c ↔ (Contains old c × (c ≤ base) × Stays n c))
+    → ((c : ℕ) → c ≤ base → Stays n c → Contains old c) → AreStaying (base + 1) n kept
 staying_thinned n base old kept thinned full c = (
   λ h. let is = (thinned c).0 h in (omega (arith, is.1), is.2),
   λ is. let early : c ≤ base = omega (arith, is.0) in (thinned c).1 (full c early is.1, early, is.1),
@@ -128,7 +133,8 @@ staying_on n at kept staying goes c = (
 )
 
 -- a step more whose image stays
-pub staying_kept : (n at : ℕ) (images kept : List Image) (s : State) → AreStaying at n (steps images) → Stays n at → kept ≡ images ++ (at, s) ∷ [] → AreStaying (at + 1) n (steps kept)
+pub staying_kept : (n at : ℕ) (images kept : List Image) (s : State) → AreStaying at n (steps images) → Stays n at
+    → kept ≡ images ++ (at, s) ∷ [] → AreStaying (at + 1) n (steps kept)
 staying_kept n at images kept s staying stays e c =
     rw (e, map-append) (
       λ h. elim (contains_push_cases (steps images) at c h) [
@@ -142,25 +148,31 @@ staying_kept n at images kept s staying stays e c =
     )
 
 -- there is room for an image more
-pub room_of_staying : (n at : ℕ) (images : List Image) → at ≤ n → n < 2 ^ 40 - 1 → IsRising images → AreStaying at n (steps images) → length images < most_images
+pub room_of_staying : (n at : ℕ) (images : List Image) → at ≤ n → n < 2 ^ 40 - 1 → IsRising images → AreStaying at n (steps images)
+    → length images < most_images
 room_of_staying n at images early low rising staying =
-    let fits : Fits (length (steps images) + 2) n = Fits-part n (steps images) (Rises-steps images rising) (λ c h. let is = (staying c).0 h in (omega (arith, is.0), is.1)) in
+    let fits : Fits (length (steps images) + 2) n = Fits-part n (steps images) (Rises-steps images rising)
+    (λ c h. let is = (staying c).0 h in (omega (arith, is.0), is.1)) in
     omega (arith, Fits-room n (length images + 2) (omega arith) (rw length-map at fits))
 
 -- images of a run with one image more
-pub of_run_kept : (scenario : Scenario) (at : ℕ) (images kept : List Image) (s : State) → AreOfRun scenario images → s ≡ run scenario at → kept ≡ images ++ (at, s) ∷ [] → AreOfRun scenario kept
+pub of_run_kept : (scenario : Scenario) (at : ℕ) (images kept : List Image) (s : State) → AreOfRun scenario images → s ≡ run scenario at
+    → kept ≡ images ++ (at, s) ∷ [] → AreOfRun scenario kept
 of_run_kept scenario at images kept s of_run is e = of_run_after scenario at images kept kept s of_run is e (λ i h. h)
 
 -- images of a run, fewer of them
-pub of_run_part : (scenario : Scenario) (images kept : List Image) → AreOfRun scenario images → ((i : Image) → Contains kept i → Contains images i) → AreOfRun scenario kept
-of_run_part scenario images kept of_run part k d below = All-contains (λ (i : Image). i.1 ≡ run scenario i.0) images (get_or kept k d) of_run (part (get_or kept k d) (Contains-get_or kept k d below))
+pub of_run_part : (scenario : Scenario) (images kept : List Image) → AreOfRun scenario images
+    → ((i : Image) → Contains kept i → Contains images i) → AreOfRun scenario kept
+of_run_part scenario images kept of_run part k d below = All-contains (λ (i : Image). i.1 ≡ run scenario i.0) images (get_or kept k d)
+    of_run (part (get_or kept k d) (Contains-get_or kept k d below))
 
 -- the first image stays for ever
 pub zero_stays : (n : ℕ) → n < 2 ^ 40 → Stays n 0
 zero_stays n low = (40, dvd-zero (2 ^ 40), omega arith)
 
 -- with the image of step low, all is kept that may stay later, up to there
-pub kept_up_to : (low end : ℕ) (kept : List ℕ) → AreStaying (low + 1) low kept → low < end → (c : ℕ) → c ≤ low → Stays end c → Contains kept c
+pub kept_up_to : (low end : ℕ) (kept : List ℕ) → AreStaying (low + 1) low kept → low < end → (c : ℕ) → c ≤ low → Stays end c
+    → Contains kept c
 kept_up_to low end kept staying later c early stays = (staying c).1 (omega (arith, early), stays_before end low c (omega arith) stays)
 
 -- among it the image of step low itself, and the first one
@@ -171,5 +183,6 @@ pub kept_first : (low : ℕ) (kept : List ℕ) → low < 2 ^ 40 → AreStaying (
 kept_first low kept small staying = (staying 0).1 (omega arith, zero_stays low small)
 
 -- what is kept with the image of step low
-pub staying_with : (low : ℕ) (images kept : List Image) (s : State) → AreStaying low low (steps images) → kept ≡ images ++ (low, s) ∷ [] → AreStaying (low + 1) low (steps kept)
+pub staying_with : (low : ℕ) (images kept : List Image) (s : State) → AreStaying low low (steps images) → kept ≡ images ++ (low, s) ∷ []
+    → AreStaying (low + 1) low (steps kept)
 staying_with low images kept s staying e = staying_kept low low images kept s staying (0, one-dvd low, omega arith) e

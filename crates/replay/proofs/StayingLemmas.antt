@@ -52,7 +52,8 @@ stays_sparse n a b c (i, di, ni) (j, dj, nj) (k, dk, nk) ab bc cn = elim (cases_
               | inl more ↦ elim (cases_lt k i) [
                 | inr same_too ↦ let p : 2 ^ i ≤ 2 ^ k = pow_mono same_too in omega arith
                 | inl more_too ↦
-                    let far : a + 2 ^ suc k ≤ b = apart (2 ^ suc k) a b (divides (suc k) i a (omega arith) di) (divides (suc k) j b (omega arith) dj) ab in
+                    let far : a + 2 ^ suc k ≤ b = apart (2 ^ suc k) a b (divides (suc k) i a (omega arith) di)
+                    (divides (suc k) j b (omega arith) dj) ab in
                     omega (arith, pow-succ' 2 k)
               ]
             ]

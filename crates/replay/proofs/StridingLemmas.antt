@@ -33,13 +33,16 @@ grid_starts low kept staying = record {
 }
 
 -- there is room for an image more
-pub room_on_grid : (low n : ℕ) (images : List Image) → n < 2 ^ 40 - 1 → IsRising images → AreOnGrid low n (steps images) → length images < most_images
+pub room_on_grid : (low n : ℕ) (images : List Image) → n < 2 ^ 40 - 1 → IsRising images → AreOnGrid low n (steps images)
+    → length images < most_images
 room_on_grid low n images small rising grid =
-    let fits : Fits (length (steps images) + 2) n = Fits-part n (steps images) (Rises-steps images rising) (λ c h. (grid.below c h, grid.stays c h)) in
+    let fits : Fits (length (steps images) + 2) n = Fits-part n (steps images) (Rises-steps images rising)
+    (λ c h. (grid.below c h, grid.stays c h)) in
     omega (arith, Fits-room n (length images + 2) (omega arith) (rw length-map at fits))
 
 -- the steps that are kept with one more
-pub steps_with : (images kept : List Image) (at : ℕ) (s : State) → kept ≡ images ++ (at, s) ∷ [] → (c : ℕ) → Contains (steps kept) c ↔ (Contains (steps images) c ⊎ (at ≡ c))
+pub steps_with : (images kept : List Image) (at : ℕ) (s : State) → kept ≡ images ++ (at, s) ∷ [] → (c : ℕ)
+    → Contains (steps kept) c ↔ (Contains (steps images) c ⊎ (at ≡ c))
 steps_with images kept at s e c = rw (e, map-append) (
   λ h. contains_push_cases (steps images) at c h,
   λ is. elim is [
@@ -52,14 +55,16 @@ steps_with images kept at s e c = rw (e, map-append) (
 pub first_on_grid : (low n : ℕ) (kept : List ℕ) → n < 2 ^ 40 → 0 < n → AreOnGrid low n kept → Contains kept 0
 first_on_grid low n kept small past grid = grid.full 0 past (zero_stays n small) (inr (dvd-zero (2 ^ 14)))
 
-pub first_with : (low at : ℕ) (old kept : List ℕ) → at < 2 ^ 40 → AreOnGrid low at old → ((c : ℕ) → Contains kept c ↔ (Contains old c ⊎ (at ≡ c))) → Contains kept 0
+pub first_with : (low at : ℕ) (old kept : List ℕ) → at < 2 ^ 40 → AreOnGrid low at old
+    → ((c : ℕ) → Contains kept c ↔ (Contains old c ⊎ (at ≡ c))) → Contains kept 0
 first_with low at old kept small grid with = elim (cases_lt 0 at) [
   | inl past ↦ (with 0).1 (inl (first_on_grid low at old small past grid))
   | inr none ↦ (with 0).1 (inr (omega arith))
 ]
 
 -- a stride further, with its first image
-pub grid_on : (low at end : ℕ) (old with thinned : List ℕ) → low ≤ at → at < end → end ≤ at + 2 ^ 14 → 2 ^ 14 ∣ at → AreOnGrid low at old → ((c : ℕ) → Contains with c ↔ (Contains old c ⊎ (at ≡ c)))
+pub grid_on : (low at end : ℕ) (old with thinned : List ℕ) → low ≤ at → at < end → end ≤ at + 2 ^ 14 → 2 ^ 14 ∣ at → AreOnGrid low at old
+    → ((c : ℕ) → Contains with c ↔ (Contains old c ⊎ (at ≡ c)))
     → ((c : ℕ) → Contains thinned c ↔ (Contains with c × (c ≤ at) × Stays end c)) → AreOnGrid low end thinned
 grid_on low at end old with thinned from past near on_grid grid is_with is_thinned = record {
   below = λ c h. omega (arith, ((is_thinned c).0 h).1);
@@ -92,7 +97,8 @@ pub base_kept : (low at base : ℕ) (kept : List ℕ) → IsBase low at base →
 base_kept low at base kept is grid = grid.full base is.before (14, is.grid, is.near) (inr is.grid)
 
 -- up to the base all are kept that stay
-pub base_full : (low at base : ℕ) (kept : List ℕ) → IsBase low at base → AreOnGrid low at kept → (c : ℕ) → c ≤ base → Stays at c → Contains kept c
+pub base_full : (low at base : ℕ) (kept : List ℕ) → IsBase low at base → AreOnGrid low at kept → (c : ℕ) → c ≤ base → Stays at c
+    → Contains kept c
 base_full low at base kept is grid c early (v, d, near) =
     let below : c < at = omega (arith, is.before) in
     elim (cases_lt v 14) [

@@ -1,13 +1,15 @@
 -- Which images fall out at a step, and that those are left which stay.
 use Rattle.std.specs.Int.{◌∣◌}
 use Rattle.std.specs.List.{filter, Contains}
-use Rattle.std.proofs.Common.{◌≡◌, ℕ, zero, suc, ◌+◌, ◌-◌, ◌*◌, ◌/◌, ◌%◌, ◌^◌, ◌<◌, ◌≤◌, ◌≢◌, ◌⊎◌, List, true, inl, inr, refl, sym, ◌∙◌, ap, subst, arith}
+use Rattle.std.proofs.Common.{◌≡◌, ℕ, zero, suc, ◌+◌, ◌-◌, ◌*◌, ◌/◌, ◌%◌, ◌^◌, ◌<◌, ◌≤◌, ◌≢◌, ◌⊎◌, List, true, inl, inr, refl, sym, ◌∙◌, ap}
+use Rattle.std.proofs.Common.{subst, arith}
 use Rattle.std.proofs.Math.Pow.{pow_mono}
 use Rattle.std.proofs.lemmas.Bool.{cases_lt}
 use Rattle.std.proofs.lemmas.Bool.Decides.{nat_tests}
 use Rattle.std.proofs.lemmas.Nat.{pow_pos, mod_below}
 use Rattle.std.proofs.lemmas.Nat.Gcd.{dvd_refl, dvd-zero, dvd_of_mod-eq-zero, mod-eq-zero_of_dvd}
-use Rattle.std.proofs.Math.Nat.{pow-succ', dvd-sub, dvd-mod_iff, dvd-add_iff_left, div-add-mod, mul-suc, dvd-mul_right, dvd-mul_left, dvd_of_mul-dvd-mul_right, div-mul_cancel, mul_comm, mul_assoc}
+use Rattle.std.proofs.Math.Nat.{pow-succ', dvd-sub, dvd-mod_iff, dvd-add_iff_left, div-add-mod, mul-suc, dvd-mul_right, dvd-mul_left}
+use Rattle.std.proofs.Math.Nat.{dvd_of_mul-dvd-mul_right, div-mul_cancel, mul_comm, mul_assoc}
 use Rattle.replay.specs.Spacing.{Stays, AreStaying, FallOut}
 use Rattle.replay.proofs.StepLemmas.{other, contains_filter, contains_filter_back}
 use Rattle.replay.proofs.StayingLemmas.{apart, grows, divides, doubles}
@@ -50,15 +52,18 @@ thinning_starts n high kept staying = record {
 }
 
 -- the next one is kept still
-pub next_is_kept : (n i high : ℕ) (kept : List ℕ) → FallOut n high → i < high → IsThinned n (suc i) high kept → Contains kept (n + 1 - 3 * 2 ^ i)
+pub next_is_kept : (n i high : ℕ) (kept : List ℕ) → FallOut n high → i < high → IsThinned n (suc i) high kept
+    → Contains kept (n + 1 - 3 * 2 ^ i)
 next_is_kept n i high kept out below thinned =
     let fits = out.each i below in
     let some = pow_pos i in
     let dc : 2 ^ i ∣ n + 1 - 3 * 2 ^ i = dvd-sub (2 ^ i) (divides i (suc i) (n + 1) (omega arith) fits.0) (dvd-mul_left (2 ^ i) 3) in
-    thinned.full (n + 1 - 3 * 2 ^ i) (omega (arith, some, fits.1)) (i, dc, omega (arith, some, fits.1)) (λ j above less e. omega (arith, doubles i j above, some, fits.1, e))
+    thinned.full (n + 1 - 3 * 2 ^ i) (omega (arith, some, fits.1)) (i, dc, omega (arith, some, fits.1))
+    (λ j above less e. omega (arith, doubles i j above, some, fits.1, e))
 
 -- and is taken out
-pub thinned_next : (n i high : ℕ) (kept : List ℕ) → FallOut n high → i < high → IsThinned n (suc i) high kept → IsThinned n i high (filter (other (n + 1 - 3 * 2 ^ i)) kept)
+pub thinned_next : (n i high : ℕ) (kept : List ℕ) → FallOut n high → i < high → IsThinned n (suc i) high kept
+    → IsThinned n i high (filter (other (n + 1 - 3 * 2 ^ i)) kept)
 thinned_next n i high kept out less thinned =
     let fits = out.each i less in
     let step = n + 1 - 3 * 2 ^ i in
@@ -72,7 +77,8 @@ thinned_next n i high kept out less thinned =
         | inl later ↦ thinned.gone c j (back c h).0 later below
         | inr same ↦ λ e. let p : 2 ^ j ≡ 2 ^ i = ap (λ (k : ℕ). 2 ^ k) (omega arith) in not_step c (back c h).1 (omega (arith, p, e))
       ];
-      full = λ c below stays none. on c (thinned.full c below stays (λ j above high_too. none j (omega arith) high_too)) (is_other c (λ e. none i (omega arith) less (omega (arith, fits.1, e))));
+      full = λ c below stays none. on c (thinned.full c below stays (λ j above high_too. none j (omega arith) high_too))
+          (is_other c (λ e. none i (omega arith) less (omega (arith, fits.1, e))));
     }
 
 -- no image falls out that stays
@@ -132,7 +138,8 @@ pub record IsGap (n gap rest : ℕ) : Type 0 where
 pub next_gap : (n gap rest : ℕ) → IsGap n gap rest → rest % 2 ≡ 0 → 3 * gap ≤ n → IsGap n (gap * 2) (rest / 2)
 next_gap n gap rest h even fits =
     let twice : rest / 2 * 2 ≡ rest = div-mul_cancel 2 (dvd_of_mod-eq-zero 2 even) in
-    let whole : rest / 2 * (gap * 2) ≡ n + 1 = rw (mul_comm gap 2) (sym (mul_assoc (rest / 2) 2 gap) ∙ ap (λ (r : ℕ). r * gap) twice ∙ h.whole) in
+    let whole : rest / 2 * (gap * 2) ≡ n + 1 = rw (mul_comm gap 2)
+    (sym (mul_assoc (rest / 2) 2 gap) ∙ ap (λ (r : ℕ). r * gap) twice ∙ h.whole) in
     let bigger : gap * 2 ≡ 2 ^ suc h.power = omega (arith, h.is, pow-succ' 2 h.power) in
     let some : 1 ≤ rest / 2 = omega (arith, h.some, twice) in
     record {

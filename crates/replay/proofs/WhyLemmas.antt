@@ -17,9 +17,11 @@ pub is_last_hit : (hit : ℕ → Bool) (p : ℕ) → IsLastHit hit 0 p (last_hit
 is_last_hit hit zero = last_none hit 0
 is_last_hit hit (suc p) =
     let e : p + 1 ≡ suc p = omega arith in
-    subst (λ m. IsLastHit hit 0 m (cond (hit p) (Some p) (last_hit hit p))) e (last_more hit 0 p (last_hit hit p) (hit p) (omega arith) (is_last_hit hit p) refl)
+    subst (λ m. IsLastHit hit 0 m (cond (hit p) (Some p) (last_hit hit p))) e
+    (last_more hit 0 p (last_hit hit p) (hit p) (omega arith) (is_last_hit hit p) refl)
 
-chained : (scenario : Scenario) (p : ℕ) (xs : List Spot) (f : ℕ → List ℕ) (r : Option ℕ) → IsLastHit (λ t. writes_any (link_at scenario t) xs) 0 p r
+chained : (scenario : Scenario) (p : ℕ) (xs : List Spot) (f : ℕ → List ℕ) (r : Option ℕ)
+    → IsLastHit (λ t. writes_any (link_at scenario t) xs) 0 p r
     → ((t : ℕ) → IsChain scenario t (before_step scenario t xs) (f t)) → IsChain scenario p xs (and_then r f)
 chained scenario p xs f None h rest = tt
 chained scenario p xs f (Some t) h rest = (record { earlier = h.1; writes = h.2; none_since = h.3 }, rest t)
@@ -45,4 +47,5 @@ pub writer_is : (scenario : Scenario) (cells : set.FinSet nat_cmp) (p : ℕ) (r 
     → (xs : List Spot) → cells ≡ cells_among xs → r ≡ last_writer scenario xs p
 writer_is scenario cells p r found xs is =
     found ∙ ap (λ c. last_hit (step_writes scenario c) p) is
-    ∙ same_hits (step_writes scenario (cells_among xs)) (λ t. writes_any (link_at scenario t) xs) (λ t. writes_among (link_at scenario t) xs) p
+    ∙ same_hits (step_writes scenario (cells_among xs)) (λ t. writes_any (link_at scenario t) xs)
+    (λ t. writes_among (link_at scenario t) xs) p

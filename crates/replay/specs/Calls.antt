@@ -42,7 +42,8 @@ Saw {O} sees old (e ∷ es) new = (between : O) × sees old e between × Saw see
 
 -- an observer that was told a call and its answer, and before it, of a call of many steps, each of these
 abbrev pub Hears : {O : Type 0} → (O → Option Output → State → Bool → O → Type 0) → (O → Event → O → Type 0) → O → Event → O → Type 0
-Hears {O} watches sees old (call, Advanced steps stop) new = (between : O) × WatchedSteps watches old steps (is_by_watcher stop) between × sees between (call, Advanced steps stop) new
+Hears {O} watches sees old (call, Advanced steps stop) new = (between : O) × WatchedSteps watches old steps (is_by_watcher stop) between
+    × sees between (call, Advanced steps stop) new
 Hears watches sees old told new = sees old told new
 
 -- what a call of forward that went a step leaves
@@ -54,7 +55,8 @@ pub record HasGone (old : SessionView) (answer : Option Output) (new : SessionVi
   pub stands : Stands new
 
 -- what a call that goes up to k steps, and up to the one where the observer ends them, answers and leaves
-pub record HasGoneOn (may_refuse : Bool) (old : SessionView) (k : ℕ) (steps : List (Option Output × State)) (stop : Stop) (new : SessionView) : Type 0 where
+pub record HasGoneOn (may_refuse : Bool) (old : SessionView) (k : ℕ) (steps : List (Option Output × State)) (stop : Stop)
+    (new : SessionView) : Type 0 where
   pub on : new.n ≡ old.n + length steps
   pub steps_are : steps ≡ steps_after old.scenario old.n (length steps)
   pub stopped : HasStopped may_refuse old.n k new.n stop
@@ -90,15 +92,18 @@ Answers may_refuse returns old (Show t) (Shown state) new = (t ≤ old.n) × (st
 Answers may_refuse returns old (WithPresent t) (ShownBeside state present scenario) new =
     (t ≤ old.n) × (state ≡ run old.scenario t) × (present ≡ run old.scenario old.n) × (scenario ≡ old.scenario) × HasShown old t new
 Answers may_refuse returns old (SeekBack p) (Sought found) new =
-    ((is_hit : ℕ → Bool) → AnswersAs returns old.scenario (min p old.n) is_hit → found ≡ last_hit is_hit (min p old.n)) × HasSought old (min p old.n) found new
-Answers may_refuse returns old (Add cycle input) Added new = (old.present.cycles < cycle) × (plain_inputs old.scenario < most_plain_inputs) × HasAdded old cycle input new
+    ((is_hit : ℕ → Bool) → AnswersAs returns old.scenario (min p old.n) is_hit → found ≡ last_hit is_hit (min p old.n))
+    × HasSought old (min p old.n) found new
+Answers may_refuse returns old (Add cycle input) Added new = (old.present.cycles < cycle) × (plain_inputs old.scenario < most_plain_inputs)
+    × HasAdded old cycle input new
 Answers may_refuse returns old call (Refused refusal) new = MayRefuse may_refuse old call refusal × (new ≡ old)
 Answers may_refuse returns old call answer new = ⊥
 
 -- calls, each with its answer, that lead from one session to another
 abbrev pub Leads : Bool → (State → Bool → Type 0) → SessionView → List Event → SessionView → Type 0
 Leads may_refuse returns old [] new = new ≡ old
-Leads may_refuse returns old (e ∷ es) new = (between : SessionView) × Answers may_refuse returns old e.0 e.1 between × Leads may_refuse returns between es new
+Leads may_refuse returns old (e ∷ es) new = (between : SessionView) × Answers may_refuse returns old e.0 e.1 between
+    × Leads may_refuse returns between es new
 
 -- the steps that an answer went, and what they put out
 abbrev pub steps_of : Answer → ℕ
@@ -137,7 +142,8 @@ AddsAll (i ∷ is) old new = (between : List Entry) × AddsLast old i.0 i.1 betw
 -- told once, in order; what runs has the inputs that were added, and is as before up to the step where the session stood; the
 -- present machine and the outputs are the reference run's after n steps; few machines are held; and each answer is the one
 -- that is stated of its call, in the session as the calls before it left it
-pub record TimeTravel (may_refuse : Bool) (returns : State → Bool → Type 0) (old : SessionView) (calls : List Call) (events : List Event) (new : SessionView) : Type 0 where
+pub record TimeTravel (may_refuse : Bool) (returns : State → Bool → Type 0) (old : SessionView) (calls : List Call) (events : List Event)
+    (new : SessionView) : Type 0 where
   pub told : map (λ e. e.0) events ≡ calls
   pub rope : new.scenario.rope ≡ old.scenario.rope
   pub inputs : AddsAll (event_inputs events) old.scenario.inputs new.scenario.inputs

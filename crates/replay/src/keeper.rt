@@ -1,6 +1,7 @@
 //! What keeps images of the machine.
 
-ghost use Rattle.std.specs.Prelude.{◌≡◌, ℕ, ◌+◌, ◌<◌, Bool, false, List, [], ◌∷◌, ◌++◌, length, slice_index_or, map, All, Contains, IfOk, OnOk, OnErr, IsOk, MatchOption};
+ghost use Rattle.std.specs.Prelude.{◌≡◌, ℕ, ◌+◌, ◌<◌, Bool, false, List, [], ◌∷◌, ◌++◌, length, slice_index_or, map};
+ghost use Rattle.std.specs.Prelude.{All, Contains, IfOk, OnOk, OnErr, IsOk, MatchOption};
 ghost use Rattle.replay.specs.Memory.{most_images};
 ghost use Rattle.replay.specs.Images.{Image, IsLatest, IsRising, steps, without};
 
@@ -27,7 +28,8 @@ pub trait Keeper: Drop {
 
     /// The image of greatest step at most `t`, or none.
     fn before(&self, t: u64) -> Option<(u64, &Machine)>
-        ensures { MatchOption result (All (λ i. t < i.0) (images self.now)) (λ found. IsLatest (images self.now) t (found.0, found.1.now)) };
+        ensures { MatchOption result (All (λ i. t < i.0) (images self.now))
+            (λ found. IsLatest (images self.now) t (found.0, found.1.now)) };
 
     /// Keeps a copy of the machine as the image of this step.
     fn keep(&mut self, step: u64, machine: &Machine) -> Result<(), Refusal>

@@ -15,9 +15,11 @@ pub fn why_is_chain(processor: &Processor)
     let _processor = processor;
 }
 
-/// The images of a run at a step are one list. So a call of many steps leaves the images that as many calls of one step leave.
+/// The images of a run at a step are one list. So a call of many steps leaves the images that as many calls of one step
+/// leave.
 pub fn images_are_one(processor: &Processor)
-    ensures { (n : ℕ) (xs ys : List Image) → AreImages processor.now.scenario n xs → AreImages processor.now.scenario n ys → xs ≡ ys }
+    ensures { (n : ℕ) (xs ys : List Image) → AreImages processor.now.scenario n xs
+        → AreImages processor.now.scenario n ys → xs ≡ ys }
 {
     let _processor = processor;
 }

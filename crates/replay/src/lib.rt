@@ -1,13 +1,14 @@
 //! A session over a run of the computer: it goes forward, and shows each earlier step.
 //!
-//! For every source that assembles, timed input list and list of session calls, the present machine and channel output are
-//! the reference run's after n steps; at most 2·floor(log2(n+1))+2 machine images of fixed size are held; every earlier step
-//! t is shown as the reference run has it, executing fewer than n-t steps again; and a call refused for memory changes
-//! nothing.
+//! For every source that assembles, timed input list and list of session calls, the present machine and channel output
+//! are the reference run's after n steps; at most 2·floor(log2(n+1))+2 machine images of fixed size are held; every
+//! earlier step t is shown as the reference run has it, executing fewer than n-t steps again; and a call refused for
+//! memory changes nothing.
 //!
 //! This is the contract of [`follow`], which makes any list of calls of a [`Session`], tells the answer of each to an
-//! [`Observer`], and cites the definition `TimeTravel` of `specs/Calls.antt`. Each call has the same in a contract of its own.
-//! The images stand in a [`Keeper`]: in slots that are all made at once ([`SlotKeeper`]), or in a vector that grows
+//! [`Observer`], and cites the definition `TimeTravel` of `specs/Calls.antt`. Each call has the same in a contract of
+//! its own. The images stand in a [`Keeper`]: in slots that are all made at once ([`SlotKeeper`]), or in a vector that
+//! grows
 //! ([`VecKeeper`]).
 #![tactic(auto)]
 

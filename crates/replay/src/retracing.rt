@@ -30,7 +30,8 @@ pub trait StepWriter {
         ensures processor { processor.new ≡ record processor.old { meter = counted processor.old.meter } }
         ensures state { machine.new ≡ (next processor.old.scenario machine.old).0 }
         ensures written { W.told ≡ true →
-            Writes (W.written out.old) (W.written out.new) (text self.now processor.old.scenario number machine.old) result }
+            Writes (W.written out.old) (W.written out.new) (text self.now processor.old.scenario number machine.old)
+            result }
         ensures failures { W.failures out.new ≡ failures_after (W.failures out.old) result };
 }
 
@@ -49,7 +50,8 @@ pub(crate) fn write_steps<T: StepWriter, W: Write>(
     requires stands { shown.old.machine ≡ run processor.old.scenario low }
     requires there { shown.old.step ≡ low }
     ensures written { W.told ≡ true →
-        Writes (W.written out.old) (W.written out.new) (texts_after (T.text writer.now processor.old.scenario) processor.old.scenario low (high - low)) result }
+        Writes (W.written out.old) (W.written out.new)
+        (texts_after (T.text writer.now processor.old.scenario) processor.old.scenario low (high - low)) result }
     ensures failures { W.failures out.new ≡ failures_after (W.failures out.old) result }
     ensures scenario { processor.new.scenario ≡ processor.old.scenario }
     ensures metered { processor.new.meter < 2 ^ 128 }

@@ -22,7 +22,8 @@ pub(crate) fn scan_on<F: Fn(&Machine) -> bool>(
     requires stands { shown.old.machine ≡ run processor.old.scenario low }
     requires callable { F.IsAlwaysCallable hit.now }
     ensures between { IfSome result (λ t. (low ≤ t) × (t < high)) }
-    ensures first { (is_hit : ℕ → Bool) → AnswersAs (FnReturnsAt F.Fn hit.now) processor.old.scenario high is_hit → result ≡ first_hit is_hit low (high - low) }
+    ensures first { (is_hit : ℕ → Bool) → AnswersAs (FnReturnsAt F.Fn hit.now) processor.old.scenario high is_hit
+        → result ≡ first_hit is_hit low (high - low) }
     ensures scenario { processor.new.scenario ≡ processor.old.scenario }
     ensures metered { processor.new.meter < 2 ^ 128 }
     ensures least { processor.old.meter ≤ processor.new.meter }

@@ -1,6 +1,7 @@
 //! The images that stay at a step, reached by many steps at once.
 
-ghost use Rattle.std.specs.Prelude.{◌≡◌, ◌↔◌, ℕ, ◌+◌, ◌-◌, ◌*◌, ◌^◌, ◌<◌, ◌≤◌, false, true, [], ◌∷◌, ◌++◌, All, length, Contains};
+ghost use Rattle.std.specs.Prelude.{◌≡◌, ◌↔◌, ℕ, ◌+◌, ◌-◌, ◌*◌, ◌^◌, ◌<◌, ◌≤◌, false, true, [], ◌∷◌, ◌++◌, All, length};
+ghost use Rattle.std.specs.Prelude.{Contains};
 ghost use Rattle.std.specs.Int.{◌∣◌};
 ghost use Rattle.cpu.specs.Run.{run};
 ghost use Rattle.replay.specs.Images.{Image, steps};
@@ -62,7 +63,8 @@ pub(crate) fn thin_up_to<K: Keeper>(keeper: &mut K, last: u64, n: u64)
     requires past { 0 < n }
     requires first { Contains (steps (K.images keeper.old)) 0 }
     requires before { (c : ℕ) → Contains (steps (K.images keeper.old)) c → c < n }
-    ensures stay { (c : ℕ) → Contains (steps (K.images keeper.new)) c ↔ (Contains (steps (K.images keeper.old)) c × (c ≤ last) × Stays n c) }
+    ensures stay { (c : ℕ) → Contains (steps (K.images keeper.new)) c ↔
+        (Contains (steps (K.images keeper.old)) c × (c ≤ last) × Stays n c) }
     ensures part { (i : Image) → Contains (K.images keeper.new) i → Contains (K.images keeper.old) i }
 {
     let mut at = n;
@@ -74,7 +76,8 @@ pub(crate) fn thin_up_to<K: Keeper>(keeper: &mut K, last: u64, n: u64)
     }
 }
 
-/// Brings a machine to the state after `n` steps from the image of step `base` on, and keeps the images that stay there. Up to
+/// Brings a machine to the state after `n` steps from the image of step `base` on, and keeps the images that stay
+/// there. Up to
 /// `base` they are kept already.
 pub(crate) fn settle<K: Keeper>(
     processor: &mut Processor,

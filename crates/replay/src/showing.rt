@@ -52,7 +52,8 @@ fn draw_near<K: Keeper>(processor: &Processor, keeper: &K, t: u64, shown: &mut S
     }
 }
 
-/// Shows the state after `t` steps: on from where the machine stands, or from the latest image up to there, whichever is nearer.
+/// Shows the state after `t` steps: on from where the machine stands, or from the latest image up to there, whichever
+/// is nearer.
 pub(crate) fn reach<K: Keeper>(processor: &mut Processor, keeper: &K, t: u64, shown: &mut Shown)
     requires within { t < 2 ^ 40 }
     requires first { Contains (steps (K.images keeper.now)) 0 }
@@ -66,7 +67,8 @@ pub(crate) fn reach<K: Keeper>(processor: &mut Processor, keeper: &K, t: u64, sh
     ensures least { processor.old.meter ≤ processor.new.meter }
 
     // It costs no more than from any image that is early enough, nor than from the step that was shown.
-    ensures most { (c : ℕ) → Contains (steps (K.images keeper.now)) c → c ≤ t → processor.new.meter + c ≤ processor.old.meter + t }
+    ensures most { (c : ℕ) → Contains (steps (K.images keeper.now)) c → c ≤ t
+        → processor.new.meter + c ≤ processor.old.meter + t }
     ensures on { shown.old.step ≤ t → processor.new.meter + shown.old.step ≤ processor.old.meter + t }
 {
     draw_near(processor, keeper, t, shown);

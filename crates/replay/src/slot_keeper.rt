@@ -1,6 +1,7 @@
 //! Images in slots.
 
-ghost use Rattle.std.specs.Prelude.{◌≡◌, ◌≢◌, ℕ, ◌<◌, map, slice_index_or, All, AllPairs, Contains, IfOk, OnErr, length};
+ghost use Rattle.std.specs.Prelude.{◌≡◌, ◌≢◌, ℕ, ◌<◌, map, slice_index_or, All, AllPairs, Contains, IfOk, OnErr};
+ghost use Rattle.std.specs.Prelude.{length};
 ghost use Rattle.std.specs.List.{remove};
 ghost use Rattle.replay.specs.Memory.{most_images};
 ghost use Rattle.replay.specs.Slots.{IsSlotted, images_in};
@@ -57,7 +58,9 @@ fn all_free() -> ArrayVec<usize, SLOTS>
 /// Takes the mark of a step out, and answers its slot. It is sought from the newest back, and those passed move up.
 fn take_entry(entries: &mut ArrayVec<(u64, usize), SLOTS>, step: u64) -> usize
     requires { Contains (map (λ m. m.0) entries.old.items) step }
-    ensures { (k : ℕ) × (k < length entries.old.items) × ((step, result) ≡ slice_index_or entries.old.items k (step, result)) × (entries.new.items ≡ remove entries.old.items k) }
+    ensures { (k : ℕ) × (k < length entries.old.items)
+        × ((step, result) ≡ slice_index_or entries.old.items k (step, result))
+        × (entries.new.items ≡ remove entries.old.items k) }
 {
     let Some((mut at, mut slot)) = entries.pop() else {
         unreachable!()

@@ -86,7 +86,8 @@ pub(crate) fn search_steps<K: Keeper, T: StepTest>(
     ensures before { IfSome result (λ r. r.0 < p) }
 
     // The segment of the step that is found is the last one that is run.
-    ensures found { IfSome result (λ r. (c : ℕ) → Contains (steps (K.images keeper.now)) c → c ≤ r.0 → processor.new.meter + c ≤ processor.old.meter + p) }
+    ensures found { IfSome result (λ r. (c : ℕ) → Contains (steps (K.images keeper.now)) c → c ≤ r.0
+        → processor.new.meter + c ≤ processor.old.meter + p) }
     ensures none { IfNone result (processor.new.meter ≤ processor.old.meter + p) }
     ensures stands { shown.new.machine ≡ run processor.old.scenario shown.new.step }
     ensures within { (n : ℕ) → shown.old.step ≤ n → p ≤ n → shown.new.step ≤ n }

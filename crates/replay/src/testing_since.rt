@@ -35,8 +35,10 @@ pub(crate) fn search_steps_since<K: Keeper, T: StepTest>(
     ensures between { IfSome result (λ r. (first ≤ r.0) × (r.0 < p)) }
 
     // No step is made before the latest image up to what is found, or where nothing is up to the first step.
-    ensures found { IfSome result (λ r. (c : ℕ) → Contains (steps (K.images keeper.now)) c → c ≤ r.0 → processor.new.meter + c ≤ processor.old.meter + p) }
-    ensures none { IfNone result ((c : ℕ) → Contains (steps (K.images keeper.now)) c → c ≤ first → processor.new.meter + c ≤ processor.old.meter + p) }
+    ensures found { IfSome result (λ r. (c : ℕ) → Contains (steps (K.images keeper.now)) c → c ≤ r.0
+        → processor.new.meter + c ≤ processor.old.meter + p) }
+    ensures none { IfNone result ((c : ℕ) → Contains (steps (K.images keeper.now)) c → c ≤ first
+        → processor.new.meter + c ≤ processor.old.meter + p) }
     ensures stands { shown.new.machine ≡ run processor.old.scenario shown.new.step }
     ensures within { (n : ℕ) → shown.old.step ≤ n → p ≤ n → shown.new.step ≤ n }
 {

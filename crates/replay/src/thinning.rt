@@ -18,7 +18,8 @@ pub(crate) fn step_before<K: Keeper>(keeper: &K, t: u64) -> u64
     }
 }
 
-/// The power of two below which, at step `n`, the image at the distance `3 · gap - 1` falls out for each power of two `gap`.
+/// The power of two below which, at step `n`, the image at the distance `3 · gap - 1` falls out for each power of two
+/// `gap`.
 fn gap_limit(n: u64) -> u64
     requires within { n < 2 ^ 40 }
     ensures { (j : ℕ) × (result ≡ 2 ^ j) × FallOut n j }
@@ -32,8 +33,8 @@ fn gap_limit(n: u64) -> u64
     gap
 }
 
-/// Takes out the images that stay no longer at step `n`, the farthest first, so that what a keeper frees last is what was
-/// used last.
+/// Takes out the images that stay no longer at step `n`, the farthest first, so that what a keeper frees last is what
+/// was used last.
 pub(crate) fn thin<K: Keeper>(keeper: &mut K, n: u64)
     requires forward { 0 < n }
     requires within { n < 2 ^ 40 }

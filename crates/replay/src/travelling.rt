@@ -13,8 +13,8 @@ use crate::settling::{keep_sure, settle, thin_up_to};
 use crate::watching::{Stepper, walk};
 use cpu::{Machine, Processor};
 
-/// Some steps: the image of the first is kept, and once the last is reached the steps are gone once more for the images that
-/// stay there.
+/// Some steps: the image of the first is kept, and once the last is reached the steps are gone once more for the images
+/// that stay there.
 fn leap<K: Keeper, S: Stepper>(
     processor: &mut Processor,
     keeper: &mut K,
@@ -51,8 +51,8 @@ fn leap<K: Keeper, S: Stepper>(
 /// How far apart images are kept on a long way.
 const STRIDE: u64 = 1 << 14;
 
-/// Many steps from a multiple of the stride on: images are kept at its multiples alone, and once the last step is reached two
-/// to three strides are gone once more for the images that stay there.
+/// Many steps from a multiple of the stride on: images are kept at its multiples alone, and once the last step is
+/// reached two to three strides are gone once more for the images that stay there.
 fn stride_on<K: Keeper, S: Stepper>(
     processor: &mut Processor,
     keeper: &mut K,

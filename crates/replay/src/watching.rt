@@ -12,10 +12,11 @@ use cpu::{Machine, Output, Processor};
 
 /// What watches steps as they are made.
 ///
-/// What it makes of a step is its own: it may write, count, or look for a place to end at. Its `sees` says what is known of it
-/// before and after a step.
+/// What it makes of a step is its own: it may write, count, or look for a place to end at. Its `sees` says what is
+/// known of it before and after a step.
 pub trait Watcher {
-    /// How it stood before a step, the output of the step, the machine after it, whether it ends there, and how it stands then.
+    /// How it stood before a step, the output of the step, the machine after it, whether it ends there, and how it
+    /// stands then.
     ghost sees: { Self → Option Output → State → Bool → Self → Type 0 };
 
     /// A step was made, and put this out. Answers whether it is the last one.
@@ -46,7 +47,8 @@ pub(crate) struct Watching<'a, W: Watcher> {
 impl<'a, W: Watcher> Stepper for Watching<'a, W> {
     ghost use Rattle.cpu.specs.Next.{next};
 
-    ghost sees = { λ old scenario state ended new. (new.watcher.ghost_name ≡ old.watcher.ghost_name) × W.Watcher.sees old.watcher.now (next scenario state).1 (next scenario state).0 ended new.watcher.now };
+    ghost sees = { λ old scenario state ended new. (new.watcher.ghost_name ≡ old.watcher.ghost_name)
+        × W.Watcher.sees old.watcher.now (next scenario state).1 (next scenario state).0 ended new.watcher.now };
 
     #[inline(always)]
     fn make_step(&mut self, processor: &mut Processor, machine: &mut Machine) -> bool {
@@ -55,8 +57,8 @@ impl<'a, W: Watcher> Stepper for Watching<'a, W> {
     }
 }
 
-/// Makes the steps from `low` up to `high`, or up to the one where the stepper ends. Answers the step where the machine stands
-/// then, and whether the stepper ended there.
+/// Makes the steps from `low` up to `high`, or up to the one where the stepper ends. Answers the step where the machine
+/// stands then, and whether the stepper ended there.
 pub(crate) fn walk<S: Stepper>(
     processor: &mut Processor,
     machine: &mut Machine,

@@ -12,14 +12,19 @@ use Rattle.rope.proofs.SameImages.{same_words}
 use Rattle.rope.proofs.Spellings.{spelled_spells}
 
 -- a part of an image begins with its first word
-part_begins : (version : Version) (words : Words) (first n : ℕ) → 0 < n → image_part version words first n ≡ spelled version (word_of_position words first) ++ image_part version words (first + 1) (n - 1)
+part_begins : (version : Version) (words : Words) (first n : ℕ) → 0 < n
+    → image_part version words first n ≡ spelled version (word_of_position words first) ++ image_part version words (first + 1) (n - 1)
 part_begins version words first n some =
     let same : first + 0 ≡ first = omega arith in
-    let one : image_part version words first (0 + 1) ≡ spelled version (word_of_position words first) = rw (image_part-more version words first 0, image_part-none version words first, same) refl in
-    image_part-append version words (0 + 1) (n - 1) first n (omega arith) ∙ ap (λ bytes. bytes ++ image_part version words (first + 1) (n - 1)) one
+    let one : image_part version words first (0 + 1)
+    ≡ spelled version (word_of_position words first) = rw
+    (image_part-more version words first 0, image_part-none version words first, same) refl in
+    image_part-append version words (0 + 1) (n - 1) first n (omega arith)
+    ∙ ap (λ bytes. bytes ++ image_part version words (first + 1) (n - 1)) one
 
 -- every two bytes of an image spell a word
-spells_at : (version : Version) (words : Words) (p : ℕ) → p < fixed_places → spells_word version (get_or (image version words) (2 * p) 0) (get_or (image version words) (2 * p + 1) 0) ≡ true
+spells_at : (version : Version) (words : Words) (p : ℕ) → p < fixed_places
+    → spells_word version (get_or (image version words) (2 * p) 0) (get_or (image version words) (2 * p + 1) 0) ≡ true
 spells_at version words p within =
     let rest : List ℕ = image_part version words p (fixed_places - p) in
     spells_after version (image version words) rest words p (image_front-part version words p (fixed_places - p) fixed_places (omega arith))

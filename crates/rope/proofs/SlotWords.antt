@@ -1,4 +1,5 @@
-use Rattle.std.proofs.Common.{replicate, ◌≡◌, ◌≢◌, ℕ, zero, suc, ◌+◌, ◌<◌, true, false, cond, List, [], ◌∷◌, length, Option, Some, None, get_or, refl, sym, ◌∙◌, inl, inr, arith, get_or-set_other, get_or-set_same}
+use Rattle.std.proofs.Common.{replicate, ◌≡◌, ◌≢◌, ℕ, zero, suc, ◌+◌, ◌<◌, true, false, cond, List, [], ◌∷◌, length, Option, Some, None}
+use Rattle.std.proofs.Common.{get_or, refl, sym, ◌∙◌, inl, inr, arith, get_or-set_other, get_or-set_same}
 use Rattle.std.proofs.Math.ListN.{set}
 use Rattle.std.specs.Ordering.{nat_cmp, eq_by_cmp}
 use Rattle.std.specs.Cmp.{nat_cmp_total}
@@ -37,8 +38,10 @@ unfolding words_of
 get-words_of slots i = map.get-from_entries nat_cmp_total (numbered_from 0 slots) i ∙ find_numbered slots 0 i i (omega arith)
 
 -- a slot that is filled adds its word
-pub words_of-set : (slots : List (Option ℕ)) (i w : ℕ) → i < length slots → words_of (set slots i (Some w)) ≡ map.insert (words_of slots) i w
-words_of-set slots i w lt = map.same_map nat_cmp_total map.nat_cmp-IsAntisymmetric _ _ (λ q. get-words_of (set slots i (Some w)) q ∙ here q ∙ sym (map.get-insert nat_cmp_total (words_of slots) i w q))
+pub words_of-set : (slots : List (Option ℕ)) (i w : ℕ) → i < length slots
+    → words_of (set slots i (Some w)) ≡ map.insert (words_of slots) i w
+words_of-set slots i w lt = map.same_map nat_cmp_total map.nat_cmp-IsAntisymmetric _ _
+    (λ q. get-words_of (set slots i (Some w)) q ∙ here q ∙ sym (map.get-insert nat_cmp_total (words_of slots) i w q))
   where
     here : (q : ℕ) → get_or (set slots i (Some w)) q None ≡ cond (eq_by_cmp nat_cmp q i) (Some w) (map.get (words_of slots) q)
     here q =
@@ -49,7 +52,8 @@ words_of-set slots i w lt = map.same_map nat_cmp_total map.nat_cmp-IsAntisymmetr
 
 -- empty slots hold nothing
 pub words_of-none : (n : ℕ) → words_of (replicate n None) ≡ map.empty
-words_of-none n = map.same_map nat_cmp_total map.nat_cmp-IsAntisymmetric _ _ (λ q. get-words_of (replicate n None) q ∙ nothing n q ∙ sym (map.get-empty nat_cmp q))
+words_of-none n = map.same_map nat_cmp_total map.nat_cmp-IsAntisymmetric _ _
+    (λ q. get-words_of (replicate n None) q ∙ nothing n q ∙ sym (map.get-empty nat_cmp q))
   where
     nothing : (n q : ℕ) → get_or {A = Option ℕ} (replicate n None) q None ≡ None
     nothing zero q = refl

@@ -30,12 +30,14 @@ ones_of_twice word bit lt =
     ones_step (2 * word + bit) ∙ rw (rest, lowest) refl
 
 -- the two bytes of every word have an odd number of one bits
-pub odd_ones : (word : ℕ) → (count_ones ((2 * word + lowest_bit Two word) / 0o400) + count_ones ((2 * word + lowest_bit Two word) % 0o400)) % 2 ≡ 1
+pub odd_ones : (word : ℕ) → (count_ones ((2 * word + lowest_bit Two word) / 0o400) + count_ones ((2 * word + lowest_bit Two word) % 0o400))
+    % 2 ≡ 1
 odd_ones word =
     omega (arith, ones_of_bytes (2 * word + lowest_bit Two word), ones_of_twice word (lowest_bit Two word) (lowest_bit-below Two word))
 
 -- the bytes of a word spell one
-pub spelled_spells : (version : Version) (word : ℕ) → spells_word version ((2 * word + lowest_bit version word) / 0o400) ((2 * word + lowest_bit version word) % 0o400) ≡ true
+pub spelled_spells : (version : Version) (word : ℕ)
+    → spells_word version ((2 * word + lowest_bit version word) / 0o400) ((2 * word + lowest_bit version word) % 0o400) ≡ true
 spelled_spells One word = eq-eqb _ _ (omega arith)
 spelled_spells Two word = eq-eqb _ _ (odd_ones word)
 

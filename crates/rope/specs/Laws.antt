@@ -24,7 +24,8 @@ ReadsAgain written (Err ReadFailed) = ⊤
 
 -- whatever reading an image may answer, the words that were written are read again
 abbrev pub WrittenIsRead : Version → Words → Type 0
-WrittenIsRead version written = (left : List ℕ) (answer : Result Words RopeFault) → ReadsImage version (image version written) left answer → ReadsAgain written answer
+WrittenIsRead version written = (left : List ℕ) (answer : Result Words RopeFault) → ReadsImage version (image version written) left answer
+    → ReadsAgain written answer
 
 -- words that were read are written as the bytes that they were read from
 abbrev pub ReadIsWritten : Version → Words → Type 0

@@ -1,5 +1,6 @@
 -- What reading an image takes from a reader, and what it answers.
-use Rattle.std.specs.Prelude.{◌≡◌, ℕ, ◌+◌, ◌*◌, ◌%◌, ◌<◌, ◌≤◌, ◌==◌, Bool, true, false, List, [], length, drop, slice_index, count_ones, Result, Ok, Err}
+use Rattle.std.specs.Prelude.{◌≡◌, ℕ, ◌+◌, ◌*◌, ◌%◌, ◌<◌, ◌≤◌, ◌==◌, Bool, true, false, List, [], length, drop, slice_index, count_ones}
+use Rattle.std.specs.Prelude.{Result, Ok, Err}
 use Rattle.rope.specs.Places.{banks, bank_words, fixed_places, Words, stands}
 use Rattle.rope.specs.Image.{image}
 use Rattle.rope.specs.declared.spelling.Version.{Version}

@@ -1,5 +1,6 @@
 -- What the steps of reading an image take. Only private contracts cite these.
-use Rattle.std.specs.Prelude.{◌≡◌, ℕ, ◌+◌, ◌*◌, ◌%◌, ◌/◌, ◌<◌, ◌≤◌, true, false, List, [], ◌∷◌, ◌++◌, length, drop, Option, Some, None, Result, Ok, Err}
+use Rattle.std.specs.Prelude.{◌≡◌, ℕ, ◌+◌, ◌*◌, ◌%◌, ◌/◌, ◌<◌, ◌≤◌, true, false, List, [], ◌∷◌, ◌++◌, length, drop, Option, Some, None}
+use Rattle.std.specs.Prelude.{Result, Ok, Err}
 use Rattle.rope.specs.Places.{bank_words, Words, stands}
 use Rattle.rope.specs.Image.{bank_of_entry, spelled, image_front}
 use Rattle.rope.specs.Reading.{spells_word, AllSpellWords, ReadsImage}

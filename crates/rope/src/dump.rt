@@ -45,7 +45,8 @@ impl Dump {
     pub fn read<R: Read>(alloc: Global, reader: &mut R) -> Result<Dump, RopeFault>
         ensures bytes { R.told ≡ true → ReadsDump (R.left reader.old) (R.left reader.new) result }
         ensures whole { IfOk result (λ dump. length dump ≡ image_length) }
-        ensures failures { R.failures reader.new ≡ (if has_read_failed result then one_more (R.failures reader.old) else R.failures reader.old) }
+        ensures failures { R.failures reader.new
+            ≡ (if has_read_failed result then one_more (R.failures reader.old) else R.failures reader.old) }
     {
         match read_text(alloc, reader, IMAGE_BYTES) {
             Ok(bytes) => {

@@ -16,8 +16,8 @@ pub enum Form {
     AsWritten,
     /// With 0 for the lowest bit, so that each two are those of a word in version 1.
     ParityIgnored,
-    /// With the parity bit, which stands below the highest one, moved to the lowest place: each two become those of a word in
-    /// version 2.
+    /// With the parity bit, which stands below the highest one, moved to the lowest place: each two become those of a
+    /// word in version 2.
     Hardware,
     /// So, but with 0 for the lowest bit.
     HardwareParityIgnored,
@@ -136,7 +136,8 @@ impl<R: Read> Read for InForm<R> {
 
 // The next byte, where one is left.
 fn next<R: Read>(device: &mut R, form: Form, held: &mut Held) -> io::Result<Option<u8>>
-    ensures byte { R.told ≡ true → TakesNext (left_in form held.old (R.left device.old)) (left_in form held.new (R.left device.new)) result }
+    ensures byte { R.told ≡ true → TakesNext (left_in form held.old (R.left device.old))
+        (left_in form held.new (R.left device.new)) result }
     ensures failures { R.failures device.new ≡ failures_after (R.failures device.old) result }
 {
     match *held {
@@ -159,7 +160,8 @@ fn first_of_two<R: Read>(
     held: &mut Held,
     high: u8,
 ) -> io::Result<Option<u8>>
-    ensures byte { R.told ≡ true → TakesNext (left_in form (Held.High high) (R.left device.old)) (left_in form held.new (R.left device.new)) result }
+    ensures byte { R.told ≡ true → TakesNext (left_in form (Held.High high) (R.left device.old))
+        (left_in form held.new (R.left device.new)) result }
     ensures failures { R.failures device.new ≡ failures_after (R.failures device.old) result }
 {
     *held = Held::High(high);

@@ -20,7 +20,8 @@ impl Rope {
     ///
     /// After a failure a beginning of it was written.
     pub fn write<W: Write>(&self, out: &mut W, version: Version) -> Result<(), WriteFailed>
-        ensures written { W.told ≡ true → Writes (W.written out.old) (W.written out.new) (image version self.now) result }
+        ensures written { W.told ≡ true → Writes (W.written out.old) (W.written out.new) (image version self.now)
+            result }
         ensures failures { W.failures out.new ≡ failures_after (W.failures out.old) result }
     {
         for entry in 0..ENTRIES {
@@ -37,7 +38,8 @@ impl Rope {
         version: Version,
     ) -> Result<(), WriteFailed>
         requires { entry < banks }
-        ensures written { W.told ≡ true → Writes (W.written out.old) (W.written out.new) (image_part version self.now (bank_words * entry) bank_words) result }
+        ensures written { W.told ≡ true → Writes (W.written out.old) (W.written out.new)
+            (image_part version self.now (bank_words * entry) bank_words) result }
         ensures failures { W.failures out.new ≡ failures_after (W.failures out.old) result }
     {
         write_all(out, self.spelled_bank(entry, version).as_slice())

@@ -1,6 +1,7 @@
 //! Ropes from their images.
 
-ghost use Rattle.std.specs.Prelude.{◌≡◌, ◌<◌, ◌≤◌, ◌+◌, ◌*◌, ◌%◌, ◌++◌, ℕ, List, length, true, IfOk, IfErr, if◌then◌else◌};
+ghost use Rattle.std.specs.Prelude.{◌≡◌, ◌<◌, ◌≤◌, ◌+◌, ◌*◌, ◌%◌, ◌++◌, ℕ, List, length, true, IfOk, IfErr};
+ghost use Rattle.std.specs.Prelude.{if◌then◌else◌};
 ghost use Rattle.words.specs.Devices.{one_more, failures_after};
 ghost use Rattle.rope.specs.Places.{bank_words, fixed_places};
 ghost use Rattle.rope.specs.Reading.{ReadsImage, IsFull, AllSpellWords, has_read_failed};
@@ -16,15 +17,17 @@ use std::alloc::Global;
 use words::{Read, Word};
 
 impl Rope {
-    /// Reads an image of a version to its end, and answers the rope of which it is the image, with a word at every place.
+    /// Reads an image of a version to its end, and answers the rope of which it is the image, with a word at every
+    /// place.
     ///
     /// `NoMemory` is told before any byte is read. Else the first fault is told that is met in the order of the bytes:
-    /// `Short` where they end before 73,728, `Long` where one more stands, `LowBit` of version 1 or `BadParity` of version 2
-    /// where two bytes spell no word, `ReadFailed` where a read failed. No byte after two wrong ones is read.
+    /// `Short` where they end before 73,728, `Long` where one more stands, `LowBit` of version 1 or `BadParity` of
+    /// version 2 where two bytes spell no word, `ReadFailed` where a read failed. No byte after two wrong ones is read.
     pub fn read<R: Read>(alloc: Global, reader: &mut R, version: Version) -> Result<Rope, RopeFault>
         ensures bytes { R.told ≡ true → ReadsImage version (R.left reader.old) (R.left reader.new) result }
         ensures full { IfOk result (λ rope. IsFull rope) }
-        ensures failures { R.failures reader.new ≡ (if has_read_failed result then one_more (R.failures reader.old) else R.failures reader.old) }
+        ensures failures { R.failures reader.new
+            ≡ (if has_read_failed result then one_more (R.failures reader.old) else R.failures reader.old) }
     {
         let mut rope = Rope::empty(alloc)?;
         let mut position = 0;
@@ -37,7 +40,8 @@ impl Rope {
         }
     }
 
-    // Reads on from a position: the words of its bank that stand ready, or else one word. Answers the position after them.
+    // Reads on from a position: the words of its bank that stand ready, or else one word. Answers the position after
+    // them.
     fn read_on<R: Read>(
         &mut self,
         reader: &mut R,
@@ -46,10 +50,13 @@ impl Rope {
     ) -> Result<usize, RopeFault>
         requires { position < fixed_places }
         ensures next { IfOk result (λ next. (position < next) × (next ≤ fixed_places)) }
-        ensures goes { R.told ≡ true → IfOk result (λ next. GoesOn version (R.left reader.old) self.old position (R.left reader.new) self.new next) }
+        ensures goes { R.told ≡ true → IfOk result
+            (λ next. GoesOn version (R.left reader.old) self.old position (R.left reader.new) self.new next) }
         ensures stand { IfOk result (λ next. AllStand self.old position → AllStand self.new next) }
-        ensures fault { R.told ≡ true → IfErr result (λ fault. FaultGoesOn version (R.left reader.old) self.old position (R.left reader.new) fault) }
-        ensures failures { R.failures reader.new ≡ (if has_read_failed result then one_more (R.failures reader.old) else R.failures reader.old) }
+        ensures fault { R.told ≡ true → IfErr result
+            (λ fault. FaultGoesOn version (R.left reader.old) self.old position (R.left reader.new) fault) }
+        ensures failures { R.failures reader.new
+            ≡ (if has_read_failed result then one_more (R.failures reader.old) else R.failures reader.old) }
     {
         let count = self.take_ready(reader, position, version);
         if count > 0 {
@@ -60,12 +67,13 @@ impl Rope {
         Ok(position + 1)
     }
 
-    // Takes the words that stand ready at a position and after it in its bank, if all their bytes spell words, and answers
-    // how many.
+    // Takes the words that stand ready at a position and after it in its bank, if all their bytes spell words, and
+    // answers how many.
     fn take_ready<R: Read>(&mut self, reader: &mut R, position: usize, version: Version) -> usize
         requires { position < fixed_places }
         ensures within { position + result ≤ fixed_places }
-        ensures goes { R.told ≡ true → GoesOn version (R.left reader.old) self.old position (R.left reader.new) self.new (position + result) }
+        ensures goes { R.told ≡ true → GoesOn version (R.left reader.old) self.old position (R.left reader.new) self.new
+            (position + result) }
         ensures stand { AllStand self.old position → AllStand self.new (position + result) }
         ensures failures { R.failures reader.new ≡ R.failures reader.old }
     {
@@ -84,8 +92,10 @@ impl Rope {
         requires place { position < fixed_places }
         requires room { position % bank_words + count ≤ bank_words }
         requires bytes { length bytes.now ≡ 2 * count }
-        ensures goes { (version : Version) (rest : List ℕ) → AllSpellWords version bytes.now (2 * count) → GoesOn version (bytes.now ++ rest) self.old position rest self.new (position + count) }
-        ensures kept { (version : Version) (rest : List ℕ) → GoesOn version rest self.old position rest self.new position }
+        ensures goes { (version : Version) (rest : List ℕ) → AllSpellWords version bytes.now (2 * count)
+            → GoesOn version (bytes.now ++ rest) self.old position rest self.new (position + count) }
+        ensures kept { (version : Version) (rest : List ℕ)
+            → GoesOn version rest self.old position rest self.new position }
         ensures stand { AllStand self.old position → AllStand self.new (position + count) }
     {
         let bank = bank_at(position);
@@ -101,7 +111,8 @@ impl Rope {
 fn read_word<R: Read>(reader: &mut R, position: usize, version: Version) -> Result<Word, RopeFault>
     requires { position < fixed_places }
     ensures word { R.told ≡ true → TakesWord version position (R.left reader.old) (R.left reader.new) result }
-    ensures failures { R.failures reader.new ≡ (if has_read_failed result then one_more (R.failures reader.old) else R.failures reader.old) }
+    ensures failures { R.failures reader.new
+        ≡ (if has_read_failed result then one_more (R.failures reader.old) else R.failures reader.old) }
 {
     let Some(pair) = next_pair(reader)? else {
         return Err(RopeFault::Short);

@@ -83,7 +83,8 @@ at_zero : tells 5 0 0 0 (ccs 0) ≡ codes "SUM is +0: A is 00000 (0), and one wo
 unfolding filled piece shown octal_text digits
 at_zero = refl
 
-counts_below : tells 0 0o177775 1 0o177775 (ccs 0o177775) ≡ codes "SUM is 77775 (-2), below 0: A takes its size less one, 00001 (1), and two words are skipped."
+counts_below : tells 0 0o177775 1 0o177775 (ccs 0o177775)
+    ≡ codes "SUM is 77775 (-2), below 0: A takes its size less one, 00001 (1), and two words are skipped."
 unfolding filled piece shown octal_text digits
 counts_below = refl
 
@@ -96,7 +97,8 @@ kept : tells 5 0 5 5 (ts (Erasable 0o100) 5) ≡ codes "SUM takes A: 00005 (5)."
 unfolding filled piece shown octal_text digits
 kept = refl
 
-kept_without : tells 0o47040 0 1 0o7040 (ts (Erasable 0o100) 0o47040) ≡ codes "SUM takes A, 047040 (20000, overflow), without the overflow: 07040 (3616). A is 00001 (1), and the next word is skipped."
+kept_without : tells 0o47040 0 1 0o7040 (ts (Erasable 0o100) 0o47040)
+    ≡ codes "SUM takes A, 047040 (20000, overflow), without the overflow: 07040 (3616). A is 00001 (1), and the next word is skipped."
 unfolding filled piece shown octal_text digits
 kept_without = refl
 
@@ -138,11 +140,15 @@ unfolding filled piece shown octal_text digits
 plus_passes = refl
 
 -- 10 by 3 is 3, and 1 is left; by 0 it is too much
-divided : filled sum 0 (values 0 3) (record (values 3 3) { l = 1 }) (dv (values 0 3)) ≡ codes "A and L, 00000 (0) and 00012 (10), together are divided by SUM, 00003 (3): A takes the quotient, 00003 (3), and L what is left over, 00001 (1)."
+divided : filled sum 0 (values 0 3) (record (values 3 3) { l = 1 }) (dv (values 0 3))
+    ≡ (codes "A and L, 00000 (0) and 00012 (10), together are divided by SUM, 00003 (3): A takes the quotient, 00003 (3), and L what is "
+    ++ codes "left over, 00001 (1).")
 unfolding filled piece shown octal_text digits
 divided = refl
 
-too_much : tells 0 0 0o37777 0 (dv (values 0 0)) ≡ codes "A and L, 00000 (0) and 00012 (10), together are too much to be divided by SUM, 00000 (0): A is 37777 (16383), and L is 00012 (10)."
+too_much : tells 0 0 0o37777 0 (dv (values 0 0))
+    ≡ (codes "A and L, 00000 (0) and 00012 (10), together are too much to be divided by SUM, 00000 (0): A is 37777 (16383), and L is 00012 "
+    ++ codes "(10).")
 unfolding filled piece shown octal_text digits
 too_much = refl
 
@@ -182,7 +188,8 @@ fits = refl
 all_of_q : leaves_out (anywhere 2) (values 0o47040 5) Rand ≡ false
 all_of_q = refl
 
-without : tells 0o47040 5 1 5 (codes "A is <, and ^ without its overflow.") ≡ codes "A is 047040 (20000, overflow), and 07040 (3616) without its overflow."
+without : tells 0o47040 5 1 5 (codes "A is <, and ^ without its overflow.")
+    ≡ codes "A is 047040 (20000, overflow), and 07040 (3616) without its overflow."
 unfolding filled piece shown octal_text digits
 without = refl
 

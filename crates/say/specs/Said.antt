@@ -1,5 +1,6 @@
 -- A run as sentences: a line for each step.
-use Rattle.std.specs.Prelude.{ℕ, zero, suc, ◌+◌, ◌-◌, ◌^◌, ◌==◌, false, true, nat_lt, nat_le, List, [], ◌∷◌, ◌++◌, codes, decimal, if◌then◌else◌}
+use Rattle.std.specs.Prelude.{ℕ, zero, suc, ◌+◌, ◌-◌, ◌^◌, ◌==◌, false, true, nat_lt, nat_le, List, [], ◌∷◌, ◌++◌, codes, decimal}
+use Rattle.std.specs.Prelude.{if◌then◌else◌}
 use Rattle.std.specs.List.{flat_map}
 use Rattle.words.specs.Numbers.{correct, extend}
 use Rattle.words.specs.Numerals.{octal_text}
@@ -82,4 +83,5 @@ told_from form symbols scenario first number s = if nat_le first number then tol
 -- the lines of the first n steps, from a first one on
 unfoldable pub told_lines : LineForm → SymbolTable → Scenario → ℕ → ℕ → List ℕ
 told_lines form symbols scenario first zero = []
-told_lines form symbols scenario first (suc n) = told_lines form symbols scenario first n ++ told_from form symbols scenario first (suc n) (run scenario n)
+told_lines form symbols scenario first (suc n) = told_lines form symbols scenario first n
+    ++ told_from form symbols scenario first (suc n) (run scenario n)

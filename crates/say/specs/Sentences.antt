@@ -5,11 +5,13 @@
 --   @   what the operand, or the pulse, is called    &   the pulse of the other counter       ~   an interrupt
 --   #   the number of the channel                    !   the word on it after the step
 --   $   Q after the step, as an address              %   the operand after the step, its bits alone
-use Rattle.std.specs.Prelude.{ℕ, ◌%◌, ◌^◌, ◌==◌, ◌&&◌, ◌||◌, Bool, true, false, not, nat_le, List, [], ◌++◌, codes, Option, None, Some, if◌then◌else◌}
+use Rattle.std.specs.Prelude.{ℕ, ◌%◌, ◌^◌, ◌==◌, ◌&&◌, ◌||◌, Bool, true, false, not, nat_le, List, [], ◌++◌, codes, Option, None, Some}
+use Rattle.std.specs.Prelude.{if◌then◌else◌}
 use Rattle.words.specs.Numbers.{correct}
 use Rattle.words.specs.Products.{quotient_fits}
 use Rattle.words.specs.Signs.{over, minus_zero, is_zero, is_minus_wide}
-use Rattle.space.specs.Cells.{accumulator, return_address, program_counter, cycle_right, edit_opcode, lower_accumulator_channel, return_address_channel, superbank_channel}
+use Rattle.space.specs.Cells.{accumulator, return_address, program_counter, cycle_right, edit_opcode, lower_accumulator_channel}
+use Rattle.space.specs.Cells.{return_address_channel, superbank_channel}
 use Rattle.space.specs.declared.place.Linear.{Linear}
 use Rattle.space.specs.declared.place.Linear.TheVariants.{Erasable, Fixed}
 use Rattle.feed.specs.declared.input.Counter.{Counter}
@@ -18,7 +20,9 @@ use Rattle.feed.specs.declared.input.Input.TheVariants.{Count, Word, Interrupt}
 use Rattle.feed.specs.declared.input.Sequence.{Sequence}
 use Rattle.feed.specs.declared.input.Sequence.TheVariants.{Pinc, Minc, Dinc, Pcdu, Mcdu, Shinc, Shanc}
 use Rattle.cpu.specs.declared.instruction.Instruction.{Instruction}
-use Rattle.cpu.specs.declared.instruction.Instruction.TheVariants.{Relint, Inhint, Extend, Resume, Tc, Ccs, Tcf, Das, Lxch, Incr, Ads, Ca, Cs, Index, Dxch, Ts, Xch, Ad, Mask, Read, Write, Rand, Wand, Ror, Wor, Rxor, Edrupt, Dv, Bzf, Msu, Qxch, Aug, Dim, Dca, Dcs, Su, Bzmf, Mp}
+use Rattle.cpu.specs.declared.instruction.Instruction.TheVariants.{Relint, Inhint, Extend, Resume, Tc, Ccs, Tcf, Das, Lxch, Incr, Ads, Ca}
+use Rattle.cpu.specs.declared.instruction.Instruction.TheVariants.{Cs, Index, Dxch, Ts, Xch, Ad, Mask, Read, Write, Rand, Wand, Ror, Wor}
+use Rattle.cpu.specs.declared.instruction.Instruction.TheVariants.{Rxor, Edrupt, Dv, Bzf, Msu, Qxch, Aug, Dim, Dca, Dcs, Su, Bzmf, Mp}
 use Rattle.cpu.specs.declared.next_step.Fetched.{Fetched}
 use Rattle.cpu.specs.declared.next_step.NextStep.{NextStep}
 use Rattle.cpu.specs.declared.next_step.NextStep.TheVariants.{Takes, Enters, Executes}
@@ -173,7 +177,8 @@ executed inside f places before Ads = codes "A, <, and @, [, are added: A is >, 
 executed inside f places before Ca = codes "A takes what @ holds: >."
 executed inside f places before Cs = codes "A takes what @ holds, [, with its sign turned: >."
 executed inside f places before Index = codes "What @ holds, [, is added to the next word before that is executed."
-executed inside f places before Dxch = codes "A and @ change places, and so do L and the word behind it: A is >, L is ), @ is ], and the word behind it is }."
+executed inside f places before Dxch
+    = codes "A and @ change places, and so do L and the word behind it: A is >, L is ), @ is ], and the word behind it is }."
 executed inside f places before Ts = ts places.first before.a
 executed inside f places before Xch = codes "A and @ change places: A is >, and @ is ]."
 executed inside f places before Ad = ad places.first
@@ -256,7 +261,8 @@ asks (Some k) = codes " It asks for ~."
 -- ## The sentence of a step
 
 abbrev pub entered : List ℕ
-entered = codes "The interrupt ~ is entered: ZRUPT keeps where to go on, and BRUPT the word that is put off. What it changes of A, L and Q the handler has to put back."
+entered = (codes "The interrupt ~ is entered: ZRUPT keeps where to go on, and BRUPT the word that is put off. What it changes of A, L and "
+    ++ codes "Q the handler has to put back.")
 
 abbrev pub sentence : State → Places → Values → NextStep → List ℕ
 sentence s places before (Takes input) = taken input before ++ carries s input ++ asks (interrupt_asked s input)

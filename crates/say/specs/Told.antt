@@ -1,5 +1,6 @@
 -- What a sentence tells of: places, what stands there before a step and after it, and what they are called.
-use Rattle.std.specs.Prelude.{ℕ, ◌+◌, ◌-◌, ◌%◌, ◌^◌, ◌==◌, ◌&&◌, Bool, false, not, nat_lt, List, [], ◌++◌, Option, None, Some, is_some, unwrap_or, if◌then◌else◌}
+use Rattle.std.specs.Prelude.{ℕ, ◌+◌, ◌-◌, ◌%◌, ◌^◌, ◌==◌, ◌&&◌, Bool, false, not, nat_lt, List, [], ◌++◌, Option, None, Some, is_some}
+use Rattle.std.specs.Prelude.{unwrap_or, if◌then◌else◌}
 use Rattle.std.specs.Option.{option_map}
 use Rattle.words.specs.Numbers.{correct}
 use Rattle.words.specs.Numerals.{octal_text}
@@ -48,12 +49,22 @@ second_address _ word = word % 2 ^ 12
 abbrev pub executed_places : State → Fetched → Places
 executed_places s f =
     let code = code_of f.extra f.word in
-    record { first = first_place s (address_of code); second = place_in s (second_address code.instruction f.word); channel = f.word % 2 ^ 9 }
+    record {
+      first = first_place s (address_of code);
+      second = place_in s (second_address code.instruction f.word);
+      channel = f.word
+          % 2 ^ 9;
+    }
 
 -- of a counter: its place, and that of the counter into which its overflow is carried
 abbrev pub counter_places : Counter → Option Counter → Places
 counter_places counter None = record { first = Erasable (counter_place counter); second = Erasable (counter_place counter); channel = 0 }
-counter_places counter (Some other) = record { first = Erasable (counter_place counter); second = Erasable (counter_place other); channel = 0 }
+counter_places counter (Some other) = record {
+  first = Erasable (counter_place counter);
+  second = Erasable (counter_place other);
+  channel
+      = 0;
+}
 
 abbrev pub input_places : Input → Places
 input_places (Count counter sequence) = counter_places counter (carries_into counter)
@@ -101,7 +112,8 @@ leads k x to = if nat_lt x (2 ^ 15) then k + x == to else k == to + (2 ^ 16 - 1 
 -- an address by the symbol at another one and the sum of INDEX that makes it of that, as TABLE +2
 abbrev pub indexed_by : SymbolTable → State → ℕ → ℕ → Option ℕ → Option (List ℕ)
 indexed_by symbols s x to None = None
-indexed_by symbols s x to (Some k) = if leads k x to then option_map (λ name. name ++ added_text (Some x)) (symbol_at symbols (place_in s k)) else None
+indexed_by symbols s x to (Some k) = if leads k x to then option_map (λ name. name ++ added_text (Some x))
+    (symbol_at symbols (place_in s k)) else None
 
 abbrev pub indexed : SymbolTable → Words → State → Fetched → Option ℕ → ℕ → Option (List ℕ)
 indexed symbols rope s f None to = None
@@ -109,7 +121,8 @@ indexed symbols rope s f (Some x) to = indexed_by symbols s x to (address_of (co
 
 -- where an address leads: by its name, else by that of the word before INDEX, else by the symbol before it, else the address
 abbrev pub named_address : SymbolTable → Words → State → Fetched → ℕ → List ℕ
-named_address symbols rope s f k = unwrap_or (place_name symbols (place_in s k)) (unwrap_or (indexed symbols rope s f f.added k) (unwrap_or (near_name operand_gap symbols (place_in s k)) (octal_text 4 k)))
+named_address symbols rope s f k = unwrap_or (place_name symbols (place_in s k))
+    (unwrap_or (indexed symbols rope s f f.added k) (unwrap_or (near_name operand_gap symbols (place_in s k)) (octal_text 4 k)))
 
 abbrev pub operand_by : SymbolTable → Words → State → Fetched → Option ℕ → List ℕ
 operand_by symbols rope s f None = []
@@ -135,6 +148,15 @@ input_other (Word n w) = []
 input_other (Interrupt k) = []
 
 abbrev pub called : SymbolTable → Words → State → NextStep → Called
-called symbols rope s (Takes input) = record { operand = input_text input; other = input_other input; interrupt = interrupt_called (interrupt_asked s input) }
+called symbols rope s (Takes input) = record {
+  operand = input_text input;
+  other = input_other input;
+  interrupt = interrupt_called
+      (interrupt_asked s input);
+}
 called symbols rope s (Enters k) = record { operand = []; other = []; interrupt = interrupt_name k }
-called symbols rope s (Executes f) = record { operand = operand_by symbols rope s f (address_of (code_of f.extra f.word)); other = []; interrupt = [] }
+called symbols rope s (Executes f) = record {
+  operand = operand_by symbols rope s f (address_of (code_of f.extra f.word));
+  other = [];
+  interrupt = [];
+}

@@ -8,7 +8,8 @@ ghost use Rattle.cpu.specs.Codes.{code_of};
 ghost use Rattle.cpu.specs.Effects.{place_in, value_at};
 ghost use Rattle.cpu.specs.Operands.{address_of};
 ghost use Rattle.trace.specs.TraceLines.{added_text, near_name, operand_gap};
-ghost use Rattle.say.specs.Told.{called, indexed, indexed_by, input_other, interrupt_called, leads, named_address, operand_by, other_pulse};
+ghost use Rattle.say.specs.Told.{called, indexed, indexed_by, input_other, interrupt_called, leads, named_address};
+ghost use Rattle.say.specs.Told.{operand_by, other_pulse};
 
 use crate::places::carried_by;
 use arrayvec::ArrayVec;
@@ -107,7 +108,8 @@ fn interrupt_called(interrupt: Option<Interrupt>) -> Text
 
 /// What an instruction's operand is called.
 fn operand<N: Names>(names: &N, rope: &Rope, machine: &Machine, fetched: &Fetched) -> Text
-    ensures { result.items ≡ operand_by (N.table names.now) rope.now machine.now fetched.now (address_of (code_of fetched.now.extra fetched.now.word)) }
+    ensures { result.items ≡ operand_by (N.table names.now) rope.now machine.now fetched.now
+        (address_of (code_of fetched.now.extra fetched.now.word)) }
 {
     match named_address(fetched.word, fetched.extra) {
         Some(address) => address_called(names, rope, machine, fetched, address),
@@ -115,7 +117,8 @@ fn operand<N: Names>(names: &N, rope: &Rope, machine: &Machine, fetched: &Fetche
     }
 }
 
-/// Where an address leads: by its name, else by that of the word before INDEX, else by the symbol before it, else the address.
+/// Where an address leads: by its name, else by that of the word before INDEX, else by the symbol before it, else the
+/// address.
 #[tactic(auto, unfolding(cpu::specs::Effects::place_in))]
 fn address_called<N: Names>(
     names: &N,
@@ -140,7 +143,8 @@ fn address_called<N: Names>(
 /// An address by the symbol before its place, or as it is.
 #[tactic(auto, unfolding(cpu::specs::Effects::place_in))]
 fn near_address<N: Names>(names: &N, machine: &Machine, address: Addr12) -> Text
-    ensures { result.items ≡ unwrap_or (near_name operand_gap (N.table names.now) (place_in machine.now address)) (octal_text 4 address) }
+    ensures { result.items ≡ unwrap_or (near_name operand_gap (N.table names.now) (place_in machine.now address))
+        (octal_text 4 address) }
 {
     match near_name(
         OPERAND_GAP,
@@ -169,7 +173,8 @@ fn indexed<N: Names>(
     fetched: &Fetched,
     to: Addr12,
 ) -> Option<Text>
-    ensures { option_map (λ text. text.items) result ≡ indexed (N.table names.now) rope.now machine.now fetched.now fetched.now.added to }
+    ensures { option_map (λ text. text.items) result
+        ≡ indexed (N.table names.now) rope.now machine.now fetched.now fetched.now.added to }
 {
     match fetched.added {
         Some(sum) => {

@@ -2,7 +2,10 @@
 
 ghost use Rattle.std.specs.Prelude.{◌≡◌, ◌≤◌, length};
 ghost use Rattle.cpu.specs.Effects.{is_whole};
-ghost use Rattle.say.specs.Sentences.{ad, bzf, bzmf, ccs, das, dim, dv, either_overflows, executed, goes_out, is_editing, is_from_q, is_place, is_q, leaves_out, left_out, mask, overflows, rand, relint, resume, ror, rxor, tc, ts, ts_overflowing, ts_plain, wand, wor, write};
+ghost use Rattle.say.specs.Sentences.{ad, bzf, bzmf, ccs, das, dim, dv, either_overflows, executed, goes_out};
+ghost use Rattle.say.specs.Sentences.{is_editing, is_from_q, is_place, is_q, leaves_out, left_out, mask, overflows};
+ghost use Rattle.say.specs.Sentences.{rand, relint, resume, ror, rxor, tc, ts, ts_overflowing, ts_plain, wand, wor};
+ghost use Rattle.say.specs.Sentences.{write};
 
 use crate::division::quotient_fits;
 use crate::places::Places;
@@ -42,7 +45,8 @@ pub(crate) fn executed(
         Instruction::Index =>
             b"What @ holds, [, is added to the next word before that is executed.",
         Instruction::Dxch =>
-            b"A and @ change places, and so do L and the word behind it: A is >, L is ), @ is ], and the word behind it is }.",
+            b"A and @ change places, and so do L and the word behind it: A is >, L is ), @ is ], and the word behind \
+                it is }.",
         Instruction::Ts => ts(&places.first, before.a),
         Instruction::Xch => b"A and @ change places: A is >, and @ is ].",
         Instruction::Ad => ad(&places.first),

@@ -39,7 +39,8 @@ pub fn tell_step<N: Names, W: Write>(
     ensures scenario { processor.new.scenario ≡ processor.old.scenario }
     ensures state { machine.new ≡ (next processor.old.scenario machine.old).0 }
     ensures written { W.told ≡ true →
-        Writes (W.written out.old) (W.written out.new) (told_line form (N.table names.now) processor.old.scenario number machine.old) result }
+        Writes (W.written out.old) (W.written out.new)
+        (told_line form (N.table names.now) processor.old.scenario number machine.old) result }
     ensures failures { W.failures out.new ≡ failures_after (W.failures out.old) result }
 {
     match form {

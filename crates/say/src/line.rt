@@ -43,7 +43,8 @@ pub fn say_step<N: Names, W: Write>(
     ensures scenario { processor.new.scenario ≡ processor.old.scenario }
     ensures state { machine.new ≡ (next processor.old.scenario machine.old).0 }
     ensures written { W.told ≡ true →
-        Writes (W.written out.old) (W.written out.new) (said_line (N.table names.now) processor.old.scenario number machine.old) result }
+        Writes (W.written out.old) (W.written out.new)
+        (said_line (N.table names.now) processor.old.scenario number machine.old) result }
     ensures failures { W.failures out.new ≡ failures_after (W.failures out.old) result }
 {
     let scene = scene_of(names, processor, machine);
@@ -64,12 +65,15 @@ struct Scene {
 /// What is told of the next step.
 fn scene_of<N: Names>(names: &N, processor: &Processor, machine: &Machine) -> Scene
     requires { FitsRun processor.now.scenario machine.now }
-    ensures what { result.what.items ≡ what_text (N.table names.now) processor.now.scenario.rope machine.now (next_step processor.now.scenario machine.now) }
+    ensures what { result.what.items ≡ what_text (N.table names.now) processor.now.scenario.rope machine.now
+        (next_step processor.now.scenario machine.now) }
     ensures short { array_vec_len result.what ≤ 66 }
-    ensures called { result.called ≡ called (N.table names.now) processor.now.scenario.rope machine.now (next_step processor.now.scenario machine.now) }
+    ensures called { result.called ≡ called (N.table names.now) processor.now.scenario.rope machine.now
+        (next_step processor.now.scenario machine.now) }
     ensures places { result.places ≡ places_of machine.now (next_step processor.now.scenario machine.now) }
     ensures before { result.before ≡ values_before processor.now.scenario.rope machine.now result.places }
-    ensures sentence { result.sentence.items ≡ sentence machine.now result.places result.before (next_step processor.now.scenario machine.now) }
+    ensures sentence { result.sentence.items
+        ≡ sentence machine.now result.places result.before (next_step processor.now.scenario machine.now) }
 {
     let step = processor.next_step(machine);
     let places = places_of(machine, &step);
@@ -97,7 +101,8 @@ fn write_line<W: Write>(
     ensures written { W.told ≡ true →
         Writes (W.written out.old) (W.written out.new)
         ((field 8 (decimal number) ++ scene.what.items)
-        ++ (filled scene.called scene.places.channel scene.before (values_after rope.now machine.now scene.places) scene.sentence.items ++ codes "\n")) result }
+        ++ (filled scene.called scene.places.channel scene.before (values_after rope.now machine.now scene.places)
+        scene.sentence.items ++ codes "\n")) result }
     ensures failures { W.failures out.new ≡ failures_after (W.failures out.old) result }
 {
     let Scene {
@@ -124,7 +129,8 @@ fn write_line<W: Write>(
 /// After a failure a beginning of it was written.
 fn write_head<W: Write>(number: u64, what: &StepFields, out: &mut W) -> Result<(), WriteFailed>
     requires { array_vec_len what.now ≤ 66 }
-    ensures written { W.told ≡ true → Writes (W.written out.old) (W.written out.new) (field 8 (decimal number) ++ what.now.items) result }
+    ensures written { W.told ≡ true → Writes (W.written out.old) (W.written out.new)
+        (field 8 (decimal number) ++ what.now.items) result }
     ensures failures { W.failures out.new ≡ failures_after (W.failures out.old) result }
 {
     let mut head: ArrayVec<u8, 128> = ArrayVec::new();

@@ -34,7 +34,8 @@ pub(crate) fn write_filled<W: Write>(
     out: &mut W,
 ) -> Result<(), WriteFailed>
     ensures written { W.told ≡ true →
-        Writes (W.written out.old) (W.written out.new) (filled facts.now.called facts.now.channel facts.now.before facts.now.after sentence.now) result }
+        Writes (W.written out.old) (W.written out.new)
+        (filled facts.now.called facts.now.channel facts.now.before facts.now.after sentence.now) result }
     ensures failures { W.failures out.new ≡ failures_after (W.failures out.old) result }
 {
     for byte in sentence {
@@ -49,7 +50,8 @@ pub(crate) fn write_filled<W: Write>(
 #[tactic(auto, unfolding(crate::specs::Said::piece))]
 fn write_piece<W: Write>(facts: &Facts, byte: u8, out: &mut W) -> Result<(), WriteFailed>
     ensures written { W.told ≡ true →
-        Writes (W.written out.old) (W.written out.new) (piece facts.now.called facts.now.channel facts.now.before facts.now.after byte) result }
+        Writes (W.written out.old) (W.written out.new)
+        (piece facts.now.called facts.now.channel facts.now.before facts.now.after byte) result }
     ensures failures { W.failures out.new ≡ failures_after (W.failures out.old) result }
 {
     match byte {

@@ -47,7 +47,8 @@ fn executed_sentence(
     before: &Values,
     instruction: Instruction,
 ) -> Sentence
-    ensures { result.items ≡ executed inside fetched.now places.now before.now instruction ++ left_out (leaves_out places.now before.now instruction) }
+    ensures { result.items ≡ executed inside fetched.now places.now before.now instruction
+        ++ left_out (leaves_out places.now before.now instruction) }
 {
     let mut text = whole(executed(inside, fetched, places, before, instruction));
     push_all(&mut text, left_out(leaves_out(places, before, instruction)));
@@ -56,7 +57,8 @@ fn executed_sentence(
 
 /// What an input does, gives to another counter, and asks for.
 fn input_sentence(machine: &Machine, before: &Values, input: &Input) -> Sentence
-    ensures { result.items ≡ taken input.now before.now ++ carries machine.now input.now ++ asks (interrupt_asked machine.now input.now) }
+    ensures { result.items ≡ taken input.now before.now ++ carries machine.now input.now
+        ++ asks (interrupt_asked machine.now input.now) }
 {
     let mut text = whole(taken(input, before));
     push_all(&mut text, carries(machine, input));
@@ -69,7 +71,8 @@ fn entered() -> &'static [u8]
     ensures text { result.now ≡ entered }
     ensures short { length result.now ≤ 160 }
 {
-    b"The interrupt ~ is entered: ZRUPT keeps where to go on, and BRUPT the word that is put off. What it changes of A, L and Q the handler has to put back."
+    b"The interrupt ~ is entered: ZRUPT keeps where to go on, and BRUPT the word that is put off. What it changes of \
+        A, L and Q the handler has to put back."
 }
 
 /// A sentence of its bytes.

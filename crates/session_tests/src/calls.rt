@@ -5,7 +5,8 @@ use cpu::{Input, Machine, Output, Processor};
 use replay::{Call, Observer, Refusal, Session, SlotKeeper, Stop, Watcher, follow};
 use std::test::Fail;
 
-/// An observer that notes the cycles of what it is shown, and counts the rest. It ends the steps that it watches at some cycles.
+/// An observer that notes the cycles of what it is shown, and counts the rest. It ends the steps that it watches at
+/// some cycles.
 #[derive(Drop)]
 struct Notes {
     shown: [u64; 4],
@@ -129,8 +130,8 @@ fn calls_are_followed(rt: HostRuntime) -> Result<(), Fail> {
     Ok(())
 }
 
-/// Five plus five makes 5 steps in 8 cycles, and puts a word out in the fourth of them: 80,002 cycles have passed after step
-/// 50,001. A call of many steps ends there, or after them all.
+/// Five plus five makes 5 steps in 8 cycles, and puts a word out in the fourth of them: 80,002 cycles have passed after
+/// step 50,001. A call of many steps ends there, or after them all.
 #[test]
 fn many_steps_are_followed(rt: HostRuntime) -> Result<(), Fail> {
     let mut session = Session::<SlotKeeper>::open(rt.alloc(), five_plus_five(rt.alloc())?)?;

@@ -59,8 +59,9 @@ fn go_on(session: &mut Session<SlotKeeper>, k: u64, counter: &mut Counter)
     }
 }
 
-/// Of 100,000 calls to go a step or many, to show a step and to search, none is refused: it is proved that none can be, since
-/// the branches of a refusal are unreachable. Five plus five makes 5 steps in 8 cycles, and puts a word out in the fourth.
+/// Of 100,000 calls to go a step or many, to show a step and to search, none is refused: it is proved that none can be,
+/// since the branches of a refusal are unreachable. Five plus five makes 5 steps in 8 cycles, and puts a word out in
+/// the fourth.
 #[test]
 fn calls_take_no_memory(rt: HostRuntime) -> Result<(), Fail> {
     let alloc = rt.alloc();

@@ -12,7 +12,8 @@ use Rattle.cpu.specs.Texts.{address_text, channel_text, operand_text, operand_wi
 use Rattle.yayul.proofs.Octals.{octal_all}
 
 -- two texts one after the other
-pub text_append : (xs ys : List ℕ) → list_all is_text_byte xs ≡ true → list_all is_text_byte ys ≡ true → list_all is_text_byte (xs ++ ys) ≡ true
+pub text_append : (xs ys : List ℕ) → list_all is_text_byte xs ≡ true → list_all is_text_byte ys ≡ true
+    → list_all is_text_byte (xs ++ ys) ≡ true
 text_append xs ys all others = list_all-append is_text_byte xs ys ∙ rw (all, others) refl
 
 digit_is_text : (d : ℕ) → d < 8 → is_text_byte (48 + d) ≡ true
@@ -35,9 +36,11 @@ name_is_text : (code : Code) → list_all is_text_byte (row_of code.instruction)
 name_is_text code = zero_if (list_all is_text_byte (row_of code.instruction).name) (search (arith))
 
 operand_is_text : (code : Code) → list_all is_text_byte (operand_text (row_of code.instruction).operand code.operand) ≡ true
-operand_is_text code = zero_if (list_all is_text_byte (operand_text (row_of code.instruction).operand code.operand)) (search (arith, address_is_text, channel_is_text))
+operand_is_text code = zero_if (list_all is_text_byte (operand_text (row_of code.instruction).operand code.operand))
+    (search (arith, address_is_text, channel_is_text))
 
-operand_wide : (code : Code) → length (operand_text (row_of code.instruction).operand code.operand) ≡ operand_width (row_of code.instruction).operand
+operand_wide : (code : Code) → length (operand_text (row_of code.instruction).operand code.operand)
+    ≡ operand_width (row_of code.instruction).operand
 operand_wide code = search (arith, length-octal_text)
 
 few_bytes : (code : Code) → length (row_of code.instruction).name + operand_width (row_of code.instruction).operand ≤ 10
@@ -47,7 +50,8 @@ pub instruction_is_text : (extracode : Bool) (word : ℕ) → list_all is_text_b
 unfolding instruction_text
 instruction_is_text extracode word =
     let code = code_of extracode word in
-    text_append (row_of code.instruction).name (operand_text (row_of code.instruction).operand code.operand) (name_is_text code) (operand_is_text code)
+    text_append (row_of code.instruction).name (operand_text (row_of code.instruction).operand code.operand) (name_is_text code)
+    (operand_is_text code)
 
 pub instruction_is_short : (extracode : Bool) (word : ℕ) → length (disassembly extracode word) ≤ 10
 unfolding instruction_text

@@ -15,14 +15,23 @@ use Rattle.source_laws.proofs.GivenBack.{all_given}
 -- the words at a position
 at_position : (a b : Words) → HaveSameWords a b → (p : ℕ) → p < fixed_places → word_of_position a p ≡ word_of_position b p
 unfolding word_of_position
-at_position a b same p lt = same (bank_of_entry (p / bank_words)) (p % bank_words) (bank_of_entry-below (p / bank_words) (omega arith)) (omega arith)
+at_position a b same p lt = same (bank_of_entry (p / bank_words)) (p % bank_words) (bank_of_entry-below (p / bank_words) (omega arith))
+    (omega arith)
 
 -- the bytes of the first positions
-same_fronts : (version : Version) (a b : Words) → HaveSameWords a b → (n : ℕ) → n ≤ fixed_places → image_front version a n ≡ image_front version b n
+same_fronts : (version : Version) (a b : Words) → HaveSameWords a b → (n : ℕ) → n ≤ fixed_places
+    → image_front version a n ≡ image_front version b n
 same_fronts version a b same zero le = image_front-none version a ∙ sym (image_front-none version b)
 same_fronts version a b same (suc n) le =
     let next : suc n ≡ n + 1 = omega arith in
-    rw (next, image_front-more version a n, image_front-more version b n, same_fronts version a b same n (omega arith), at_position a b same n (omega arith)) refl
+    rw (
+      next,
+      image_front-more version a n,
+      image_front-more version b n,
+      same_fronts version a b same n (omega arith),
+      at_position a b same
+          n (omega arith),
+    ) refl
 
 pub gives_image : (version : Version) (words : Words) → AreWords words → GivesImage version words
 gives_image version words few =

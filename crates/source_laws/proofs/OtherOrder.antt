@@ -1,5 +1,6 @@
 -- The image in the other order of the bits, and one wrong bit.
-use Rattle.std.proofs.Common.{◌≡◌, ℕ, ◌+◌, ◌-◌, ◌*◌, ◌/◌, ◌%◌, ◌^◌, ◌<◌, ◌==◌, Bool, true, false, cond, List, [], ◌∷◌, count_ones, refl, ap, ◌∙◌, arith}
+use Rattle.std.proofs.Common.{◌≡◌, ℕ, ◌+◌, ◌-◌, ◌*◌, ◌/◌, ◌%◌, ◌^◌, ◌<◌, ◌==◌, Bool, true, false, cond, List, [], ◌∷◌, count_ones, refl, ap}
+use Rattle.std.proofs.Common.{◌∙◌, arith}
 use Rattle.std.specs.List.{range_with_len, flat_map}
 use Rattle.std.proofs.lemmas.Bool.{eq-eqb, eqb-true}
 use Rattle.std.proofs.lemmas.Bool.Decides.{nat_tests}
@@ -44,15 +45,18 @@ same_high word b small = omega (arith, small)
 
 -- ## The image
 taken_each : (words : Words) (positions : List ℕ)
-    → taken Hardware (flat_map (λ position. other_bytes (word_of_position words position)) positions) ≡ flat_map (λ position. spelled Two (word_of_position words position)) positions
+    → taken Hardware (flat_map (λ position. other_bytes (word_of_position words position)) positions)
+    ≡ flat_map (λ position. spelled Two (word_of_position words position)) positions
 taken_each words [] = refl
 taken_each words (p ∷ ps) =
     let word = word_of_position words p in
     let is = number_is word in
-    rw is (ap (λ (xs : List ℕ). (2 * word + lowest_bit Two word) / 0o400 ∷ (2 * word + lowest_bit Two word) % 0o400 ∷ xs) (taken_each words ps))
+    rw is (ap (λ (xs : List ℕ). (2 * word + lowest_bit Two word) / 0o400 ∷ (2 * word + lowest_bit Two word) % 0o400 ∷ xs)
+    (taken_each words ps))
 
 ignored_each : (words : Words) (positions : List ℕ)
-    → taken HardwareParityIgnored (flat_map (λ position. other_bytes (word_of_position words position)) positions) ≡ flat_map (λ position. spelled One (word_of_position words position)) positions
+    → taken HardwareParityIgnored (flat_map (λ position. other_bytes (word_of_position words position)) positions)
+    ≡ flat_map (λ position. spelled One (word_of_position words position)) positions
 ignored_each words [] = refl
 ignored_each words (p ∷ ps) =
     let word = word_of_position words p in

@@ -21,11 +21,13 @@ abbrev pub is_written : Option ℕ → ℕ → Bool
 is_written None bank = true
 is_written (Some one) bank = bank == one
 
--- a source assembles in the standard language; then at the places of the banks that are written the words stand which stood there, 0 where none did, and no other word stands
+-- a source assembles in the standard language; then at the places of the banks that are written the words stand which stood there, 0 where
+-- none did, and no other word stands
 pub record GivesBack (words : Words) (bank : Option ℕ) (source : List ℕ) : Type 0 where
   pub given : Program
   pub assembles : program Standard source ≡ Ok given
-  pub same : (b offset : ℕ) → b < banks → offset < bank_words → slot_at given.rope b offset ≡ (if is_written bank b then Some (word_at words b offset) else None)
+  pub same : (b offset : ℕ) → b < banks → offset < bank_words
+      → slot_at given.rope b offset ≡ (if is_written bank b then Some (word_at words b offset) else None)
 
 -- the source of all banks assembles, and the image is the one of the words
 pub record GivesImage (version : Version) (words : Words) : Type 0 where

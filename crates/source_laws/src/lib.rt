@@ -1,4 +1,5 @@
-//! The laws of the source that fixed memory is written as, and of images in another form. They are contracts of calls that do nothing.
+//! The laws of the source that fixed memory is written as, and of images in another form. They are contracts of calls
+//! that do nothing.
 #![tactic(auto)]
 
 ghost use Rattle.audit.specs.SourceLines.{source_text};
@@ -9,8 +10,8 @@ ghost use Rattle.source_laws.specs.OtherOrder.{IsTakenAsImage, OneBitIsSeen};
 use rope::{Rope, Version};
 use space::Bank;
 
-/// What is written as a source is given back: the source assembles, and then at the places of the banks that were written the
-/// words stand which stood there, 0 where none did, and no other word stands.
+/// What is written as a source is given back: the source assembles, and then at the places of the banks that were
+/// written the words stand which stood there, 0 where none did, and no other word stands.
 #[tactic(auto, using(crate::proofs::GivenBack::given_back))]
 pub fn source_gives_back(words: &Rope, bank: Option<Bank>)
     ensures { AreWords words.now → IsBank bank → GivesBack words.now bank (source_text words.now bank) }
@@ -28,7 +29,8 @@ pub fn source_gives_image(words: &Rope, version: Version)
     let _version = version;
 }
 
-/// The image of fixed memory in the other order of the bits has the same parity, and is taken for the image of the same words.
+/// The image of fixed memory in the other order of the bits has the same parity, and is taken for the image of the same
+/// words.
 pub fn other_order_is_taken(words: &Rope)
     ensures { IsTakenAsImage words.now }
 {

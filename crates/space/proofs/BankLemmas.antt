@@ -1,11 +1,13 @@
 -- Banks of 256 words, one after another.
-use Rattle.std.proofs.Common.{◌≡◌, ℕ, zero, suc, ◌+◌, ◌*◌, ◌/◌, ◌%◌, ◌<◌, List, [], ◌∷◌, take, length, length-append, get_or, refl, sym, ap, ◌∙◌, arith}
+use Rattle.std.proofs.Common.{◌≡◌, ℕ, zero, suc, ◌+◌, ◌*◌, ◌/◌, ◌%◌, ◌<◌, List, [], ◌∷◌, take, length, length-append, get_or, refl, sym, ap}
+use Rattle.std.proofs.Common.{◌∙◌, arith}
 use Rattle.std.specs.List.{flat_map}
 use Rattle.std.proofs.lemmas.List.Concat.{get_or-flat_map}
 use Rattle.space.specs.Stored.{banked, AreWhole}
 
 -- the words of the first banks
-length-banks : (bs : List (List ℕ)) (i : ℕ) → ((q : ℕ) → q < i → length (get_or bs q []) ≡ 256) → length (flat_map (λ x. x) (take i bs)) ≡ i * 256
+length-banks : (bs : List (List ℕ)) (i : ℕ) → ((q : ℕ) → q < i → length (get_or bs q []) ≡ 256)
+    → length (flat_map (λ x. x) (take i bs)) ≡ i * 256
 length-banks [] zero whole = refl
 length-banks (b ∷ bs) zero whole = refl
 length-banks [] (suc i) whole = absurd (let none : 0 ≡ 256 = whole 0 (omega arith) in omega arith)

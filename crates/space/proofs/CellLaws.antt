@@ -7,7 +7,9 @@ use Rattle.std.specs.FinMap.{get-insert}
 use Rattle.std.specs.FinMap as map
 use Rattle.words.specs.Numbers.{extend, correct}
 use Rattle.words.specs.BitSums.{and_sum}
-use Rattle.space.specs.Cells.{Cells, at, get, put, kept, get_channel, put_channel, channel_cell, both_banks, always_zero, accumulator, return_address, word_at, lower_accumulator, lower_accumulator_channel, return_address_channel, superbank_channel, superbank_mask, edit_opcode}
+use Rattle.space.specs.Cells.{Cells, at, get, put, kept, get_channel, put_channel, channel_cell, both_banks, always_zero, accumulator}
+use Rattle.space.specs.Cells.{return_address, word_at, lower_accumulator, lower_accumulator_channel, return_address_channel}
+use Rattle.space.specs.Cells.{superbank_channel, superbank_mask, edit_opcode}
 
 -- a cell that was set, and the others
 at-insert : (s : Cells) (c x : ℕ) → at (map.insert s c x) c ≡ x
@@ -70,18 +72,21 @@ pub get-put_other : (s : Cells) (p x q : ℕ) → p ≢ both_banks → q ≢ bot
 get-put_other s p x q n6 m6 ne = same_get (put s p x) s q m6 (at-put_other s p x q n6 ne)
 
 -- storing on a channel changes no other cell
-pub at-put_channel_other : (s : Cells) (n x q : ℕ) → n ≢ lower_accumulator_channel → n ≢ return_address_channel → q ≢ channel_cell n → at (put_channel s n x) q ≡ at s q
+pub at-put_channel_other : (s : Cells) (n x q : ℕ) → n ≢ lower_accumulator_channel → n ≢ return_address_channel → q ≢ channel_cell n
+    → at (put_channel s n x) q ≡ at s q
 unfolding put_channel
 at-put_channel_other s n x q n1 n2 ne =
     let masked = at-insert_other s (channel_cell n) (and_sum 15 (correct x) superbank_mask) q ne in
     let plain = at-insert_other s (channel_cell n) (correct x) q ne in
     grind (arith, nat_tests, masked, plain)
 
-put_channel-word : (s : Cells) (n x : ℕ) → n ≢ lower_accumulator_channel → n ≢ return_address_channel → n ≢ superbank_channel → put_channel s n x ≡ map.insert s (channel_cell n) (correct x)
+put_channel-word : (s : Cells) (n x : ℕ) → n ≢ lower_accumulator_channel → n ≢ return_address_channel → n ≢ superbank_channel
+    → put_channel s n x ≡ map.insert s (channel_cell n) (correct x)
 unfolding put_channel
 put_channel-word s n x n1 n2 n7 = grind (arith, nat_tests)
 
-get_channel-word : (s : Cells) (n : ℕ) → n ≢ lower_accumulator_channel → n ≢ return_address_channel → get_channel s n ≡ extend (at s (channel_cell n))
+get_channel-word : (s : Cells) (n : ℕ) → n ≢ lower_accumulator_channel → n ≢ return_address_channel
+    → get_channel s n ≡ extend (at s (channel_cell n))
 unfolding get_channel
 get_channel-word s n n1 n2 =
     let lower : (n == lower_accumulator_channel) ≡ false = grind (arith, nat_tests) in
@@ -91,12 +96,15 @@ get_channel-word s n n1 n2 =
     ∙ ap (λ b. cond b (get s return_address) word) return'
 
 -- and what was stored there reads back, corrected
-pub get-put_channel : (s : Cells) (n x : ℕ) → n ≢ lower_accumulator_channel → n ≢ return_address_channel → n ≢ superbank_channel → get_channel (put_channel s n x) n ≡ extend (correct x)
+pub get-put_channel : (s : Cells) (n x : ℕ) → n ≢ lower_accumulator_channel → n ≢ return_address_channel → n ≢ superbank_channel
+    → get_channel (put_channel s n x) n ≡ extend (correct x)
 get-put_channel s n x n1 n2 n7 =
-    let held : at (put_channel s n x) (channel_cell n) ≡ correct x = ap (λ t. at t (channel_cell n)) (put_channel-word s n x n1 n2 n7) ∙ at-insert s (channel_cell n) (correct x) in
+    let held : at (put_channel s n x) (channel_cell n)
+    ≡ correct x = ap (λ t. at t (channel_cell n)) (put_channel-word s n x n1 n2 n7) ∙ at-insert s (channel_cell n) (correct x) in
     get_channel-word (put_channel s n x) n n1 n2 ∙ ap (λ w. extend w) held
 
 -- of the superbank channel its three bits
-pub get-put_superbank : (s : Cells) (x : ℕ) → get_channel (put_channel s superbank_channel x) superbank_channel ≡ extend (and_sum 15 (correct x) superbank_mask)
+pub get-put_superbank : (s : Cells) (x : ℕ) → get_channel (put_channel s superbank_channel x) superbank_channel
+    ≡ extend (and_sum 15 (correct x) superbank_mask)
 unfolding get_channel put_channel
 get-put_superbank s x = ap (λ w. extend w) (at-insert s (channel_cell superbank_channel) (and_sum 15 (correct x) superbank_mask))

@@ -1,5 +1,6 @@
 -- The map of cells that a pointwise function gives.
-use Rattle.std.proofs.Common.{◌≡◌, ℕ, zero, suc, replicate, ◌+◌, ◌-◌, ◌/◌, ◌%◌, ◌≤◌, ◌<◌, ◌≢◌, Bool, true, false, cond, ◌&&◌, eqb, ltb, leb, List, [], ◌∷◌, map, filter, Option, Some, None, unwrap_or, get_or, refl, sym, ap, ◌∙◌, arith, ⊎_elim}
+use Rattle.std.proofs.Common.{◌≡◌, ℕ, zero, suc, replicate, ◌+◌, ◌-◌, ◌/◌, ◌%◌, ◌≤◌, ◌<◌, ◌≢◌, Bool, true, false, cond, ◌&&◌, eqb, ltb, leb}
+use Rattle.std.proofs.Common.{List, [], ◌∷◌, map, filter, Option, Some, None, unwrap_or, get_or, refl, sym, ap, ◌∙◌, arith, ⊎_elim}
 use Rattle.std.proofs.lemmas.Bool.Decides.{nat_tests}
 use Rattle.std.proofs.lemmas.Bool.{both_ways, cases_eq, cases_lt}
 use Rattle.std.proofs.lemmas.List.{length-replicate, get_or-replicate, get_or_past}
@@ -16,13 +17,16 @@ use Rattle.words.specs.Numbers.{extend, correct}
 pub register_here : (r : List ℕ) (b : List (List ℕ)) (c x : ℕ) → c < 8 → get_or r c 0 ≡ x → held_at r b c ≡ x
 register_here r b c x lt here = grind (arith, nat_tests)
 
-pub register_others : (r q : List ℕ) (b : List (List ℕ)) (c : ℕ) → ((k : ℕ) → k ≢ c → get_or q k 0 ≡ get_or r k 0) → (k : ℕ) → k ≢ c → held_at q b k ≡ held_at r b k
+pub register_others : (r q : List ℕ) (b : List (List ℕ)) (c : ℕ) → ((k : ℕ) → k ≢ c → get_or q k 0 ≡ get_or r k 0) → (k : ℕ) → k ≢ c
+    → held_at q b k ≡ held_at r b k
 register_others r q b c others k ne = ap (λ x. cond (ltb k 8) x (banked b k)) (others k ne)
 
 pub bank_here : (r : List ℕ) (b : List (List ℕ)) (c x : ℕ) → 8 ≤ c → banked b c ≡ x → held_at r b c ≡ x
-bank_here r b c x ge here = let above : ltb c 8 ≡ false = grind (arith, nat_tests) in ap (λ t. cond t (get_or r c 0) (banked b c)) above ∙ here
+bank_here r b c x ge here = let above : ltb c 8
+    ≡ false = grind (arith, nat_tests) in ap (λ t. cond t (get_or r c 0) (banked b c)) above ∙ here
 
-pub bank_others : (r : List ℕ) (b d : List (List ℕ)) (c : ℕ) → ((k : ℕ) → k ≢ c → banked d k ≡ banked b k) → (k : ℕ) → k ≢ c → held_at r d k ≡ held_at r b k
+pub bank_others : (r : List ℕ) (b d : List (List ℕ)) (c : ℕ) → ((k : ℕ) → k ≢ c → banked d k ≡ banked b k) → (k : ℕ) → k ≢ c
+    → held_at r d k ≡ held_at r b k
 bank_others r b d c others k ne = ap (λ x. cond (ltb k 8) (get_or r k 0) x) (others k ne)
 
 find_cons : (f : ℕ → ℕ) (q a : ℕ) (b : Bool) (r : List ℕ)
@@ -59,7 +63,8 @@ at-cells_by f q lt c =
     ap (λ o. unwrap_or o 0) g
 
 changed_at : (f g : ℕ → ℕ) (c x : ℕ) → c < 2560 → is_cell c ≡ true → g c ≡ x → ((q : ℕ) → q ≢ c → g q ≡ f q) → (q : ℕ)
-    → cond (ltb q 2560 && is_cell q) (Some (g q)) None ≡ cond (eq_by_cmp nat_cmp q c) (Some x) (cond (ltb q 2560 && is_cell q) (Some (f q)) None)
+    → cond (ltb q 2560 && is_cell q) (Some (g q)) None
+    ≡ cond (eq_by_cmp nat_cmp q c) (Some x) (cond (ltb q 2560 && is_cell q) (Some (f q)) None)
 changed_at f g c x lt is here others q =
     ⊎_elim
     (λ e. let i : is_cell q ≡ true = ap is_cell e ∙ is in let h : g q ≡ x = ap g e ∙ here in grind (arith, nat_tests))
@@ -67,7 +72,8 @@ changed_at f g c x lt is here others q =
     (cases_eq q c)
 
 -- the map in which one cell holds another number
-pub insert-cells_by : (f g : ℕ → ℕ) (c x : ℕ) → c < 2560 → is_cell c ≡ true → g c ≡ x → ((q : ℕ) → q ≢ c → g q ≡ f q) → cells_by g ≡ fin.insert (cells_by f) c x
+pub insert-cells_by : (f g : ℕ → ℕ) (c x : ℕ) → c < 2560 → is_cell c ≡ true → g c ≡ x → ((q : ℕ) → q ≢ c → g q ≡ f q)
+    → cells_by g ≡ fin.insert (cells_by f) c x
 insert-cells_by f g c x lt is here others =
     same_map nat_cmp_total nat_cmp-IsAntisymmetric _ _ (λ q.
     get-cells_by g q ∙ changed_at f g c x lt is here others q
@@ -111,7 +117,8 @@ unfolding is_cell
 is_cell-channel n p q = grind (arith, nat_tests)
 
 -- what is held at a place or on a channel, by the view
-pub at_view : (e : ℕ → ℕ) (ch : List ℕ) (s : Cells) (c : ℕ) → cells_by (stored e ch) ≡ s → c < 2048 → c ≢ 6 → c ≢ 7 → at s c ≡ number_by c (e c)
+pub at_view : (e : ℕ → ℕ) (ch : List ℕ) (s : Cells) (c : ℕ) → cells_by (stored e ch) ≡ s → c < 2048 → c ≢ 6 → c ≢ 7
+    → at s c ≡ number_by c (e c)
 at_view e ch s c v lt n6 n7 =
     ap (λ m. at m c) (sym v) ∙ at-cells_by (stored e ch) c (omega arith) (is_cell-place c n6 n7 lt) ∙ stored-place e ch c lt
 
@@ -119,7 +126,8 @@ pub register_view : (e : ℕ → ℕ) (ch : List ℕ) (s : Cells) (c : ℕ) → 
 register_view e ch s c v lt n6 n7 = at_view e ch s c v (omega arith) n6 n7 ∙ number_by-register c (e c) lt
 
 -- what the registers hold
-pub held_view : (r : List ℕ) (b : List (List ℕ)) (ch : List ℕ) (s : Cells) (c : ℕ) → cells_by (stored (held_at r b) ch) ≡ s → c < 8 → c ≢ 6 → c ≢ 7 → at s c ≡ get_or r c 0
+pub held_view : (r : List ℕ) (b : List (List ℕ)) (ch : List ℕ) (s : Cells) (c : ℕ) → cells_by (stored (held_at r b) ch) ≡ s → c < 8 → c ≢ 6
+    → c ≢ 7 → at s c ≡ get_or r c 0
 held_view r b ch s c v lt n6 n7 = register_view (held_at r b) ch s c v lt n6 n7 ∙ register_here r b c (get_or r c 0) lt refl
 
 pub word_view : (e : ℕ → ℕ) (ch : List ℕ) (s : Cells) (c : ℕ) → cells_by (stored e ch) ≡ s → c < 2048 → 8 ≤ c → at s c ≡ correct (e c)
@@ -127,10 +135,12 @@ word_view e ch s c v lt ge =
     let plain : ltb c 8 ≡ false = grind (arith, nat_tests) in
     at_view e ch s c v lt (λ e. omega arith) (λ e. omega arith) ∙ ap (λ b. cond b (e c) (correct (e c))) plain
 
-pub reading_view : (e : ℕ → ℕ) (ch : List ℕ) (s : Cells) (c : ℕ) → cells_by (stored e ch) ≡ s → IsStored e ch → c < 2048 → 8 ≤ c → e c ≡ extend (at s c)
+pub reading_view : (e : ℕ → ℕ) (ch : List ℕ) (s : Cells) (c : ℕ) → cells_by (stored e ch) ≡ s → IsStored e ch → c < 2048 → 8 ≤ c
+    → e c ≡ extend (at s c)
 reading_view e ch s c v is lt ge = is.extended c ge ∙ ap extend (sym (word_view e ch s c v lt ge))
 
-pub channel_view : (e : ℕ → ℕ) (ch : List ℕ) (s : Cells) (n : ℕ) → cells_by (stored e ch) ≡ s → n < 512 → n ≢ 1 → n ≢ 2 → at s (2048 + n) ≡ get_or ch n 0
+pub channel_view : (e : ℕ → ℕ) (ch : List ℕ) (s : Cells) (n : ℕ) → cells_by (stored e ch) ≡ s → n < 512 → n ≢ 1 → n ≢ 2
+    → at s (2048 + n) ≡ get_or ch n 0
 channel_view e ch s n v lt n1 n2 =
     ap (λ m. at m (2048 + n)) (sym v) ∙ at-cells_by (stored e ch) (2048 + n) (omega arith) (is_cell-channel n n1 n2) ∙ stored-channel e ch n
 
@@ -142,10 +152,12 @@ stored_other-place e d ch c q others ne = ap (λ v. cond (ltb q 2048) (number_by
 pub view-place : (e d : ℕ → ℕ) (ch : List ℕ) (c x : ℕ) → c < 2048 → c ≢ 6 → c ≢ 7 → number_by c (d c) ≡ x → ((k : ℕ) → k ≢ c → d k ≡ e k)
     → cells_by (stored d ch) ≡ fin.insert (cells_by (stored e ch)) c x
 view-place e d ch c x lt n6 n7 here others =
-    insert-cells_by _ _ c x (omega arith) (is_cell-place c n6 n7 lt) (stored-place d ch c lt ∙ here) (λ q ne. stored_other-place e d ch c q others ne)
+    insert-cells_by _ _ c x (omega arith) (is_cell-place c n6 n7 lt) (stored-place d ch c lt ∙ here)
+    (λ q ne. stored_other-place e d ch c q others ne)
 
 -- a channel holds another number
-stored_other-channel : (e : ℕ → ℕ) (ch dh : List ℕ) (n q : ℕ) → ((k : ℕ) → k ≢ n → get_or dh k 0 ≡ get_or ch k 0) → q ≢ 2048 + n → stored e dh q ≡ stored e ch q
+stored_other-channel : (e : ℕ → ℕ) (ch dh : List ℕ) (n q : ℕ) → ((k : ℕ) → k ≢ n → get_or dh k 0 ≡ get_or ch k 0) → q ≢ 2048 + n
+    → stored e dh q ≡ stored e ch q
 unfolding stored
 stored_other-channel e ch dh n q others ne =
     ⊎_elim
@@ -153,13 +165,16 @@ stored_other-channel e ch dh n q others ne =
     (λ ge. ap (λ v. cond (ltb q 2048) (number_by q (e q)) v) (others (q - 2048) (λ h. ne (omega arith))))
     (cases_lt q 2048)
 
-pub view-channel : (e : ℕ → ℕ) (ch dh : List ℕ) (n x : ℕ) → n < 512 → n ≢ 1 → n ≢ 2 → get_or dh n 0 ≡ x → ((k : ℕ) → k ≢ n → get_or dh k 0 ≡ get_or ch k 0)
+pub view-channel : (e : ℕ → ℕ) (ch dh : List ℕ) (n x : ℕ) → n < 512 → n ≢ 1 → n ≢ 2 → get_or dh n 0 ≡ x
+    → ((k : ℕ) → k ≢ n → get_or dh k 0 ≡ get_or ch k 0)
     → cells_by (stored e dh) ≡ fin.insert (cells_by (stored e ch)) (2048 + n) x
 view-channel e ch dh n x lt n1 n2 here others =
-    insert-cells_by _ _ (2048 + n) x (omega arith) (is_cell-channel n n1 n2) (stored-channel e dh n ∙ here) (λ q ne. stored_other-channel e ch dh n q others ne)
+    insert-cells_by _ _ (2048 + n) x (omega arith) (is_cell-channel n n1 n2) (stored-channel e dh n ∙ here)
+    (λ q ne. stored_other-channel e ch dh n q others ne)
 
 -- a change of one number that its cell can hold
-below_all : (f g : ℕ → ℕ) (c x : ℕ) → ((q : ℕ) → f q < cell_limit q) → g c ≡ x → x < cell_limit c → ((q : ℕ) → q ≢ c → g q ≡ f q) → (q : ℕ) → g q < cell_limit q
+below_all : (f g : ℕ → ℕ) (c x : ℕ) → ((q : ℕ) → f q < cell_limit q) → g c ≡ x → x < cell_limit c → ((q : ℕ) → q ≢ c → g q ≡ f q) → (q : ℕ)
+    → g q < cell_limit q
 below_all f g c x old here lt others q =
     ⊎_elim
     (λ e. let limit : cell_limit q ≡ cell_limit c = ap cell_limit e in let same : g q ≡ x = ap g e ∙ here in omega arith)
@@ -174,10 +189,13 @@ same_extended e d c old here others q ge =
     (λ ne. others q ne ∙ old q ge ∙ ap (λ x. extend (correct x)) (sym (others q ne)))
     (cases_eq q c)
 
-pub IsStored-register : (e d : ℕ → ℕ) (ch : List ℕ) (c x : ℕ) → IsStored e ch → c < 8 → x < cell_limit c → d c ≡ x → ((k : ℕ) → k ≢ c → d k ≡ e k) → IsStored d ch
+pub IsStored-register : (e d : ℕ → ℕ) (ch : List ℕ) (c x : ℕ) → IsStored e ch → c < 8 → x < cell_limit c → d c ≡ x
+    → ((k : ℕ) → k ≢ c → d k ≡ e k) → IsStored d ch
 IsStored-register e d ch c x old lt limit here others = record {
   limits =
-      below_all (stored e ch) (stored d ch) c x old.limits (stored-place d ch c (omega arith) ∙ ap (number_by c) here ∙ number_by-register c x lt) limit (λ q ne. stored_other-place e d ch c q others ne);
+      below_all (stored e ch) (stored d ch) c x old.limits
+      (stored-place d ch c (omega arith) ∙ ap (number_by c) here ∙ number_by-register c x lt) limit
+      (λ q ne. stored_other-place e d ch c q others ne);
   extended = same_extended e d c old.extended (λ ge. absurd (omega arith)) others;
 }
 
@@ -185,10 +203,12 @@ cell_limit-word : (c : ℕ) → 8 ≤ c → cell_limit c ≡ 32768
 unfolding cell_limit
 cell_limit-word c ge = grind (arith, nat_tests)
 
-pub IsStored-word : (e d : ℕ → ℕ) (ch : List ℕ) (c w : ℕ) → IsStored e ch → 8 ≤ c → c < 2048 → w < 32768 → d c ≡ extend w → ((k : ℕ) → k ≢ c → d k ≡ e k) → IsStored d ch
+pub IsStored-word : (e d : ℕ → ℕ) (ch : List ℕ) (c w : ℕ) → IsStored e ch → 8 ≤ c → c < 2048 → w < 32768 → d c ≡ extend w
+    → ((k : ℕ) → k ≢ c → d k ≡ e k) → IsStored d ch
 IsStored-word e d ch c w old ge lt word here others = record {
   limits =
-      below_all (stored e ch) (stored d ch) c w old.limits (stored-place d ch c lt ∙ ap (number_by c) here ∙ number_by-word c w ge word) (rw (cell_limit-word c ge) word) (λ q ne. stored_other-place e d ch c q others ne);
+      below_all (stored e ch) (stored d ch) c w old.limits (stored-place d ch c lt ∙ ap (number_by c) here ∙ number_by-word c w ge word)
+      (rw (cell_limit-word c ge) word) (λ q ne. stored_other-place e d ch c q others ne);
   extended = same_extended e d c old.extended (λ _. here ∙ sym (extended_twice w word) ∙ ap (λ x. extend (correct x)) (sym here)) others;
 }
 
@@ -196,10 +216,12 @@ cell_limit-channel : (n : ℕ) → cell_limit (2048 + n) ≡ 32768
 unfolding cell_limit
 cell_limit-channel n = grind (arith, nat_tests)
 
-pub IsStored-channel : (e : ℕ → ℕ) (ch dh : List ℕ) (n x : ℕ) → IsStored e ch → x < 32768 → get_or dh n 0 ≡ x → ((k : ℕ) → k ≢ n → get_or dh k 0 ≡ get_or ch k 0) → IsStored e dh
+pub IsStored-channel : (e : ℕ → ℕ) (ch dh : List ℕ) (n x : ℕ) → IsStored e ch → x < 32768 → get_or dh n 0 ≡ x
+    → ((k : ℕ) → k ≢ n → get_or dh k 0 ≡ get_or ch k 0) → IsStored e dh
 IsStored-channel e ch dh n x old limit here others = record {
   limits =
-      below_all (stored e ch) (stored e dh) (2048 + n) x old.limits (stored-channel e dh n ∙ here) (rw (cell_limit-channel n) limit) (λ q ne. stored_other-channel e ch dh n q others ne);
+      below_all (stored e ch) (stored e dh) (2048 + n) x old.limits (stored-channel e dh n ∙ here) (rw (cell_limit-channel n) limit)
+      (λ q ne. stored_other-channel e ch dh n q others ne);
   extended = old.extended;
 }
 

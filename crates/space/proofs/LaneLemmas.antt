@@ -1,5 +1,6 @@
 -- The lanes of a chunk in which two banks differ.
-use Rattle.std.proofs.Common.{◌≡◌, ℕ, ◌+◌, ◌-◌, ◌/◌, ◌%◌, ◌^◌, ◌≤◌, ◌<◌, Bool, true, false, cond, not, eqb, ◌==◌, ◌||◌, List, map, take, drop, length, get_or, refl, sym, ap, ◌∙◌, arith, w16}
+use Rattle.std.proofs.Common.{◌≡◌, ℕ, ◌+◌, ◌-◌, ◌/◌, ◌%◌, ◌^◌, ◌≤◌, ◌<◌, Bool, true, false, cond, not, eqb, ◌==◌, ◌||◌, List, map, take}
+use Rattle.std.proofs.Common.{drop, length, get_or, refl, sym, ap, ◌∙◌, arith, w16}
 use Rattle.std.proofs.lemmas.Bool.Decides.{nat_tests}
 use Rattle.std.proofs.lemmas.List.{take-take}
 use Rattle.std.proofs.lemmas.Simd.{tops_compared, length-zip2, length-chunk, mask_l-mod, bit_mask_l, get_or-zip2, get_or-chunk}
@@ -15,7 +16,8 @@ apart a b = not (eqb a b)
 -- the mask of the lanes in which a chunk from the offset o on differs
 abbrev pub lane_mask : ℕ → List ℕ → List ℕ → ℕ
 lane_mask o xs ys =
-    mask_l (map (top 15) (zip2 (λ a b. cond (apart a b) 65535 0) (chunk 0 32 (take (256 - o) (drop o xs))) (chunk 0 32 (take (256 - o) (drop o ys))))) % 2 ^ 64
+    mask_l (map (top 15) (zip2 (λ a b. cond (apart a b) 65535 0) (chunk 0 32 (take (256 - o) (drop o xs)))
+    (chunk 0 32 (take (256 - o) (drop o ys))))) % 2 ^ 64
 
 chunk-part : (o : ℕ) (xs : List ℕ) → o + 32 ≤ 256 → chunk 0 32 (take (256 - o) (drop o xs)) ≡ chunk o 32 xs
 chunk-part o xs le = take-take 32 (256 - o) (drop o xs) (omega arith)
@@ -48,6 +50,7 @@ get_plain s p ge =
     let wide : (p == accumulator || p == return_address) ≡ false = grind (arith, nat_tests) in
     ap (λ b. cond b (at s p) (extend (word_at s p))) wide ∙ ap (λ w. extend w) word
 
-pub get-banked : (r : List ℕ) (b : List (List ℕ)) (ch : List ℕ) (s : Cells) (p : ℕ) → cells_by (stored (held_at r b) ch) ≡ s → IsStored (held_at r b) ch → 8 ≤ p → p < 2048 → get s p ≡ banked b p
+pub get-banked : (r : List ℕ) (b : List (List ℕ)) (ch : List ℕ) (s : Cells) (p : ℕ) → cells_by (stored (held_at r b) ch) ≡ s
+    → IsStored (held_at r b) ch → 8 ≤ p → p < 2048 → get s p ≡ banked b p
 get-banked r b ch s p view is ge lt =
     get_plain s p ge ∙ sym (reading_view (held_at r b) ch s p view is lt ge) ∙ bank_here r b p (banked b p) ge refl

@@ -1,5 +1,6 @@
 -- What is read after something was stored, by place and by channel.
-use Rattle.std.proofs.Common.{◌≡◌, ℕ, ◌+◌, ◌*◌, ◌/◌, ◌%◌, ◌<◌, ◌≤◌, ◌≢◌, Bool, true, false, cond, if◌then◌else◌, ◌||◌, ◌==◌, Some, Option, unwrap_or, refl, sym, ap, ◌∙◌, arith, ⊎_elim}
+use Rattle.std.proofs.Common.{◌≡◌, ℕ, ◌+◌, ◌*◌, ◌/◌, ◌%◌, ◌<◌, ◌≤◌, ◌≢◌, Bool, true, false, cond, if◌then◌else◌, ◌||◌, ◌==◌, Some, Option}
+use Rattle.std.proofs.Common.{unwrap_or, refl, sym, ap, ◌∙◌, arith, ⊎_elim}
 use Rattle.std.proofs.lemmas.Bool.Decides.{nat_tests}
 use Rattle.std.proofs.lemmas.Bool.{cases_eq}
 use Rattle.std.specs.Ordering.{nat_cmp, eq_by_cmp}
@@ -7,9 +8,13 @@ use Rattle.std.specs.Cmp.{nat_cmp_total}
 use Rattle.std.specs.FinMap.{get-insert}
 use Rattle.std.specs.FinMap as map
 use Rattle.words.specs.Numbers.{extend, correct}
-use Rattle.space.specs.Cells.{Cells, erasable_count, at, word_at, get, put, kept, get_channel, put_channel, channel_cell, accumulator, lower_accumulator, return_address, erasable_bank, fixed_bank, both_banks, always_zero, lower_accumulator_channel, return_address_channel, superbank_channel}
-use Rattle.space.specs.Laws.{ReadsBack, wide_back, LeavesPlace, ReadsBothBanks, StoresBothBanks, ReadsBackOn, channel_back, LeavesChannel, AreApart, is_register}
-use Rattle.space.proofs.CellLaws.{at-put, at-put_other, get-put_channel, get-put_superbank, get-put_return_address, get-put_other, at-put_channel_other}
+use Rattle.space.specs.Cells.{Cells, erasable_count, at, word_at, get, put, kept, get_channel, put_channel, channel_cell, accumulator}
+use Rattle.space.specs.Cells.{lower_accumulator, return_address, erasable_bank, fixed_bank, both_banks, always_zero}
+use Rattle.space.specs.Cells.{lower_accumulator_channel, return_address_channel, superbank_channel}
+use Rattle.space.specs.Laws.{ReadsBack, wide_back, LeavesPlace, ReadsBothBanks, StoresBothBanks, ReadsBackOn, channel_back, LeavesChannel}
+use Rattle.space.specs.Laws.{AreApart, is_register}
+use Rattle.space.proofs.CellLaws.{at-put, at-put_other, get-put_channel, get-put_superbank, get-put_return_address, get-put_other}
+use Rattle.space.proofs.CellLaws.{at-put_channel_other}
 
 -- what is held where one cell was set
 held : (o : Bool) (x y : ℕ) (v : Option ℕ) → unwrap_or v 0 ≡ y → unwrap_or (cond o (Some x) v) 0 ≡ cond o x y
@@ -27,9 +32,11 @@ unfolding get put
 banks_back s x =
     let w : ℕ = correct x in
     let t : Cells = map.insert s fixed_bank (w / 0o2000) in
-    let fixed : at (map.insert t erasable_bank (w % 0o10)) fixed_bank ≡ w / 0o2000 = at-set t erasable_bank (w % 0o10) fixed_bank ∙ at-set s fixed_bank (w / 0o2000) fixed_bank in
+    let fixed : at (map.insert t erasable_bank (w % 0o10)) fixed_bank
+    ≡ w / 0o2000 = at-set t erasable_bank (w % 0o10) fixed_bank ∙ at-set s fixed_bank (w / 0o2000) fixed_bank in
     let erasable : at (map.insert t erasable_bank (w % 0o10)) erasable_bank ≡ w % 0o10 = at-set t erasable_bank (w % 0o10) erasable_bank in
-    ap (λ n. extend (n * 0o2000 + at (map.insert t erasable_bank (w % 0o10)) erasable_bank)) fixed ∙ ap (λ n. extend (w / 0o2000 * 0o2000 + n)) erasable
+    ap (λ n. extend (n * 0o2000 + at (map.insert t erasable_bank (w % 0o10)) erasable_bank)) fixed
+    ∙ ap (λ n. extend (w / 0o2000 * 0o2000 + n)) erasable
 
 zero_back : (s : Cells) (x : ℕ) → get (put s always_zero x) always_zero ≡ wide_back always_zero x
 unfolding get put
@@ -62,16 +69,19 @@ reads_both_banks s =
     ap (λ b. extend (at s fixed_bank * 0o2000 + b)) (sym bank)
 
 -- the cells by which a place is read
-same_word : (s t : Cells) (q : ℕ) → at t q ≡ at s q → at t erasable_bank ≡ at s erasable_bank → at t fixed_bank ≡ at s fixed_bank → word_at t q ≡ word_at s q
+same_word : (s t : Cells) (q : ℕ) → at t q ≡ at s q → at t erasable_bank ≡ at s erasable_bank → at t fixed_bank ≡ at s fixed_bank
+    → word_at t q ≡ word_at s q
 same_word s t q here eb fb = grind (arith, nat_tests, here, eb, fb)
 
-same_get : (s t : Cells) (q : ℕ) → at t q ≡ at s q → at t erasable_bank ≡ at s erasable_bank → at t fixed_bank ≡ at s fixed_bank → get t q ≡ get s q
+same_get : (s t : Cells) (q : ℕ) → at t q ≡ at s q → at t erasable_bank ≡ at s erasable_bank → at t fixed_bank ≡ at s fixed_bank
+    → get t q ≡ get s q
 unfolding get
 same_get s t q here eb fb =
     let wide = q == accumulator || q == return_address in
     ap (λ w. cond wide w (extend (word_at t q))) here ∙ ap (λ w. cond wide (at s q) (extend w)) (same_word s t q here eb fb)
 
-same_both : (s t : Cells) → at t erasable_bank ≡ at s erasable_bank → at t fixed_bank ≡ at s fixed_bank → get t both_banks ≡ get s both_banks
+same_both : (s t : Cells) → at t erasable_bank ≡ at s erasable_bank → at t fixed_bank ≡ at s fixed_bank
+    → get t both_banks ≡ get s both_banks
 unfolding get
 same_both s t eb fb = ap (λ b. extend (at t fixed_bank * 0o2000 + b)) eb ∙ ap (λ b. extend (b * 0o2000 + at s erasable_bank)) fb
 
@@ -101,7 +111,8 @@ pub leaves_place : (s : Cells) (p x q : ℕ) → LeavesPlace s p x q
 leaves_place s p x q apart =
     let ne : q ≢ p = λ e. grind (arith, nat_tests, apart, e) in
     ⊎_elim
-    (λ e. rw e (banks_left s p x (λ h. ne (e ∙ sym h)) (λ h. grind (arith, nat_tests, apart, e, h)) (λ h. grind (arith, nat_tests, apart, e, h))))
+    (λ e. rw e (banks_left s p x (λ h. ne (e ∙ sym h)) (λ h. grind (arith, nat_tests, apart, e, h))
+    (λ h. grind (arith, nat_tests, apart, e, h))))
     (λ m6.
     ⊎_elim
     (λ e. rw e (get-put_banks s x q m6 (λ h. grind (arith, nat_tests, apart, e, h)) (λ h. grind (arith, nat_tests, apart, e, h))))
@@ -140,7 +151,8 @@ return_address_back : (s : Cells) (x : ℕ) → get_channel (put_channel s retur
 unfolding get_channel put_channel
 return_address_back s x = get-put_return_address s x
 
-lower_accumulator_back : (s : Cells) (x : ℕ) → get_channel (put_channel s lower_accumulator_channel x) lower_accumulator_channel ≡ extend (correct x)
+lower_accumulator_back : (s : Cells) (x : ℕ) → get_channel (put_channel s lower_accumulator_channel x) lower_accumulator_channel
+    ≡ extend (correct x)
 unfolding get_channel put_channel
 lower_accumulator_back s x = reads_back s lower_accumulator x
 
@@ -151,7 +163,8 @@ reads_back_on s n x =
     (λ n1.
     ⊎_elim
     (λ e. rw e (return_address_back s x))
-    (λ n2. ⊎_elim (λ e. rw e (get-put_superbank s x)) (λ n7. get-put_channel s n x n1 n2 n7 ∙ word_on n x n2 n7) (cases_eq n superbank_channel))
+    (λ n2. ⊎_elim (λ e. rw e (get-put_superbank s x)) (λ n7. get-put_channel s n x n1 n2 n7 ∙ word_on n x n2 n7)
+    (cases_eq n superbank_channel))
     (cases_eq n return_address_channel))
     (cases_eq n lower_accumulator_channel)
 
@@ -178,5 +191,6 @@ are_apart s p n x below = record {
       (at-put_channel_any s n x fixed_bank (λ h. cell_is_no_bank n fixed_bank (omega arith) (omega arith) (sym h)));
   channel = λ apart.
       same_channel s (put s p x) n
-      (at-put_any s p x (cell_of n) (λ h. cell_is_no_place n p below apart (sym h)) (cell_is_no_bank n fixed_bank (omega arith) (omega arith)) (cell_is_no_bank n erasable_bank (omega arith) (omega arith)));
+      (at-put_any s p x (cell_of n) (λ h. cell_is_no_place n p below apart (sym h))
+      (cell_is_no_bank n fixed_bank (omega arith) (omega arith)) (cell_is_no_bank n erasable_bank (omega arith) (omega arith)));
 }

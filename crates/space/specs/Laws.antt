@@ -3,7 +3,9 @@ use Rattle.std.specs.Prelude.{◌≡◌, ℕ, ◌+◌, ◌*◌, ◌/◌, ◌%◌
 use Rattle.words.specs.Numbers.{extend, correct}
 use Rattle.words.specs.BitSums.{and_sum}
 use Rattle.space.specs.declared.place.Linear.{Linear}
-use Rattle.space.specs.Cells.{Cells, word_at, get, put, get_channel, put_channel, kept_of_word, accumulator, lower_accumulator, return_address, erasable_bank, fixed_bank, both_banks, always_zero, lower_accumulator_channel, return_address_channel, superbank_channel, superbank_mask}
+use Rattle.space.specs.Cells.{Cells, word_at, get, put, get_channel, put_channel, kept_of_word, accumulator, lower_accumulator}
+use Rattle.space.specs.Cells.{return_address, erasable_bank, fixed_bank, both_banks, always_zero, lower_accumulator_channel}
+use Rattle.space.specs.Cells.{return_address_channel, superbank_channel, superbank_mask}
 use Rattle.space.specs.Places.{place, window, eb_of, fb_of, sup_of}
 
 -- the word that is read where a word was stored: its banks in their own bits, nothing where always 0 is read, else what is kept

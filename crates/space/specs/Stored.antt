@@ -1,5 +1,6 @@
 -- How a store holds its cells: eight banks of erasable places beside the registers and the channels.
-use Rattle.std.specs.Prelude.{ℕ, ◌-◌, ◌/◌, ◌%◌, ◌<◌, ◌≤◌, ◌≡◌, ◌==◌, nat_lt, if◌then◌else◌, ◌||◌, List, [], length, slice_index, slice_index_or}
+use Rattle.std.specs.Prelude.{ℕ, ◌-◌, ◌/◌, ◌%◌, ◌<◌, ◌≤◌, ◌≡◌, ◌==◌, nat_lt, if◌then◌else◌, ◌||◌, List, [], length, slice_index}
+use Rattle.std.specs.Prelude.{slice_index_or}
 use Rattle.words.specs.Numbers.{extend, correct}
 use Rattle.space.specs.Cells.{erasable_count, accumulator, return_address, erasable_bank, fixed_bank, program_counter}
 

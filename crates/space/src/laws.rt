@@ -1,6 +1,7 @@
 //! Laws of places and cells. Each is the contract of a call that does nothing.
 
-ghost use Rattle.space.specs.Laws.{ReadsBack, LeavesPlace, ReadsBothBanks, StoresBothBanks, ReadsBackOn, LeavesChannel, AreApart, LeadsBack, LeadsAgain};
+ghost use Rattle.space.specs.Laws.{ReadsBack, LeavesPlace, ReadsBothBanks, StoresBothBanks, ReadsBackOn, LeavesChannel};
+ghost use Rattle.space.specs.Laws.{AreApart, LeadsBack, LeadsAgain};
 
 use crate::numbers::{Addr12, Chan, Eras};
 use crate::place::{Banks, Linear};
@@ -38,7 +39,8 @@ pub fn other_channels_stay(store: &Store, channel: Chan, value: Wide, other: Cha
     ensures { LeavesChannel store.now channel value other }
 {}
 
-/// What is stored at a place changes no channel, and what is stored on a channel no place, but that two channels are L and Q.
+/// What is stored at a place changes no channel, and what is stored on a channel no place, but that two channels are L
+/// and Q.
 #[tactic(auto, using(crate::proofs::ReadLaws::are_apart))]
 pub fn places_and_channels_are_apart(store: &Store, place: Eras, channel: Chan, value: Wide)
     ensures { AreApart store.now place channel value }

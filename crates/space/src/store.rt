@@ -1,7 +1,11 @@
 //! The cells of the registers, erasable memory and the channels.
 
-ghost use Rattle.std.specs.Prelude.{◌≡◌, ℕ, ◌+◌, ◌/◌, ◌%◌, ◌^◌, ◌<◌, ◌≤◌, ◌≢◌, length, take, drop, slice_index, replicate, not, ◌==◌, if◌then◌else◌};
-ghost use Rattle.space.specs.Cells.{at, word_at, get, put, get_channel, put_channel, kept, kept_of_word, zero_cells, changed_places, superbank, accumulator, return_address, erasable_bank, fixed_bank, program_counter, both_banks, always_zero, lower_accumulator_channel, return_address_channel, channel_cell, erasable_count, channel_count};
+ghost use Rattle.std.specs.Prelude.{◌≡◌, ℕ, ◌+◌, ◌/◌, ◌%◌, ◌^◌, ◌<◌, ◌≤◌, ◌≢◌, length, take, drop, slice_index};
+ghost use Rattle.std.specs.Prelude.{replicate, not, ◌==◌, if◌then◌else◌};
+ghost use Rattle.space.specs.Cells.{at, word_at, get, put, get_channel, put_channel, kept, kept_of_word, zero_cells};
+ghost use Rattle.space.specs.Cells.{changed_places, superbank, accumulator, return_address, erasable_bank, fixed_bank};
+ghost use Rattle.space.specs.Cells.{program_counter, both_banks, always_zero, lower_accumulator_channel};
+ghost use Rattle.space.specs.Cells.{return_address_channel, channel_cell, erasable_count, channel_count};
 ghost use Rattle.space.specs.Stored.{cell_limit, register_count, lane_count};
 ghost use Rattle.words.specs.Numbers.{extend};
 ghost use Rattle.std.specs.FinMap.{insert};
@@ -178,7 +182,8 @@ impl Store {
         requires registers { register_count ≤ first }
         requires chunk { first % lane_count ≡ 0 }
         requires last { first < erasable_count }
-        ensures { (k : ℕ) → k < lane_count → result / 2 ^ k % 2 ≡ (if get self.now (first + k) == get other.now (first + k) then 0 else 1) }
+        ensures { (k : ℕ) → k < lane_count → result / 2 ^ k % 2
+            ≡ (if get self.now (first + k) == get other.now (first + k) then 0 else 1) }
     {
         differing(&self.banks, &other.banks, first)
     }

@@ -1,5 +1,6 @@
 -- Names in tables: how entries are seen, looked up and added.
-use Rattle.std.proofs.Common.{length, ◌<◌, ◌≤◌, ◌≡◌, ℕ, suc, Bool, true, cond, nat_eq, List, [], ◌∷◌, ◌++◌, map, Some, None, refl, ap, inl, inr, arith}
+use Rattle.std.proofs.Common.{length, ◌<◌, ◌≤◌, ◌≡◌, ℕ, suc, Bool, true, cond, nat_eq, List, [], ◌∷◌, ◌++◌, map, Some, None, refl, ap, inl}
+use Rattle.std.proofs.Common.{inr, arith}
 use Rattle.std.proofs.lemmas.Bool.{cases_Bool, and_parts}
 use Rattle.std.specs.List.{All}
 use Rattle.std.specs.Map.{lookup}
@@ -21,7 +22,8 @@ module _ {K V : Type 0} (bytes : K → List ℕ) where
   lookup-seen (e ∷ es) key = ap (λ rest. cond (same_key bytes key e.0) (Some e.1) rest) (lookup-seen es key)
 
   -- a new name goes last
-  pub insert-seen : (es : List (K × V)) (key : K) (v : V) → value_in (seen es) (bytes key) ≡ None → seen (insert_entry (same_key bytes) es key v) ≡ seen es ++ (bytes key, v) ∷ []
+  pub insert-seen : (es : List (K × V)) (key : K) (v : V) → value_in (seen es) (bytes key) ≡ None
+      → seen (insert_entry (same_key bytes) es key v) ≡ seen es ++ (bytes key, v) ∷ []
   insert-seen [] key v none = refl
   insert-seen (e ∷ es) key v none =
       elim (cases_Bool (same_key bytes key e.0)) [
@@ -37,7 +39,8 @@ same_length (x ∷ xs) [] same = cc
 same_length (x ∷ xs) (y ∷ ys) same = ap suc (same_length xs ys (and_parts (nat_eq x y) (same_name xs ys) same).1)
 
 -- no entry has a name that is longer than all their names
-pub value_in-long : {K V : Type 0} (bytes : K → List ℕ) (most : ℕ) (es : List (K × V)) (name : List ℕ) → All (λ e. length (bytes e.0) ≤ most) es → most < length name → None ≡ value_in (seen bytes es) name
+pub value_in-long : {K V : Type 0} (bytes : K → List ℕ) (most : ℕ) (es : List (K × V)) (name : List ℕ)
+    → All (λ e. length (bytes e.0) ≤ most) es → most < length name → None ≡ value_in (seen bytes es) name
 value_in-long bytes most [] name short long = refl
 value_in-long bytes most (e ∷ es) name short long =
     let here : length (bytes e.0) ≤ most = short 0 e (omega arith) in

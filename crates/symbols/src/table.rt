@@ -1,6 +1,7 @@
 //! Symbols and their values, in order of definition.
 
-ghost use Rattle.std.specs.Prelude.{◌≡◌, ◌≤◌, [], ◌∷◌, ◌++◌, IfOk, OnErr, IfSome, is_some, not, if◌then◌else◌, length, slice_get};
+ghost use Rattle.std.specs.Prelude.{◌≡◌, ◌≤◌, [], ◌∷◌, ◌++◌, IfOk, OnErr, IfSome, is_some, not, if◌then◌else◌, length};
+ghost use Rattle.std.specs.Prelude.{slice_get};
 ghost use Rattle.std.specs.Option.{option_map};
 ghost use Rattle.agc_text.specs.Tables.{value_in};
 
@@ -72,8 +73,8 @@ impl Symbols {
         Some((entry.0.as_slice(), *entry.1))
     }
 
-    /// Adds a name, and answers whether it does: where the name is there already, nothing changes. After an `Err`, where
-    /// memory ran out, nothing has changed either.
+    /// Adds a name, and answers whether it does: where the name is there already, nothing changes. After an `Err`,
+    /// where memory ran out, nothing has changed either.
     pub fn define(&mut self, name: Name, value: Value) -> Result<bool, AllocError>
         ensures added { IfOk result (λ added. added ≡ not (is_some (value_in self.old name))) }
         ensures ok { IfOk result (λ added. self.new ≡ (if added then self.old ++ (name, value) ∷ [] else self.old)) }

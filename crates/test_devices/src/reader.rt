@@ -58,7 +58,8 @@ impl<'a> Read for FaultyReader<'a> {
         ensures err { OnErr result (self.new.left ≡ self.old.left) }
         ensures failures { self.new.failures ≡ failures_after self.old.failures result }
         ensures trouble { is_due self.old.fails_after ≡ true → FailsAs Other result }
-        ensures one { is_due self.old.fails_after ≡ false → result ≡ Ok (min 1 (min (length self.old.left) (length buf.new))) }
+        ensures one { is_due self.old.fails_after ≡ false
+            → result ≡ Ok (min 1 (min (length self.old.left) (length buf.new))) }
         ensures nearer { self.new.fails_after ≡ one_nearer self.old.fails_after }
     {
         if self.fails_after == Some(0) {

@@ -33,7 +33,13 @@ impl Model for FaultyWriter {
 
     ghost Value = { FaultySink };
 
-    ghost view = { λ w. record { written = w.bytes.items; fails_after = w.fails_after; trouble = w.trouble; failures = w.failures } };
+    ghost view = { λ w. record {
+      written = w.bytes.items;
+      fails_after = w.fails_after;
+      trouble = w.trouble;
+      failures
+          = w.failures;
+    } };
 }
 
 impl FaultyWriter {

@@ -5,7 +5,8 @@ use cpu::Machine;
 use replay::{Keeper, Refusal};
 use std::alloc::Global;
 
-/// A keeper that refuses an image, hands the next one to another keeper, and so on: an image that is refused is kept when it is handed over again.
+/// A keeper that refuses an image, hands the next one to another keeper, and so on: an image that is refused is kept
+/// when it is handed over again.
 #[derive(Drop)]
 pub struct RefusingKeeper<K: Keeper> {
     inner: K,

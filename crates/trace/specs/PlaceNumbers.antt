@@ -32,4 +32,5 @@ place_shown (Fixed bank offset) = Some (linear.Fixed bank offset)
 -- the first symbol, from one on, that stands for each place is that at the position which is kept for it, if any
 pub record AreFirst (symbols : SymbolTable) (from : ℕ) (positions : List ℕ) : Type 0 where
   pub len : length positions ≡ place_count
-  pub first : (place : Linear) → IsPlace place → slice_get symbols (slice_index positions (place_number place)) ≡ find (λ e. stands_for place e.1) (drop from symbols)
+  pub first : (place : Linear) → IsPlace place → slice_get symbols (slice_index positions (place_number place))
+      ≡ find (λ e. stands_for place e.1) (drop from symbols)

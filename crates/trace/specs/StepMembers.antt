@@ -24,5 +24,7 @@ word_symbol symbols f = if f.waited then None else symbol_at symbols f.place
 -- an input has neither place nor word, and the entry of an interrupt no word
 abbrev pub what_members : SymbolTable → Words → State → NextStep → List ℕ
 what_members symbols rope s (Takes input) = step_members None None None (taken_text s input)
-what_members symbols rope s (Enters k) = step_members (Some (place_text (entry_place k))) (symbol_at symbols (entry_place k)) None (interrupt_name k)
-what_members symbols rope s (Executes f) = step_members (Some (word_place f)) (word_symbol symbols f) (Some (octal_text 5 f.word)) (fetched_text symbols rope s f)
+what_members symbols rope s (Enters k) = step_members (Some (place_text (entry_place k))) (symbol_at symbols (entry_place k)) None
+    (interrupt_name k)
+what_members symbols rope s (Executes f) = step_members (Some (word_place f)) (word_symbol symbols f) (Some (octal_text 5 f.word))
+    (fetched_text symbols rope s f)

@@ -1,10 +1,12 @@
 -- A run as text: a line for each step.
-use Rattle.std.specs.Prelude.{ℕ, zero, suc, ◌+◌, ◌-◌, ◌*◌, ◌^◌, ◌==◌, ◌&&◌, ◌||◌, Bool, true, false, nat_lt, nat_le, List, [], ◌++◌, length, min, find, unwrap_or, codes, decimal, Option, None, Some, if◌then◌else◌}
+use Rattle.std.specs.Prelude.{ℕ, zero, suc, ◌+◌, ◌-◌, ◌*◌, ◌^◌, ◌==◌, ◌&&◌, ◌||◌, Bool, true, false, nat_lt, nat_le, List, [], ◌++◌, length}
+use Rattle.std.specs.Prelude.{min, find, unwrap_or, codes, decimal, Option, None, Some, if◌then◌else◌}
 use Rattle.std.specs.List.{flat_map}
 use Rattle.std.specs.Option.{option_map, option_or}
 use Rattle.words.specs.Numbers.{correct}
 use Rattle.words.specs.Numerals.{octal_text}
-use Rattle.space.specs.Cells.{Cells, get, get_channel, accumulator, lower_accumulator, return_address, erasable_bank, fixed_bank, program_counter, both_banks, erasable_count}
+use Rattle.space.specs.Cells.{Cells, get, get_channel, accumulator, lower_accumulator, return_address, erasable_bank, fixed_bank}
+use Rattle.space.specs.Cells.{program_counter, both_banks, erasable_count}
 use Rattle.space.specs.declared.place.Linear.{Linear}
 use Rattle.space.specs.declared.place.Linear.TheVariants as linear
 use Rattle.rope.specs.Places.{Words, word_at}
@@ -150,7 +152,8 @@ place_name symbols (linear.Fixed bank offset) = symbol_at symbols (linear.Fixed 
 
 -- how many octal digits a number below 2 ^ 15 has
 abbrev pub octal_digits : ℕ → ℕ
-octal_digits n = if nat_lt n 0o10 then 1 else (if nat_lt n 0o100 then 2 else (if nat_lt n 0o1000 then 3 else (if nat_lt n 0o10000 then 4 else 5)))
+octal_digits n = if nat_lt n 0o10 then 1 else (if nat_lt n 0o100 then 2 else
+    (if nat_lt n 0o1000 then 3 else (if nat_lt n 0o10000 then 4 else 5)))
 
 abbrev pub short_octal : ℕ → List ℕ
 short_octal n = octal_text (octal_digits n) n
@@ -162,7 +165,8 @@ near_count p = min 0o77 (p - 0o61)
 -- the symbol of the nearest of so many erasable places before a place, from a distance on; and how far before it that is
 abbrev pub near_symbol : SymbolTable → ℕ → ℕ → ℕ → Option (List ℕ × ℕ)
 near_symbol symbols p d zero = None
-near_symbol symbols p d (suc more) = option_or (option_map (λ name. (name, d)) (symbol_at symbols (linear.Erasable (p - d)))) (near_symbol symbols p (d + 1) more)
+near_symbol symbols p d (suc more) = option_or (option_map (λ name. (name, d)) (symbol_at symbols (linear.Erasable (p - d))))
+    (near_symbol symbols p (d + 1) more)
 
 -- a symbol, and how many words behind it, with a gap between both
 abbrev pub behind_text : List ℕ → List ℕ × ℕ → List ℕ
@@ -187,7 +191,8 @@ cell_gap = []
 -- an instruction as text, with the name of the place that it names in place of the address
 abbrev pub named_text : SymbolTable → State → Code → Option ℕ → List ℕ
 named_text symbols s code None = instruction_text code
-named_text symbols s code (Some k) = (row_of code.instruction).name ++ codes " " ++ unwrap_or (full_name operand_gap symbols (place_in s k)) (octal_text 4 k)
+named_text symbols s code (Some k) = (row_of code.instruction).name ++ codes " "
+    ++ unwrap_or (full_name operand_gap symbols (place_in s k)) (octal_text 4 k)
 
 abbrev pub word_text : SymbolTable → State → Bool → ℕ → List ℕ
 word_text symbols s extra word = let code = code_of extra word in named_text symbols s code (address_of code)
@@ -218,7 +223,8 @@ cell_name symbols c =
 -- what is read there: 16 bits at A and Q, elsewhere a word
 abbrev pub cell_reading : Cells → ℕ → List ℕ
 cell_reading cells c =
-    if nat_lt c erasable_count then (if c == accumulator || c == return_address then octal_text 6 (get cells c) else octal_text 5 (correct (get cells c)))
+    if nat_lt c erasable_count then (if c == accumulator
+    || c == return_address then octal_text 6 (get cells c) else octal_text 5 (correct (get cells c)))
     else octal_text 5 (correct (get_channel cells (c - erasable_count)))
 
 -- the same, where a place without a name is called by the symbol before it
@@ -262,7 +268,8 @@ line_end (Some o) = codes "  " ++ channel_line o
 -- what a step has read, where that is shown
 unfoldable pub reads_text : Bool → SymbolTable → Scenario → State → List ℕ
 reads_text false symbols scenario s = []
-reads_text true symbols scenario s = codes "READS" ++ or_none (flat_map (was_read symbols scenario.rope s.cells) (reads (link scenario s))) ++ codes " "
+reads_text true symbols scenario s = codes "READS" ++ or_none (flat_map (was_read symbols scenario.rope s.cells) (reads (link scenario s)))
+    ++ codes " "
 
 -- the line of the step that follows a state: its number, the cycles after it, what it is, what it has read, where that is shown, what it
 -- has written, and what goes out
@@ -270,7 +277,8 @@ unfoldable pub trace_line : Bool → SymbolTable → Scenario → ℕ → State 
 trace_line shows_reads symbols scenario number s =
     let after = next scenario s in
     field 8 (decimal number) ++ field 8 (decimal after.0.cycles) ++ what_text symbols scenario.rope s (next_step scenario s)
-    ++ reads_text shows_reads symbols scenario s ++ or_none (flat_map (written symbols after.0.cells) (targets (link scenario s))) ++ line_end after.1
+    ++ reads_text shows_reads symbols scenario s ++ or_none (flat_map (written symbols after.0.cells) (targets (link scenario s)))
+    ++ line_end after.1
 
 -- the line of a step that follows a state, where lines are written from a first step on
 abbrev pub line_from : Bool → SymbolTable → Scenario → ℕ → ℕ → State → List ℕ

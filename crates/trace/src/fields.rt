@@ -36,7 +36,8 @@ const TEXT_WIDTH: usize = 17;
 pub(crate) fn push_field<const N: usize>(line: &mut ArrayVec<u8, N>, width: usize, text: &[u8])
     requires { array_vec_len line.old + length text.now + 2 + width ≤ N }
     ensures items { line.new.items ≡ line.old.items ++ field width text.now }
-    ensures len { array_vec_len line.new ≡ array_vec_len line.old + (length text.now + (2 + (width - length text.now))) }
+    ensures len { array_vec_len line.new ≡ array_vec_len line.old
+        + (length text.now + (2 + (width - length text.now))) }
 {
     push_all(line, text);
     push_blanks(line, 2 + width.saturating_sub(text.len()));

@@ -20,8 +20,8 @@ use words::{Write, WriteFailed, push_all, write_all};
 /// How wide the columns of the step and of the cycles are.
 const NUMBER_WIDTH: usize = 8;
 
-/// Makes a step, and writes its line: its number, the cycles after it, what it is, what it has read, where that is shown, what it
-/// has written, and the channel line of what it puts out.
+/// Makes a step, and writes its line: its number, the cycles after it, what it is, what it has read, where that is
+/// shown, what it has written, and the channel line of what it puts out.
 ///
 /// After a failure a beginning of the line was written.
 #[tactic(auto, unfolding(crate::specs::TraceLines::trace_line))]
@@ -39,7 +39,8 @@ pub fn trace_step<N: Names, W: Write>(
     ensures scenario { processor.new.scenario ≡ processor.old.scenario }
     ensures state { machine.new ≡ (next processor.old.scenario machine.old).0 }
     ensures written { W.told ≡ true →
-        Writes (W.written out.old) (W.written out.new) (trace_line shows_reads (N.table names.now) processor.old.scenario number machine.old) result }
+        Writes (W.written out.old) (W.written out.new)
+        (trace_line shows_reads (N.table names.now) processor.old.scenario number machine.old) result }
     ensures failures { W.failures out.new ≡ failures_after (W.failures out.old) result }
 {
     let what = what_text(names, processor, machine);
@@ -58,7 +59,8 @@ struct Before {
     read: Read,
 }
 
-/// The line of a step, by what was told before it, the machine after it, the cells that it has written, and what it has put out.
+/// The line of a step, by what was told before it, the machine after it, the cells that it has written, and what it has
+/// put out.
 fn line_of<N: Names>(
     names: &N,
     number: u64,
@@ -71,7 +73,8 @@ fn line_of<N: Names>(
     requires read { array_vec_len before.now.read ≤ 166 }
     requires few { length cells.now ≤ 10 }
     ensures { result.items ≡ field 8 (decimal number) ++ field 8 (decimal machine.now.cycles) ++ before.now.what.items
-        ++ before.now.read.items ++ or_none (flat_map (written (N.table names.now) machine.now.cells) cells.now) ++ line_end output }
+        ++ before.now.read.items ++ or_none (flat_map (written (N.table names.now) machine.now.cells) cells.now)
+        ++ line_end output }
 {
     let mut line = ArrayVec::new();
     push_field(&mut line, NUMBER_WIDTH, decimal_text(number).as_slice());

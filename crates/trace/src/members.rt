@@ -17,7 +17,8 @@ use cpu::{Fetched, Machine, NextStep, Processor};
 use json_text::{push_json_string, push_string_or_null};
 use words::push_all;
 
-/// The most bytes of the members that tell what a step is: 35 of names, and a text of 48 and three of 8 bytes as strings.
+/// The most bytes of the members that tell what a step is: 35 of names, and a text of 48 and three of 8 bytes as
+/// strings.
 const STEP_MEMBERS: usize = 512;
 
 /// The members that tell what a step is.
@@ -26,7 +27,8 @@ pub type StepMembers = ArrayVec<u8, STEP_MEMBERS>;
 /// What the next step is, as `,"place":"02,4004","symbol":null,"word":"10100","text":"DV D"`.
 pub fn what_members<N: Names>(names: &N, processor: &Processor, machine: &Machine) -> StepMembers
     requires { FitsRun processor.now.scenario machine.now }
-    ensures items { result.items ≡ what_members (N.table names.now) processor.now.scenario.rope machine.now (next_step processor.now.scenario machine.now) }
+    ensures items { result.items ≡ what_members (N.table names.now) processor.now.scenario.rope machine.now
+        (next_step processor.now.scenario machine.now) }
     ensures short { array_vec_len result ≤ 487 }
 {
     match processor.next_step(machine) {
@@ -56,7 +58,8 @@ fn executed_members<N: Names>(
     machine: &Machine,
     fetched: &Fetched,
 ) -> StepMembers
-    ensures items { result.items ≡ what_members (N.table names.now) processor.now.scenario.rope machine.now (Executes fetched.now) }
+    ensures items { result.items ≡ what_members (N.table names.now) processor.now.scenario.rope machine.now
+        (Executes fetched.now) }
     ensures short { array_vec_len result ≤ 487 }
 {
     let place = word_place(fetched);
@@ -94,7 +97,8 @@ fn step_members(
     requires symbol { IfSome symbol (λ text. length text.now ≤ 8) }
     requires word { IfSome word (λ text. length text.now ≤ 8) }
     requires text { length text.now ≤ 48 }
-    ensures items { result.items ≡ step_members (option_map (λ t. t.now) place.entry) (option_map (λ t. t.now) symbol.entry) (option_map (λ t. t.now) word.entry) text.now }
+    ensures items { result.items ≡ step_members (option_map (λ t. t.now) place.entry)
+        (option_map (λ t. t.now) symbol.entry) (option_map (λ t. t.now) word.entry) text.now }
     ensures short { array_vec_len result ≤ 487 }
 {
     let mut members = ArrayVec::new();

@@ -149,7 +149,8 @@ fn stands_for(place: &Linear, value: Value) -> bool
     }
 }
 
-/// The name of a place: a register's letters, or the first symbol that stands for it, or the name of a cell with a use of its own.
+/// The name of a place: a register's letters, or the first symbol that stands for it, or the name of a cell with a use
+/// of its own.
 pub fn place_name<N: Names>(names: &N, place: Linear) -> Option<&[u8]>
     ensures name { option_map (λ name. name.now) result ≡ place_name (N.table names.now) place }
     ensures short { IfSome result (λ name. length name.now ≤ 8) }

@@ -63,7 +63,8 @@ fn push_all_read<N: Names>(
 )
     requires room { array_vec_len text.old ≤ 5 }
     requires few { length spots.now ≤ 8 }
-    ensures items { text.new.items ≡ text.old.items ++ or_none (flat_map (was_read (N.table names.now) rope.now machine.now.cells) spots.now) }
+    ensures items { text.new.items ≡ text.old.items
+        ++ or_none (flat_map (was_read (N.table names.now) rope.now machine.now.cells) spots.now) }
     ensures short { array_vec_len text.new ≤ array_vec_len text.old + 160 }
 {
     let before = text.len();
@@ -77,7 +78,8 @@ fn push_all_read<N: Names>(
 fn push_each<N: Names>(text: &mut Read, names: &N, rope: &Rope, machine: &Machine, spots: &[Spot])
     requires room { array_vec_len text.old ≤ 5 }
     requires few { length spots.now ≤ 8 }
-    ensures items { text.new.items ≡ text.old.items ++ flat_map (was_read (N.table names.now) rope.now machine.now.cells) spots.now }
+    ensures items { text.new.items ≡ text.old.items
+        ++ flat_map (was_read (N.table names.now) rope.now machine.now.cells) spots.now }
     ensures short { array_vec_len text.new ≤ array_vec_len text.old + 20 * length spots.now }
 {
     for spot in spots {
@@ -88,7 +90,8 @@ fn push_each<N: Names>(text: &mut Read, names: &N, rope: &Rope, machine: &Machin
 /// Appends a spot that a step reads, with what stands there: nothing of Z.
 fn push_read<N: Names>(text: &mut Read, names: &N, rope: &Rope, machine: &Machine, spot: &Spot)
     requires { array_vec_len text.old ≤ 170 }
-    ensures items { text.new.items ≡ text.old.items ++ was_read (N.table names.now) rope.now machine.now.cells spot.now }
+    ensures items { text.new.items ≡ text.old.items
+        ++ was_read (N.table names.now) rope.now machine.now.cells spot.now }
     ensures short { array_vec_len text.new ≤ array_vec_len text.old + 20 }
 {
     if is_z(spot) {
@@ -123,7 +126,8 @@ fn spot_name<N: Names>(names: &N, spot: &Spot) -> Text
 
 /// A place of fixed memory by its name, or as a listing has it.
 fn fixed_name<N: Names>(names: &N, bank: Bank, offset: Offset) -> Text
-    ensures items { result.items ≡ unwrap_or (place_name (N.table names.now) (Fixed bank offset)) (place_text (Fixed bank offset)) }
+    ensures items { result.items ≡ unwrap_or (place_name (N.table names.now) (Fixed bank offset))
+        (place_text (Fixed bank offset)) }
     ensures short { array_vec_len result ≤ 8 }
 {
     match place_name(names, Linear::Fixed(bank, offset)) {

@@ -7,7 +7,8 @@ ghost use Rattle.words.specs.Numerals.{octal_text};
 ghost use Rattle.cpu.specs.Effects.{place_in, value_at};
 ghost use Rattle.cpu.specs.NextStep.{next_step};
 ghost use Rattle.cpu.specs.State.{FitsRun};
-ghost use Rattle.trace.specs.TraceLines.{added_text, entry_place, fetched_text, full_name, octal_digits, operand_gap, short_octal, taken_text, what_text, word_place, word_text};
+ghost use Rattle.trace.specs.TraceLines.{added_text, entry_place, fetched_text, full_name, octal_digits, operand_gap};
+ghost use Rattle.trace.specs.TraceLines.{short_octal, taken_text, what_text, word_place, word_text};
 
 use crate::fields::{StepFields, Text, place_text, step_fields};
 use crate::inputs::{input_text, interrupt_name, push_asked};
@@ -33,7 +34,8 @@ const ENTRY_WORDS: u16 = 4;
 /// What the next step is: its place, its word and its text.
 pub fn what_text<N: Names>(names: &N, processor: &Processor, machine: &Machine) -> StepFields
     requires { FitsRun processor.now.scenario machine.now }
-    ensures items { result.items ≡ what_text (N.table names.now) processor.now.scenario.rope machine.now (next_step processor.now.scenario machine.now) }
+    ensures items { result.items ≡ what_text (N.table names.now) processor.now.scenario.rope machine.now
+        (next_step processor.now.scenario machine.now) }
     ensures short { array_vec_len result ≤ 66 }
 {
     match processor.next_step(machine) {
@@ -110,7 +112,8 @@ pub fn fetched_text<N: Names>(
     machine: &Machine,
     fetched: &Fetched,
 ) -> Text
-    ensures items { result.items ≡ fetched_text (N.table names.now) processor.now.scenario.rope machine.now fetched.now }
+    ensures items { result.items ≡ fetched_text (N.table names.now) processor.now.scenario.rope machine.now
+        fetched.now }
     ensures short { array_vec_len result ≤ 32 }
 {
     if fetched.waited {
@@ -143,7 +146,8 @@ fn instruction_text<N: Names>(names: &N, machine: &Machine, word: Word, extra: b
 #[tactic(auto, unfolding(cpu::specs::Effects::place_in))]
 fn push_operand<N: Names>(text: &mut Text, names: &N, machine: &Machine, address: Addr12)
     requires { array_vec_len text.old ≤ 11 }
-    ensures items { text.new.items ≡ text.old.items ++ unwrap_or (full_name operand_gap (N.table names.now) (place_in machine.now address)) (octal_text 4 address) }
+    ensures items { text.new.items ≡ text.old.items
+        ++ unwrap_or (full_name operand_gap (N.table names.now) (place_in machine.now address)) (octal_text 4 address) }
     ensures short { array_vec_len text.new ≤ array_vec_len text.old + 12 }
 {
     match full_name(

@@ -5,7 +5,8 @@ ghost use Rattle.std.specs.List.{flat_map};
 ghost use Rattle.arrayvec.specs.ArrayVec.{array_vec_len};
 ghost use Rattle.space.specs.declared.place.Linear.TheVariants.{Erasable};
 ghost use Rattle.yayul.specs.Listing.{place_text};
-ghost use Rattle.trace.specs.TraceLines.{cell_gap, cell_name, cell_reading, cell_shown, full_name, or_none, place_name, written};
+ghost use Rattle.trace.specs.TraceLines.{cell_gap, cell_name, cell_reading, cell_shown, full_name, or_none, place_name};
+ghost use Rattle.trace.specs.TraceLines.{written};
 
 use crate::fields::{Text, place_text};
 use crate::names::{Names, place_name};
@@ -15,8 +16,8 @@ use cpu::{Cell, Machine};
 use space::{Chan, Eras, Linear};
 use words::{push_all, push_octal};
 
-/// The most bytes of a line: three numbers of at most 20 digits, the fields that tell what the step is, eight spots, ten cells, and
-/// what stands between.
+/// The most bytes of a line: three numbers of at most 20 digits, the fields that tell what the step is, eight spots,
+/// ten cells, and what stands between.
 const LINE: usize = 640;
 
 pub(crate) type Line = ArrayVec<u8, LINE>;
@@ -33,7 +34,8 @@ pub(crate) fn push_all_written<N: Names>(
 )
     requires room { array_vec_len line.old ≤ 300 }
     requires few { length cells.now ≤ 10 }
-    ensures items { line.new.items ≡ line.old.items ++ or_none (flat_map (written (N.table names.now) machine.now.cells) cells.now) }
+    ensures items { line.new.items ≡ line.old.items
+        ++ or_none (flat_map (written (N.table names.now) machine.now.cells) cells.now) }
     ensures short { array_vec_len line.new ≤ array_vec_len line.old + 200 }
 {
     let before = line.len();
@@ -47,7 +49,8 @@ pub(crate) fn push_all_written<N: Names>(
 fn push_each<N: Names>(line: &mut Line, names: &N, machine: &Machine, cells: &[Cell])
     requires room { array_vec_len line.old ≤ 300 }
     requires few { length cells.now ≤ 10 }
-    ensures items { line.new.items ≡ line.old.items ++ flat_map (written (N.table names.now) machine.now.cells) cells.now }
+    ensures items { line.new.items ≡ line.old.items
+        ++ flat_map (written (N.table names.now) machine.now.cells) cells.now }
     ensures short { array_vec_len line.new ≤ array_vec_len line.old + 20 * length cells.now }
 {
     for cell in cells {
@@ -100,7 +103,8 @@ pub(crate) fn cell_shown<N: Names>(names: &N, cell: Cell) -> Text
 
 /// An erasable place by its name or the symbol before it, or as a listing has it.
 fn erasable_shown<N: Names>(names: &N, number: Eras) -> Text
-    ensures items { result.items ≡ unwrap_or (full_name cell_gap (N.table names.now) (Erasable number)) (place_text (Erasable number)) }
+    ensures items { result.items ≡ unwrap_or (full_name cell_gap (N.table names.now) (Erasable number))
+        (place_text (Erasable number)) }
     ensures short { array_vec_len result ≤ 12 }
 {
     match full_name(CELL_GAP, names, &Linear::Erasable(number)) {
@@ -111,7 +115,8 @@ fn erasable_shown<N: Names>(names: &N, number: Eras) -> Text
 
 /// An erasable place by its name, or as a listing has it.
 fn erasable_name<N: Names>(names: &N, place: Eras) -> Text
-    ensures items { result.items ≡ unwrap_or (place_name (N.table names.now) (Erasable place)) (place_text (Erasable place)) }
+    ensures items { result.items ≡ unwrap_or (place_name (N.table names.now) (Erasable place))
+        (place_text (Erasable place)) }
     ensures short { array_vec_len result ≤ 8 }
 {
     match place_name(names, Linear::Erasable(place)) {

@@ -1,8 +1,9 @@
-//! Goes through a session whose images stand in a vector, twice. Where a step is refused memory, it sees that nothing has changed, and makes the step again; and it answers a
-//! script of commands.
+//! Goes through a session whose images stand in a vector, twice. Where a step is refused memory, it sees that nothing
+//! has changed, and makes the step again; and it answers a script of commands.
 //!
-//! A source, a feed and commands come from standard input, with a line `---` between them. It writes `REFUSED` for each such step, `DONE` after the last, and then the replies
-//! to the commands. The exit status is 1 where something has changed, and 3 where a step is refused twice, what came is no source and feed, or there is no memory to begin with.
+//! A source, a feed and commands come from standard input, with a line `---` between them. It writes `REFUSED` for each
+//! such step, `DONE` after the last, and then the replies to the commands. The exit status is 1 where something has
+//! changed, and 3 where a step is refused twice, what came is no source and feed, or there is no memory to begin with.
 //! `hostile/check.py` runs it with each of its requests for memory refused.
 #![tactic(auto)]
 

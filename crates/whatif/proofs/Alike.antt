@@ -13,7 +13,8 @@ use Rattle.whatif.specs.Outcomes.{Outcome, is_executed, is_in_erasable, outcome,
 
 -- in each of the first n steps of a run another list of inputs gives the same
 abbrev pub AreGivenSame : Scenario → List Entry → ℕ → Type 0
-AreGivenSame scenario other n = (j : ℕ) → j < n → due other (run scenario j).taken (run scenario j).cycles ≡ due scenario.inputs (run scenario j).taken (run scenario j).cycles
+AreGivenSame scenario other n = (j : ℕ) → j < n
+    → due other (run scenario j).taken (run scenario j).cycles ≡ due scenario.inputs (run scenario j).taken (run scenario j).cycles
 
 next_alike : (scenario : Scenario) (other : List Entry) (s : State) → due other s.taken s.cycles ≡ due scenario.inputs s.taken s.cycles
     → next (record scenario { inputs = other }) s ≡ next scenario s
@@ -25,13 +26,16 @@ step_alike : (scenario : Scenario) (other : List Entry) (s : State) → due othe
 unfolding next_step
 step_alike scenario other s same = ap (λ o. next_step_by scenario.rope s o (entry s)) same
 
-seen_alike : (base : List Sent) (scenario : Scenario) (other : List Entry) (s : State) (a : Outcome) → due other s.taken s.cycles ≡ due scenario.inputs s.taken s.cycles
+seen_alike : (base : List Sent) (scenario : Scenario) (other : List Entry) (s : State) (a : Outcome)
+    → due other s.taken s.cycles ≡ due scenario.inputs s.taken s.cycles
     → seen base (record scenario { inputs = other }) s a ≡ seen base scenario s a
 seen_alike base scenario other s a same =
-    ap (λ t. with_put base (with_step a (is_in_erasable (place_in s (next_address s)) && is_executed t)) (next (record scenario { inputs = other }) s).1) (step_alike scenario other s same)
+    ap (λ t. with_put base (with_step a (is_in_erasable (place_in s (next_address s)) && is_executed t))
+    (next (record scenario { inputs = other }) s).1) (step_alike scenario other s same)
     ∙ ap (λ p. with_put base (with_step a (strays scenario s)) p.1) (next_alike scenario other s same)
 
-pub runs_alike : (scenario : Scenario) (other : List Entry) (n : ℕ) → AreGivenSame scenario other n → run (record scenario { inputs = other }) n ≡ run scenario n
+pub runs_alike : (scenario : Scenario) (other : List Entry) (n : ℕ) → AreGivenSame scenario other n
+    → run (record scenario { inputs = other }) n ≡ run scenario n
 unfolding run
 runs_alike scenario other zero same = refl
 runs_alike scenario other (suc n) same =
@@ -48,7 +52,8 @@ outcomes_alike base from scenario other (suc n) same =
       | inl holds ↦ rw holds refl
       | inr fails ↦
           rw fails
-          (ap (λ s. seen base (record scenario { inputs = other }) s (outcome base from (record scenario { inputs = other }) n)) (runs_alike scenario other n before)
+          (ap (λ s. seen base (record scenario { inputs = other }) s (outcome base from (record scenario { inputs = other }) n))
+          (runs_alike scenario other n before)
           ∙ ap (λ a. seen base (record scenario { inputs = other }) (run scenario n) a) (outcomes_alike base from scenario other n before)
           ∙ seen_alike base scenario other (run scenario n) (outcome base from scenario n) (same n (omega arith)))
     ]

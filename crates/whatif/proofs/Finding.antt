@@ -13,7 +13,8 @@ range_here k m below = range_next k (m - k) m (omega arith) below
 pub found_here : (p : ℕ → Bool) (k m : ℕ) → k < m → p k ≡ true → find p (range_with_len k (m - k)) ≡ Some k
 found_here p k m below holds = ap (find p) (range_here k m below) ∙ (rw holds refl)
 
-pub found_later : (p : ℕ → Bool) (k m : ℕ) → k < m → p k ≡ false → find p (range_with_len k (m - k)) ≡ find p (range_with_len (k + 1) (m - (k + 1)))
+pub found_later : (p : ℕ → Bool) (k m : ℕ) → k < m → p k ≡ false
+    → find p (range_with_len k (m - k)) ≡ find p (range_with_len (k + 1) (m - (k + 1)))
 found_later p k m below fails = ap (find p) (range_here k m below) ∙ (rw fails refl)
 
 pub found_none : (p : ℕ → Bool) (k m : ℕ) → k ≡ m → find p (range_with_len k (m - k)) ≡ None

@@ -36,7 +36,8 @@ channel_is_other : with_word (five ∷ []) begun elsewhere ≡ record { alike = 
 channel_is_other = refl
 
 -- behind another word each is one of the others
-later_is_other : with_word (six ∷ five ∷ []) (with_word (six ∷ five ∷ []) begun five) five ≡ record { alike = 0; others = five ∷ five ∷ []; strays = false }
+later_is_other : with_word (six ∷ five ∷ []) (with_word (six ∷ five ∷ []) begun five) five
+    ≡ record { alike = 0; others = five ∷ five ∷ []; strays = false }
 later_is_other = refl
 
 -- behind the last word too
@@ -57,10 +58,12 @@ fixed_is_none : is_in_erasable (Fixed 2 0) ≡ false
 fixed_is_none = refl
 
 -- ## Trials
-rising_cycles : are_rising 0 (record { cycle = 3; line = 1; input = Interrupt 2 } ∷ record { cycle = 3; line = 2; input = Interrupt 2 } ∷ []) ≡ true
+rising_cycles : are_rising 0 (record { cycle = 3; line = 1; input = Interrupt 2 } ∷ record { cycle = 3; line = 2; input = Interrupt 2 }
+    ∷ []) ≡ true
 rising_cycles = refl
 
-falling_cycles : are_rising 0 (record { cycle = 3; line = 1; input = Interrupt 2 } ∷ record { cycle = 2; line = 2; input = Interrupt 2 } ∷ []) ≡ false
+falling_cycles : are_rising 0 (record { cycle = 3; line = 1; input = Interrupt 2 } ∷ record { cycle = 2; line = 2; input = Interrupt 2 }
+    ∷ []) ≡ false
 falling_cycles = refl
 
 -- ## Lines
@@ -71,11 +74,13 @@ without = refl
 abbrev at_5 : Outcome → Finish
 at_5 a = record { answer = a; place = Fixed 2 5; difference = None }
 
-alike : span_line (record { first = 850; last = 882; count = 33; finish = at_5 (record { alike = 13; others = []; strays = false }) }) ≡ codes "FROM 850 TO 882 COUNT 33 ALIKE 13 OTHERS 0\n"
+alike : span_line (record { first = 850; last = 882; count = 33; finish = at_5 (record { alike = 13; others = []; strays = false }) })
+    ≡ codes "FROM 850 TO 882 COUNT 33 ALIKE 13 OTHERS 0\n"
 unfolding digits
 alike = refl
 
-stray : span_line (one 883 (at_5 (record { alike = 13; others = []; strays = true }))) ≡ codes "FROM 883 TO 883 COUNT 1 ALIKE 13 OTHERS 0 ERASABLE\n"
+stray : span_line (one 883 (at_5 (record { alike = 13; others = []; strays = true })))
+    ≡ codes "FROM 883 TO 883 COUNT 1 ALIKE 13 OTHERS 0 ERASABLE\n"
 unfolding digits
 stray = refl
 
@@ -84,13 +89,16 @@ ended : end_line (Fixed 2 5) None ≡ codes "END 02,4005\n"
 unfolding place_text window octal_text digits
 ended = refl
 
-ended_otherwise : end_line (Fixed 2 5) (Some (record { place = 0o61; word = 3; other = 0o77776 })) ≡ codes "END 02,4005 CELL E0,0061 00003 NOT 77776\n"
+ended_otherwise : end_line (Fixed 2 5) (Some (record { place = 0o61; word = 3; other = 0o77776 }))
+    ≡ codes "END 02,4005 CELL E0,0061 00003 NOT 77776\n"
 unfolding place_text window octal_text digits
 ended_otherwise = refl
 
 three_trials : spans_text All None
-    ((7, at_5 (record { alike = 1; others = []; strays = false })) ∷ (8, at_5 (record { alike = 1; others = []; strays = false })) ∷ (9, at_5 (record { alike = 0; others = six ∷ five ∷ []; strays = false })) ∷ [])
-    ≡ codes "FROM 7 TO 8 COUNT 2 ALIKE 1 OTHERS 0\nEND 02,4005\nFROM 9 TO 9 COUNT 1 ALIKE 0 OTHERS 2\nCH 010 00006\nCH 010 00005\nEND 02,4005\n"
+    ((7, at_5 (record { alike = 1; others = []; strays = false })) ∷ (8, at_5 (record { alike = 1; others = []; strays = false }))
+    ∷ (9, at_5 (record { alike = 0; others = six ∷ five ∷ []; strays = false })) ∷ [])
+    ≡ (codes "FROM 7 TO 8 COUNT 2 ALIKE 1 OTHERS 0\nEND 02,4005\nFROM 9 TO 9 COUNT 1 ALIKE 0 OTHERS 2\nCH 010 00006\nCH 010 00005\nEND 02,"
+    ++ codes "4005\n")
 unfolding spans_text place_text window octal_text digits
 three_trials = refl
 

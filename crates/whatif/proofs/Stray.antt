@@ -1,5 +1,6 @@
 -- A program strays in erasable memory alone.
-use Rattle.std.proofs.Common.{◌≡◌, ℕ, ◌≤◌, List, Option, Result, Bool, true, false, ◌&&◌, ◌||◌, not, leb, ltb, refl, sym, ap, ◌∙◌, arith, inl, inr}
+use Rattle.std.proofs.Common.{◌≡◌, ℕ, ◌≤◌, List, Option, Result, Bool, true, false, ◌&&◌, ◌||◌, not, leb, ltb, refl, sym, ap, ◌∙◌, arith}
+use Rattle.std.proofs.Common.{inl, inr}
 use Rattle.std.proofs.lemmas.Bool.{cases_Bool}
 use Rattle.std.proofs.lemmas.Bool.Decides.{nat_tests}
 use Rattle.space.specs.Places.{place}
@@ -40,8 +41,10 @@ strays_once a b s is = rw is (ap (λ (flag : Bool). record a { strays = flag }) 
     once true y = refl
     once false y = refl
 
-pub seen_once : {T E : Type 0} (r : Result T E) (base : List Sent) (scenario : Scenario) (s t : State) (a b : Outcome) (put : Option Output) (stray : Bool)
-    → stray ≡ (not a.strays && strays scenario s) → (t, put) ≡ next scenario s → OnOk r (b ≡ with_put base (with_step a stray) put) → OnOk r (b ≡ seen base scenario s a)
+pub seen_once : {T E : Type 0} (r : Result T E) (base : List Sent) (scenario : Scenario) (s t : State) (a b : Outcome) (put : Option Output)
+    (stray : Bool)
+    → stray ≡ (not a.strays && strays scenario s) → (t, put) ≡ next scenario s → OnOk r (b ≡ with_put base (with_step a stray) put)
+    → OnOk r (b ≡ seen base scenario s a)
 seen_once r base scenario s t a b put stray is made =
     on_ok_weaker r
     (λ e. e ∙ ap (λ (x : Outcome). with_put base x put) (strays_once a stray (strays scenario s) is)

@@ -1,5 +1,6 @@
 -- What is told of trials, one after another.
-use Rattle.std.proofs.Common.{◌≡◌, ℕ, ◌+◌, ◌<◌, ◌≤◌, List, [], ◌∷◌, ◌++◌, map, Option, Some, None, drop, length, refl, sym, ap, ◌∙◌, arith, inl, inr, append-nil}
+use Rattle.std.proofs.Common.{◌≡◌, ℕ, ◌+◌, ◌<◌, ◌≤◌, List, [], ◌∷◌, ◌++◌, map, Option, Some, None, drop, length, refl, sym, ap, ◌∙◌, arith}
+use Rattle.std.proofs.Common.{inl, inr, append-nil}
 use Rattle.std.proofs.lemmas.Bool.{cases_Bool}
 use Rattle.feed.specs.declared.entry.Plain.{Plain}
 use Rattle.cpu.specs.State.{Scenario, State}
@@ -14,22 +15,29 @@ use Rattle.whatif.specs.declared.others.Others.{Others}
 use Rattle.whatif.specs.Finishes.{finish}
 use Rattle.whatif.specs.Trials.{finishes, tried}
 
-pub trial_told : (base : List Sent) (without : Cells) (from : ℕ) (scenario : Scenario) (steps : ℕ) (told : Others) (pending : Option Span) (left : List Plain) (t : Plain) (more : List Plain) (a : Finish)
+pub trial_told : (base : List Sent) (without : Cells) (from : ℕ) (scenario : Scenario) (steps : ℕ) (told : Others) (pending : Option Span)
+    (left : List Plain) (t : Plain) (more : List Plain) (a : Finish)
     → left ≡ t ∷ more → a ≡ finish base without from (tried scenario t) steps
-    → spans_text told pending (finishes base without from scenario steps left) ≡ closed told pending a ++ spans_text told (Some (opened pending t.cycle a)) (finishes base without from scenario steps more)
+    → spans_text told pending (finishes base without from scenario steps left)
+    ≡ closed told pending a ++ spans_text told (Some (opened pending t.cycle a)) (finishes base without from scenario steps more)
 unfolding spans_text
 trial_told base without from scenario steps told pending left t more a is of = rw (is, of) refl
 
-pub last_told : (base : List Sent) (without : Cells) (from : ℕ) (scenario : Scenario) (steps : ℕ) (told : Others) (pending : Option Span) (left : List Plain) → left ≡ []
+pub last_told : (base : List Sent) (without : Cells) (from : ℕ) (scenario : Scenario) (steps : ℕ) (told : Others) (pending : Option Span)
+    (left : List Plain) → left ≡ []
     → spans_text told pending (finishes base without from scenario steps left) ≡ open_text told pending
 unfolding spans_text
 last_told base without from scenario steps told pending left is = rw is refl
 
 -- the span that is then open
-pub span_told : (base : List Sent) (without : Cells) (from : ℕ) (scenario : Scenario) (steps : ℕ) (told : Others) (pending : Option Span) (left : List Plain) (t : Plain) (more : List Plain) (a : Finish) (span : Span)
+pub span_told : (base : List Sent) (without : Cells) (from : ℕ) (scenario : Scenario) (steps : ℕ) (told : Others) (pending : Option Span)
+    (left : List Plain) (t : Plain) (more : List Plain) (a : Finish) (span : Span)
     → left ≡ t ∷ more → a ≡ finish base without from (tried scenario t) steps → span ≡ opened pending t.cycle a
-    → spans_text told pending (finishes base without from scenario steps left) ≡ closed told pending a ++ spans_text told (Some span) (finishes base without from scenario steps more)
-span_told base without from scenario steps told pending left t more a span is of made = rw made (trial_told base without from scenario steps told pending left t more a is of)
+    → spans_text told pending (finishes base without from scenario steps left)
+    ≡ closed told pending a ++ spans_text told (Some span) (finishes base without from scenario steps more)
+span_told base without from scenario steps told pending left t more a span is of made = rw made
+    (trial_told base without from scenario steps told pending
+    left t more a is of)
 
 -- one trial more is open
 pub few_open : (pending : Option Span) (cycle : ℕ) (a : Finish) (n : ℕ) → number_of pending ≤ n → (opened pending cycle a).count ≤ n + 1
@@ -40,17 +48,22 @@ few_open (Some span) cycle a n few =
       | inr fails ↦ rw fails (omega arith)
     ]
 
-pub few_span : (pending : Option Span) (cycle : ℕ) (a : Finish) (span : Span) (n : ℕ) → number_of pending ≤ n → span ≡ opened pending cycle a → span.count ≤ n + 1
+pub few_span : (pending : Option Span) (cycle : ℕ) (a : Finish) (span : Span) (n : ℕ) → number_of pending ≤ n
+    → span ≡ opened pending cycle a → span.count ≤ n + 1
 few_span pending cycle a span n few made = rw made (few_open pending cycle a n few)
 
-pub trials_parts : (told : Others) (from : ℕ) (scenario : Scenario) (trials : List Plain) (steps : ℕ) (s : State) (without : Outcome) → s ≡ run scenario steps → without ≡ outcome [] from scenario steps
-    → trials_text told from scenario trials steps ≡ without_text s without ++ spans_text told None (finishes without.others s.cells from scenario steps trials)
+pub trials_parts : (told : Others) (from : ℕ) (scenario : Scenario) (trials : List Plain) (steps : ℕ) (s : State) (without : Outcome)
+    → s ≡ run scenario steps → without ≡ outcome [] from scenario steps
+    → trials_text told from scenario trials steps
+    ≡ without_text s without ++ spans_text told None (finishes without.others s.cells from scenario steps trials)
 unfolding trials_text
 trials_parts told from scenario trials steps s without at is = rw (at, is) refl
 
 -- of one trial
-pub one_told : (told : Others) (from : ℕ) (scenario : Scenario) (t : Plain) (steps : ℕ) (s : State) (without : Outcome) (a : Finish) → s ≡ run scenario steps → without ≡ outcome [] from scenario steps
-    → a ≡ finish without.others s.cells from (tried scenario t) steps → trials_text told from scenario (t ∷ []) steps ≡ without_text s without ++ span_text told (one t.cycle a)
+pub one_told : (told : Others) (from : ℕ) (scenario : Scenario) (t : Plain) (steps : ℕ) (s : State) (without : Outcome) (a : Finish)
+    → s ≡ run scenario steps → without ≡ outcome [] from scenario steps
+    → a ≡ finish without.others s.cells from (tried scenario t) steps
+    → trials_text told from scenario (t ∷ []) steps ≡ without_text s without ++ span_text told (one t.cycle a)
 one_told told from scenario t steps s without a at of is =
     trials_parts told from scenario (t ∷ []) steps s without at of
     ∙ ap (λ x. without_text s without ++ x)

@@ -1,5 +1,6 @@
 -- What is told of a run gives all its words.
-use Rattle.std.proofs.Common.{◌≡◌, ℕ, zero, suc, ◌+◌, List, [], ◌∷◌, ◌++◌, map, take, Option, Some, None, Bool, true, false, refl, sym, ap, ◌∙◌, add-one, arith, inl, inr, append_assoc, append-nil}
+use Rattle.std.proofs.Common.{◌≡◌, ℕ, zero, suc, ◌+◌, List, [], ◌∷◌, ◌++◌, map, take, Option, Some, None, Bool, true, false, refl, sym, ap}
+use Rattle.std.proofs.Common.{◌∙◌, add-one, arith, inl, inr, append_assoc, append-nil}
 use Rattle.std.specs.Prelude.{slice_get}
 use Rattle.std.specs.Option.{option_to_list}
 use Rattle.std.proofs.lemmas.Bool.{cases_Bool}
@@ -11,7 +12,8 @@ use Rattle.cpu.specs.State.{Scenario}
 use Rattle.whatif.specs.declared.sent.Sent.{Sent}
 use Rattle.whatif.specs.Laws.{TellsAllWords, TellsTheFirstOther}
 use Rattle.whatif.proofs.Steps.{outcome_next}
-use Rattle.whatif.specs.Outcomes.{Outcome, begun, is_equal, is_next, is_none, is_that, outcome, sent, strays, with_put, with_step, with_word}
+use Rattle.whatif.specs.Outcomes.{Outcome, begun, is_equal, is_next, is_none, is_that, outcome, sent, strays, with_put, with_step}
+use Rattle.whatif.specs.Outcomes.{with_word}
 
 abbrev told : ℕ → List Sent → Bool → Outcome
 told alike others lost = record { alike = alike; others = others; strays = lost }
@@ -45,8 +47,10 @@ next_is : (base : List Sent) (k : ℕ) (w : Sent) → is_that w (slice_get base 
 next_is base k w is = that_is w (slice_get base k) is
 
 -- all words, with one more
-words_put : (base : List Sent) (alike : ℕ) (others : List Sent) (lost : Bool) (o : Option Output) (words : List Sent) → take alike base ++ others ≡ words
-    → take (with_put base (told alike others lost) o).alike base ++ (with_put base (told alike others lost) o).others ≡ words ++ map sent (option_to_list o)
+words_put : (base : List Sent) (alike : ℕ) (others : List Sent) (lost : Bool) (o : Option Output) (words : List Sent)
+    → take alike base ++ others ≡ words
+    → take (with_put base (told alike others lost) o).alike base ++ (with_put base (told alike others lost) o).others
+    ≡ words ++ map sent (option_to_list o)
 words_put base alike others lost None words are = are ∙ sym (append-nil words)
 words_put base alike [] lost (Some o) words are =
     elim (cases_Bool (is_that (sent o) (slice_get base alike))) [
@@ -56,7 +60,8 @@ words_put base alike [] lost (Some o) words are =
           ∙ ap (λ l. l ++ sent o ∷ []) (sym (append-nil (take alike base)) ∙ are))
       | inr fails ↦ rw fails (sym (append_assoc (take alike base) [] (sent o ∷ [])) ∙ ap (λ l. l ++ sent o ∷ []) are)
     ]
-words_put base alike (w ∷ ws) lost (Some o) words are = sym (append_assoc (take alike base) (w ∷ ws) (sent o ∷ [])) ∙ ap (λ l. l ++ sent o ∷ []) are
+words_put base alike (w ∷ ws) lost (Some o) words are = sym (append_assoc (take alike base) (w ∷ ws) (sent o ∷ []))
+    ∙ ap (λ l. l ++ sent o ∷ []) are
 
 map_more : (old : List Output) (more : List Output) → map sent (old ++ more) ≡ map sent old ++ map sent more
 map_more [] more = refl
@@ -72,25 +77,29 @@ tells_all_words scenario base zero = rw (none_told scenario base) refl
 tells_all_words scenario base (suc n) =
     let before = outcome base 0 scenario n in
     rw (outcome_next base 0 scenario n (omega arith)) (
-    words_put base before.alike before.others (with_step before (strays scenario (run scenario n))).strays (next scenario (run scenario n)).1 (map sent (outs scenario n)) (tells_all_words scenario base n)
+    words_put base before.alike before.others (with_step before (strays scenario (run scenario n))).strays
+    (next scenario (run scenario n)).1 (map sent (outs scenario n)) (tells_all_words scenario base n)
     ∙ sym (map_more (outs scenario n) (option_to_list (next scenario (run scenario n)).1)))
 
 -- what is first stays
 abbrev IsFirst : List Sent → Outcome → Type 0
 IsFirst base a = (w next : Sent) (more : List Sent) → a.others ≡ w ∷ more → slice_get base a.alike ≡ Some next → is_equal next w ≡ false
 
-first_put : (base : List Sent) (alike : ℕ) (others : List Sent) (lost : Bool) (o : Option Output) → IsFirst base (told alike others lost) → IsFirst base (with_put base (told alike others lost) o)
+first_put : (base : List Sent) (alike : ℕ) (others : List Sent) (lost : Bool) (o : Option Output) → IsFirst base (told alike others lost)
+    → IsFirst base (with_put base (told alike others lost) o)
 first_put base alike others lost None first = first
 first_put base alike [] lost (Some o) first =
     elim (cases_Bool (is_that (sent o) (slice_get base alike))) [
       | inl holds ↦ rw holds (λ w next more is there. absurd (cc))
       | inr fails ↦ rw fails (λ w next more is there. let same : sent o ≡ w = cc in rw (sym same) (rw there at fails))
     ]
-first_put base alike (v ∷ vs) lost (Some o) first = λ w next more is there. let same : v ≡ w = cc in rw (sym same) (first v next vs refl there)
+first_put base alike (v ∷ vs) lost (Some o) first = λ w next more is there. let same : v
+    ≡ w = cc in rw (sym same) (first v next vs refl there)
 
 pub tells_the_first_other : (scenario : Scenario) → TellsTheFirstOther scenario
 tells_the_first_other scenario base zero = rw (none_told scenario base) (λ w next more is there. absurd (cc))
 tells_the_first_other scenario base (suc n) =
     let before = outcome base 0 scenario n in
     rw (outcome_next base 0 scenario n (omega arith))
-    (first_put base before.alike before.others (with_step before (strays scenario (run scenario n))).strays (next scenario (run scenario n)).1 (tells_the_first_other scenario base n))
+    (first_put base before.alike before.others (with_step before (strays scenario (run scenario n))).strays
+    (next scenario (run scenario n)).1 (tells_the_first_other scenario base n))

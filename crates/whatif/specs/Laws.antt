@@ -7,7 +7,8 @@ use Rattle.whatif.specs.Outcomes.{is_equal, outcome, sent}
 
 -- so many of the words of the other run, and then the others, are all words that are put out
 abbrev pub TellsAllWords : Scenario → Type 0
-TellsAllWords scenario = (base : List Sent) (n : ℕ) → take (outcome base 0 scenario n).alike base ++ (outcome base 0 scenario n).others ≡ map sent (outs scenario n)
+TellsAllWords scenario = (base : List Sent) (n : ℕ)
+    → take (outcome base 0 scenario n).alike base ++ (outcome base 0 scenario n).others ≡ map sent (outs scenario n)
 
 -- the first of the others is not what the other run puts out there
 abbrev pub TellsTheFirstOther : Scenario → Type 0

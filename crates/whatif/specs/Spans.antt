@@ -1,5 +1,6 @@
 -- What is told of trials: those one after another that come to the same, in one line.
-use Rattle.std.specs.Prelude.{ℕ, ◌+◌, Bool, true, false, List, [], ◌∷◌, ◌++◌, length, take, codes, decimal, Option, None, Some, if◌then◌else◌}
+use Rattle.std.specs.Prelude.{ℕ, ◌+◌, Bool, true, false, List, [], ◌∷◌, ◌++◌, length, take, codes, decimal, Option, None, Some}
+use Rattle.std.specs.Prelude.{if◌then◌else◌}
 use Rattle.std.specs.List.{flat_map}
 use Rattle.words.specs.Numerals.{octal_text}
 use Rattle.space.specs.declared.place.Linear.{Linear}
@@ -45,7 +46,8 @@ line_end a = (if a.strays then codes " ERASABLE" else []) ++ codes "\n"
 -- the line of where a run has come out: the place of its next instruction, and the first erasable word that differs
 abbrev pub difference_text : Option Difference → List ℕ
 difference_text None = []
-difference_text (Some d) = codes " CELL " ++ place_text (Erasable d.place) ++ codes " " ++ octal_text 5 d.word ++ codes " NOT " ++ octal_text 5 d.other
+difference_text (Some d) = codes " CELL " ++ place_text (Erasable d.place) ++ codes " " ++ octal_text 5 d.word ++ codes " NOT "
+    ++ octal_text 5 d.other
 
 abbrev pub end_line : Linear → Option Difference → List ℕ
 end_line place difference = codes "END " ++ place_text place ++ difference_text difference ++ codes "\n"
@@ -62,7 +64,8 @@ without_text s a = without_line a ++ end_line (next_place s) None
 abbrev pub span_line : Span → List ℕ
 span_line s =
     codes "FROM " ++ decimal s.first ++ codes " TO " ++ decimal s.last ++ codes " COUNT " ++ decimal s.count
-    ++ codes " ALIKE " ++ decimal s.finish.answer.alike ++ codes " OTHERS " ++ decimal (length s.finish.answer.others) ++ line_end s.finish.answer
+    ++ codes " ALIKE " ++ decimal s.finish.answer.alike ++ codes " OTHERS " ++ decimal (length s.finish.answer.others)
+    ++ line_end s.finish.answer
 
 abbrev pub span_text : Others → Span → List ℕ
 span_text told s = span_line s ++ (others_text (others_told told s.finish.answer.others) ++ end_line s.finish.place s.finish.difference)

@@ -4,7 +4,8 @@ ghost use Rattle.std.specs.Prelude.{◌≡◌, ◌<◌, length, nat_le, true, If
 ghost use Rattle.std.specs.Bool.{OnTrue};
 ghost use Rattle.cpu.specs.Effects.{next_address};
 ghost use Rattle.cpu.specs.State.{FitsRun};
-ghost use Rattle.whatif.specs.Outcomes.{begun, executes, first_switched, is_equal, is_next, is_same, is_same_flag, are_same, strays, with_put, with_step, with_word};
+ghost use Rattle.whatif.specs.Outcomes.{begun, executes, first_switched, is_equal, is_next, is_same, is_same_flag};
+ghost use Rattle.whatif.specs.Outcomes.{are_same, strays, with_put, with_step, with_word};
 
 use crate::fault::Refused;
 use crate::sent::Sent;

@@ -21,7 +21,8 @@ pub(crate) struct Tried {
     pub(crate) made: u128,
 }
 
-/// Goes on with the run without a trial to where this parts from it, and answers how the trial comes out beside all of that run.
+/// Goes on with the run without a trial to where this parts from it, and answers how the trial comes out beside all of
+/// that run.
 pub(crate) fn try_one(
     alloc: Global,
     processor: &mut Processor,
@@ -34,9 +35,11 @@ pub(crate) fn try_one(
     requires begun { trunk.old.from ≤ trunk.old.done }
     requires within { trunk.old.done ≤ steps }
     requires machine { trunk.old.machine ≡ run processor.old.scenario trunk.old.done }
-    requires answer { trunk.old.answer ≡ outcome without.now.answer.others trunk.old.from processor.old.scenario trunk.old.done }
+    requires answer { trunk.old.answer ≡ outcome without.now.answer.others trunk.old.from processor.old.scenario
+        trunk.old.done }
     requires before { IsBefore processor.old.scenario trunk.old.done trial.now.cycle }
-    ensures finish { IfOk result (λ r. r ≡ finish without.now.answer.others without.now.machine.cells trunk.old.from (tried processor.old.scenario trial.now) steps) }
+    ensures finish { IfOk result (λ r. r ≡ finish without.now.answer.others without.now.machine.cells trunk.old.from
+        (tried processor.old.scenario trial.now) steps) }
     ensures scenario { processor.new.scenario ≡ processor.old.scenario }
     ensures once { OnOk result (processor.new.meter + trunk.old.done ≤ processor.old.meter + trunk.new.done) }
     ensures most { processor.new.meter + trunk.old.done ≤ processor.old.meter + steps }
@@ -44,7 +47,8 @@ pub(crate) fn try_one(
     ensures from { trunk.new.from ≡ trunk.old.from }
     ensures begun { trunk.old.done ≤ trunk.new.done }
     ensures trunk { OnOk result (trunk.new.machine ≡ run processor.old.scenario trunk.new.done) }
-    ensures seen { OnOk result (trunk.new.answer ≡ outcome without.now.answer.others trunk.old.from processor.old.scenario trunk.new.done) }
+    ensures seen { OnOk result (trunk.new.answer
+        ≡ outcome without.now.answer.others trunk.old.from processor.old.scenario trunk.new.done) }
     ensures before { OnOk result (IsBefore processor.old.scenario trunk.new.done trial.now.cycle) }
 {
     trunk.go_to(processor, without.answer.others(), trial.cycle, steps)?;
@@ -52,8 +56,8 @@ pub(crate) fn try_one(
     Ok(tried.finish)
 }
 
-/// How the run with one input more comes out, of some steps in all. The run without it stands at a step that no such input reaches:
-/// no step up to there is made again.
+/// How the run with one input more comes out, of some steps in all. The run without it stands at a step that no such
+/// input reaches: no step up to there is made again.
 pub(crate) fn branch(
     alloc: Global,
     processor: &Processor,
@@ -66,9 +70,12 @@ pub(crate) fn branch(
     requires begun { trunk.now.from ≤ trunk.now.done }
     requires within { trunk.now.done ≤ steps }
     requires machine { trunk.now.machine ≡ run processor.now.scenario trunk.now.done }
-    requires answer { trunk.now.answer ≡ outcome without.now.answer.others trunk.now.from processor.now.scenario trunk.now.done }
+    requires answer { trunk.now.answer ≡ outcome without.now.answer.others trunk.now.from processor.now.scenario
+        trunk.now.done }
     requires before { IsBefore processor.now.scenario trunk.now.done trial.now.cycle }
-    ensures finish { IfOk result (λ r. r.finish ≡ finish without.now.answer.others without.now.machine.cells trunk.now.from (tried processor.now.scenario trial.now) steps) }
+    ensures finish { IfOk result (λ r. r.finish
+        ≡ finish without.now.answer.others without.now.machine.cells trunk.now.from
+        (tried processor.now.scenario trial.now) steps) }
     ensures once { IfOk result (λ r. r.made + trunk.now.done ≤ steps) }
 {
     let mut fork = forked(alloc, processor, trial)?;
@@ -84,8 +91,10 @@ pub(crate) fn branch(
 /// What runs, once more, with one input more.
 fn forked(alloc: Global, processor: &Processor, trial: &Plain) -> Result<Processor, Refused>
     ensures rope { IfOk result (λ fork. fork.scenario.rope ≡ processor.now.scenario.rope) }
-    ensures inputs { IfOk result (λ fork. AddsLast processor.now.scenario.inputs trial.now.cycle trial.now.input fork.scenario.inputs) }
-    ensures later { IfOk result (λ fork. AreSameBelow trial.now.cycle processor.now.scenario.inputs fork.scenario.inputs) }
+    ensures inputs { IfOk result (λ fork. AddsLast processor.now.scenario.inputs trial.now.cycle trial.now.input
+        fork.scenario.inputs) }
+    ensures later { IfOk result (λ fork. AreSameBelow trial.now.cycle processor.now.scenario.inputs
+        fork.scenario.inputs) }
     ensures meter { IfOk result (λ fork. fork.meter ≡ 0) }
 {
     match processor.with_input(alloc, trial.cycle, trial.input) {

@@ -24,7 +24,8 @@ pub(crate) struct Difference {
     pub(crate) other: Word,
 }
 
-/// How a run has come out: what it has put out, where its next instruction stands, and the first erasable word that differs.
+/// How a run has come out: what it has put out, where its next instruction stands, and the first erasable word that
+/// differs.
 #[derive(Drop)]
 pub(crate) struct Finish {
     pub(crate) answer: Answer,

@@ -119,7 +119,8 @@ impl Going {
         ensures from { self.new.from ≡ self.old.from }
         ensures begun { self.old.done ≤ self.new.done }
         ensures machine { OnOk result (self.new.machine ≡ run processor.old.scenario self.new.done) }
-        ensures answer { OnOk result (self.new.answer ≡ outcome base.now self.old.from processor.old.scenario self.new.done) }
+        ensures answer { OnOk result (self.new.answer
+            ≡ outcome base.now self.old.from processor.old.scenario self.new.done) }
         ensures before { OnOk result (IsBefore processor.old.scenario self.new.done cycle) }
     {
         let mut done = self.done;

@@ -19,10 +19,11 @@ use feed::{Input, Plain};
 use std::alloc::Global;
 use words::Buffer;
 
-/// Tries an input at the cycles of a machine, at which a run stands after so many steps: tells what the run puts out in those that
-/// follow, up to so many in all, and what it would with the input, of the other words the first.
+/// Tries an input at the cycles of a machine, at which a run stands after so many steps: tells what the run puts out in
+/// those that follow, up to so many in all, and what it would with the input, of the other words the first.
 ///
-/// What runs is copied twice, and the machine three times; of each run the steps that follow are made once, and none before.
+/// What runs is copied twice, and the machine three times; of each run the steps that follow are made once, and none
+/// before.
 pub fn try_now(
     alloc: Global,
     processor: &Processor,
@@ -54,7 +55,8 @@ pub fn try_now(
 
 /// What is told of a run without a trial, and of one trial at a cycle.
 fn text_of(alloc: Global, without: &Going, cycle: u64, finish: Finish) -> Result<Buffer, TrialFault>
-    ensures { IfOk result (λ text. text.written ≡ without_text without.now.machine without.now.answer ++ span_text First (one cycle finish)) }
+    ensures { IfOk result (λ text. text.written
+        ≡ without_text without.now.machine without.now.answer ++ span_text First (one cycle finish)) }
 {
     let mut text = Buffer::new(alloc);
     write_without(without, &mut text)?;

@@ -7,7 +7,8 @@ ghost use Rattle.words.specs.Devices.{Writes, one_more};
 ghost use Rattle.whatif.specs.Failing.{has_write_failed};
 ghost use Rattle.space.specs.declared.place.Linear.TheVariants.{Erasable};
 ghost use Rattle.yayul.specs.Listing.{place_text};
-ghost use Rattle.whatif.specs.Spans.{closed, difference_text, end_line, number_of, one, open_text, opened, others_text, others_told, sent_line, span_line, span_text, without_line, without_text};
+ghost use Rattle.whatif.specs.Spans.{closed, difference_text, end_line, number_of, one, open_text, opened, others_text};
+ghost use Rattle.whatif.specs.Spans.{others_told, sent_line, span_line, span_text, without_line, without_text};
 
 use crate::answer::Answer;
 use crate::fault::TrialFault;
@@ -44,8 +45,10 @@ pub(crate) fn with_trial<W: Write>(
     out: &mut W,
 ) -> Result<Span, TrialFault>
     requires few { number_of pending < 2 ^ 63 }
-    ensures written { W.told ≡ true → Writes (W.written out.old) (W.written out.new) (closed told pending finish) result }
-    ensures failures { W.failures out.new ≡ (if has_write_failed result then one_more (W.failures out.old) else W.failures out.old) }
+    ensures written { W.told ≡ true → Writes (W.written out.old) (W.written out.new) (closed told pending finish)
+        result }
+    ensures failures { W.failures out.new ≡
+        (if has_write_failed result then one_more (W.failures out.old) else W.failures out.old) }
     ensures span { IfOk result (λ span. span ≡ opened pending cycle finish) }
 {
     match pending {
@@ -80,8 +83,10 @@ pub(crate) fn write_open<W: Write>(
     pending: &Option<Span>,
     out: &mut W,
 ) -> Result<(), TrialFault>
-    ensures written { W.told ≡ true → Writes (W.written out.old) (W.written out.new) (open_text told pending.now) result }
-    ensures failures { W.failures out.new ≡ (if has_write_failed result then one_more (W.failures out.old) else W.failures out.old) }
+    ensures written { W.told ≡ true → Writes (W.written out.old) (W.written out.new) (open_text told pending.now)
+        result }
+    ensures failures { W.failures out.new ≡
+        (if has_write_failed result then one_more (W.failures out.old) else W.failures out.old) }
 {
     match pending {
         None => Ok(()),
@@ -89,10 +94,12 @@ pub(crate) fn write_open<W: Write>(
     }
 }
 
-/// Tells some trials: their line, a line for each other word that is told, and the line of where the first of them has come out.
+/// Tells some trials: their line, a line for each other word that is told, and the line of where the first of them has
+/// come out.
 fn write_span<W: Write>(told: Others, span: &Span, out: &mut W) -> Result<(), TrialFault>
     ensures written { W.told ≡ true → Writes (W.written out.old) (W.written out.new) (span_text told span.now) result }
-    ensures failures { W.failures out.new ≡ (if has_write_failed result then one_more (W.failures out.old) else W.failures out.old) }
+    ensures failures { W.failures out.new ≡
+        (if has_write_failed result then one_more (W.failures out.old) else W.failures out.old) }
 {
     write_line(span, out)?;
     write_others(others_told(told, span.finish.answer.others()), out)?;
@@ -125,8 +132,10 @@ fn write_end<W: Write>(
     difference: &Option<Difference>,
     out: &mut W,
 ) -> Result<(), TrialFault>
-    ensures written { W.told ≡ true → Writes (W.written out.old) (W.written out.new) (end_line place difference.now) result }
-    ensures failures { W.failures out.new ≡ (if has_write_failed result then one_more (W.failures out.old) else W.failures out.old) }
+    ensures written { W.told ≡ true → Writes (W.written out.old) (W.written out.new) (end_line place difference.now)
+        result }
+    ensures failures { W.failures out.new ≡
+        (if has_write_failed result then one_more (W.failures out.old) else W.failures out.old) }
 {
     write_text(end_line(place, difference).as_slice(), out)
 }
@@ -134,7 +143,8 @@ fn write_end<W: Write>(
 /// Writes the lines of some words.
 fn write_others<W: Write>(others: &[Sent], out: &mut W) -> Result<(), TrialFault>
     ensures written { W.told ≡ true → Writes (W.written out.old) (W.written out.new) (others_text others.now) result }
-    ensures failures { W.failures out.new ≡ (if has_write_failed result then one_more (W.failures out.old) else W.failures out.old) }
+    ensures failures { W.failures out.new ≡
+        (if has_write_failed result then one_more (W.failures out.old) else W.failures out.old) }
 {
     for sent in others {
         write_sent(sent, out)?;
@@ -145,7 +155,8 @@ fn write_others<W: Write>(others: &[Sent], out: &mut W) -> Result<(), TrialFault
 /// Writes the line of a word.
 fn write_sent<W: Write>(sent: &Sent, out: &mut W) -> Result<(), TrialFault>
     ensures written { W.told ≡ true → Writes (W.written out.old) (W.written out.new) (sent_line sent.now) result }
-    ensures failures { W.failures out.new ≡ (if has_write_failed result then one_more (W.failures out.old) else W.failures out.old) }
+    ensures failures { W.failures out.new ≡
+        (if has_write_failed result then one_more (W.failures out.old) else W.failures out.old) }
 {
     write_text(sent_line(*sent).as_slice(), out)
 }
@@ -153,15 +164,18 @@ fn write_sent<W: Write>(sent: &Sent, out: &mut W) -> Result<(), TrialFault>
 /// Writes the line of some trials.
 fn write_line<W: Write>(span: &Span, out: &mut W) -> Result<(), TrialFault>
     ensures written { W.told ≡ true → Writes (W.written out.old) (W.written out.new) (span_line span.now) result }
-    ensures failures { W.failures out.new ≡ (if has_write_failed result then one_more (W.failures out.old) else W.failures out.old) }
+    ensures failures { W.failures out.new ≡
+        (if has_write_failed result then one_more (W.failures out.old) else W.failures out.old) }
 {
     write_text(span_line(span).as_slice(), out)
 }
 
 /// Tells what the run without a trial puts out, and where it has come out.
 pub(crate) fn write_without<W: Write>(without: &Going, out: &mut W) -> Result<(), TrialFault>
-    ensures written { W.told ≡ true → Writes (W.written out.old) (W.written out.new) (without_text without.now.machine without.now.answer) result }
-    ensures failures { W.failures out.new ≡ (if has_write_failed result then one_more (W.failures out.old) else W.failures out.old) }
+    ensures written { W.told ≡ true → Writes (W.written out.old) (W.written out.new)
+        (without_text without.now.machine without.now.answer) result }
+    ensures failures { W.failures out.new ≡
+        (if has_write_failed result then one_more (W.failures out.old) else W.failures out.old) }
 {
     write_text(without_line(&without.answer).as_slice(), out)?;
     write_end(without.machine.next_place(), &None, out)
@@ -170,7 +184,8 @@ pub(crate) fn write_without<W: Write>(without: &Going, out: &mut W) -> Result<()
 /// Writes a text.
 fn write_text<W: Write>(text: &[u8], out: &mut W) -> Result<(), TrialFault>
     ensures written { W.told ≡ true → Writes (W.written out.old) (W.written out.new) text.now result }
-    ensures failures { W.failures out.new ≡ (if has_write_failed result then one_more (W.failures out.old) else W.failures out.old) }
+    ensures failures { W.failures out.new ≡
+        (if has_write_failed result then one_more (W.failures out.old) else W.failures out.old) }
 {
     match write_all(out, text) {
         Ok(()) => Ok(()),

@@ -28,8 +28,8 @@ pub struct TrialsTold {
     pub made: u128,
 }
 
-/// Tries some inputs, each of them alone: tells what the run of so many steps puts out without them, and then what it would with
-/// each. Trials one after another that come to the same are told in one line.
+/// Tries some inputs, each of them alone: tells what the run of so many steps puts out without them, and then what it
+/// would with each. Trials one after another that come to the same are told in one line.
 ///
 /// The run without them is made twice, however many they are; and the run with each from where it parts from that one.
 ///
@@ -43,19 +43,22 @@ pub fn try_inputs<W: Write>(
     out: &mut W,
 ) -> Result<(), TrialFault>
     requires few { steps ≤ 2 ^ 40 - 2 }
-    ensures written { W.told ≡ true → Writes (W.written out.old) (W.written out.new) (whatif_text processor.old.scenario trials.now steps) result }
-    ensures failures { W.failures out.new ≡ (if has_write_failed result then one_more (W.failures out.old) else W.failures out.old) }
+    ensures written { W.told ≡ true → Writes (W.written out.old) (W.written out.new)
+        (whatif_text processor.old.scenario trials.now steps) result }
+    ensures failures { W.failures out.new ≡
+        (if has_write_failed result then one_more (W.failures out.old) else W.failures out.old) }
     ensures twice { processor.new.meter ≤ processor.old.meter + 2 * steps }
 {
     let start = Going::at_start(alloc);
     try_after(alloc, processor, &start, 0, Others::All, trials, steps, out)
 }
 
-/// Tries some inputs after so many steps of a run, at which its machine stands: tells what the run puts out in those that follow, up to
-/// so many in all, and what it would with each input, of the other words the first. None comes below the cycles of the machine.
+/// Tries some inputs after so many steps of a run, at which its machine stands: tells what the run puts out in those
+/// that follow, up to so many in all, and what it would with each input, of the other words the first. None comes below
+/// the cycles of the machine.
 ///
-/// What runs, and the machine, are copied; the steps up to there are not made again, and those that follow twice, however many the
-/// inputs are, and once for each from where it parts.
+/// What runs, and the machine, are copied; the steps up to there are not made again, and those that follow twice,
+/// however many the inputs are, and once for each from where it parts.
 pub fn try_here(
     alloc: Global,
     processor: &Processor,
@@ -67,7 +70,8 @@ pub fn try_here(
     requires few { steps ≤ 2 ^ 40 - 2 }
     requires within { done ≤ steps }
     requires stands { machine.now ≡ run processor.now.scenario done }
-    ensures text { IfOk result (λ told. told.text.written ≡ trials_text First done processor.now.scenario trials.now steps) }
+    ensures text { IfOk result (λ told. told.text.written
+        ≡ trials_text First done processor.now.scenario trials.now steps) }
     ensures twice { IfOk result (λ told. told.made + 2 * done ≤ 2 * steps) }
 {
     let Ok(mut copy) = processor.copied(alloc) else {
@@ -111,8 +115,10 @@ fn try_after<W: Write>(
     requires from { start.now.from ≡ start.now.done }
     requires machine { start.now.machine ≡ run processor.old.scenario start.now.done }
     requires before { IsBefore processor.old.scenario start.now.done first }
-    ensures written { W.told ≡ true → Writes (W.written out.old) (W.written out.new) (trials_text told start.now.from processor.old.scenario trials.now steps) result }
-    ensures failures { W.failures out.new ≡ (if has_write_failed result then one_more (W.failures out.old) else W.failures out.old) }
+    ensures written { W.told ≡ true → Writes (W.written out.old) (W.written out.new)
+        (trials_text told start.now.from processor.old.scenario trials.now steps) result }
+    ensures failures { W.failures out.new ≡
+        (if has_write_failed result then one_more (W.failures out.old) else W.failures out.old) }
     ensures twice { processor.new.meter + 2 * start.now.done ≤ processor.old.meter + 2 * steps }
 {
     if !are_rising(first, trials) {
@@ -208,8 +214,11 @@ fn write_trials<W: Write>(
     requires machine { start.now.machine ≡ run processor.old.scenario start.now.done }
     requires before { IsBefore processor.old.scenario start.now.done first }
     requires rising { are_rising first trials.now ≡ true }
-    ensures written { W.told ≡ true → Writes (W.written out.old) (W.written out.new) (spans_text told None (finishes without.now.answer.others without.now.machine.cells start.now.from processor.old.scenario steps trials.now)) result }
-    ensures failures { W.failures out.new ≡ (if has_write_failed result then one_more (W.failures out.old) else W.failures out.old) }
+    ensures written { W.told ≡ true → Writes (W.written out.old) (W.written out.new)
+        (spans_text told None (finishes without.now.answer.others without.now.machine.cells start.now.from
+        processor.old.scenario steps trials.now)) result }
+    ensures failures { W.failures out.new ≡
+        (if has_write_failed result then one_more (W.failures out.old) else W.failures out.old) }
     ensures once { processor.new.meter + start.now.done ≤ processor.old.meter + steps }
 {
     let mut trunk = match start.copied(alloc) {
@@ -237,9 +246,11 @@ fn try_next(
     requires begun { trunk.old.from ≤ trunk.old.done }
     requires within { trunk.old.done ≤ steps }
     requires machine { trunk.old.machine ≡ run processor.old.scenario trunk.old.done }
-    requires answer { trunk.old.answer ≡ outcome without.now.answer.others trunk.old.from processor.old.scenario trunk.old.done }
+    requires answer { trunk.old.answer ≡ outcome without.now.answer.others trunk.old.from processor.old.scenario
+        trunk.old.done }
     requires before { IsBefore processor.old.scenario trunk.old.done trial.now.cycle }
-    ensures finish { IfOk result (λ r. r ≡ finish without.now.answer.others without.now.machine.cells trunk.old.from (tried processor.old.scenario trial.now) steps) }
+    ensures finish { IfOk result (λ r. r ≡ finish without.now.answer.others without.now.machine.cells trunk.old.from
+        (tried processor.old.scenario trial.now) steps) }
     ensures scenario { processor.new.scenario ≡ processor.old.scenario }
     ensures once { OnOk result (processor.new.meter + trunk.old.done ≤ processor.old.meter + trunk.new.done) }
     ensures most { processor.new.meter + trunk.old.done ≤ processor.old.meter + steps }
@@ -247,7 +258,8 @@ fn try_next(
     ensures from { trunk.new.from ≡ trunk.old.from }
     ensures begun { trunk.old.done ≤ trunk.new.done }
     ensures trunk { OnOk result (trunk.new.machine ≡ run processor.old.scenario trunk.new.done) }
-    ensures seen { OnOk result (trunk.new.answer ≡ outcome without.now.answer.others trunk.old.from processor.old.scenario trunk.new.done) }
+    ensures seen { OnOk result (trunk.new.answer
+        ≡ outcome without.now.answer.others trunk.old.from processor.old.scenario trunk.new.done) }
     ensures before { OnOk result (IsBefore processor.old.scenario trunk.new.done trial.now.cycle) }
     ensures kept { has_write_failed result ≡ false }
 {

@@ -6,7 +6,8 @@ use Rattle.std.proofs.lemmas.Nat.Bits.{and_pow}
 pub or_low_high : (k lo hi : ℕ) → lo < 2 ^ k → hi % 2 ^ k ≡ 0 → bit_or lo hi ≡ lo + hi
 or_low_high k lo hi p q =
     let e : hi ≡ hi / 2 ^ k * 2 ^ k = omega (arith, shr_split hi k) in
-    let s : bit_or lo hi ≡ hi / 2 ^ k * 2 ^ k + lo = ap (λ (h : ℕ). bit_or lo h) e ∙ or_comm lo (hi / 2 ^ k * 2 ^ k) ∙ or_shifted (hi / 2 ^ k) k lo p in
+    let s : bit_or lo hi ≡ hi / 2 ^ k * 2 ^ k + lo = ap (λ (h : ℕ). bit_or lo h) e ∙ or_comm lo (hi / 2 ^ k * 2 ^ k)
+    ∙ or_shifted (hi / 2 ^ k) k lo p in
     omega (arith, e, s)
 
 pub or_high_low : (k lo hi : ℕ) → lo < 2 ^ k → hi % 2 ^ k ≡ 0 → bit_or hi lo ≡ hi + lo

@@ -1,5 +1,6 @@
 -- The digits of a number, one after another.
-use Rattle.std.proofs.Common.{◌≡◌, ℕ, zero, suc, ◌+◌, ◌-◌, ◌/◌, ◌%◌, ◌^◌, ◌<◌, ◌≤◌, List, [], ◌∷◌, ◌++◌, length, decimal, refl, ap, sym, ◌∙◌, arith, add-one, append_assoc, length-append}
+use Rattle.std.proofs.Common.{◌≡◌, ℕ, zero, suc, ◌+◌, ◌-◌, ◌/◌, ◌%◌, ◌^◌, ◌<◌, ◌≤◌, List, [], ◌∷◌, ◌++◌, length, decimal, refl, ap, sym}
+use Rattle.std.proofs.Common.{◌∙◌, arith, add-one, append_assoc, length-append}
 use Rattle.std.proofs.lemmas.Fmt.{decimal_step, decimal_digit, length-decimal-le}
 use Rattle.words.specs.Numerals.{octal_text, digit_zero}
 
@@ -29,7 +30,8 @@ decimal_two n p q =
 -- a number with some digits after it has at least as many as those
 pub decimal_longer : (n : ℕ) → 100 ≤ n → n < 2 ^ 64 → 2 ≤ length (decimal n)
 decimal_longer n p q =
-    let pair : length (decimal n ++ []) ≡ length (decimal (n / 100)) + 2 = ap length (decimal_pair n [] p q) ∙ length-append (decimal (n / 100)) _ in
+    let pair : length (decimal n ++ []) ≡ length (decimal (n / 100)) + 2 = ap length (decimal_pair n [] p q)
+    ∙ length-append (decimal (n / 100)) _ in
     omega (arith, pair, length-append (decimal n) [])
 
 -- two halves of one text are as long together
@@ -50,11 +52,13 @@ pub octal_text-step : (k j n : ℕ) → k ≡ j + 1 → octal_text k n ≡ octal
 unfolding octal_text
 octal_text-step k j n e = rw (e, add-one) refl
 
-pub octal_pushed : (old line : List ℕ) (k n : ℕ) → 0 < k → line ≡ old ++ octal_text (k - 1) (n / 8) → line ++ (48 + n % 8) ∷ [] ≡ old ++ octal_text k n
+pub octal_pushed : (old line : List ℕ) (k n : ℕ) → 0 < k → line ≡ old ++ octal_text (k - 1) (n / 8)
+    → line ++ (48 + n % 8) ∷ [] ≡ old ++ octal_text k n
 octal_pushed old line k n p e =
     ap (λ (xs : List ℕ). xs ++ (48 + n % 8) ∷ []) e ∙ append_assoc old (octal_text (k - 1) (n / 8)) ((48 + n % 8) ∷ [])
     ∙ ap (λ (xs : List ℕ). old ++ xs) (sym (octal_text-step k (k - 1) n (omega arith)))
 
 pub octal_prepended : (k n : ℕ) (text : List ℕ) → 0 < k → octal_text k n ++ text ≡ octal_text (k - 1) (n / 8) ++ (48 + n % 8) ∷ text
 octal_prepended k n text p =
-    ap (λ (xs : List ℕ). xs ++ text) (octal_text-step k (k - 1) n (omega arith)) ∙ append_assoc (octal_text (k - 1) (n / 8)) ((48 + n % 8) ∷ []) text
+    ap (λ (xs : List ℕ). xs ++ text) (octal_text-step k (k - 1) n (omega arith))
+    ∙ append_assoc (octal_text (k - 1) (n / 8)) ((48 + n % 8) ∷ []) text

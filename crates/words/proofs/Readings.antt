@@ -7,7 +7,8 @@ use Rattle.words.specs.Readings.{FaultTakes}
 taken_then : (a b c xs ys : List ℕ) → a ≡ xs ++ b → b ≡ ys ++ c → a ≡ (xs ++ ys) ++ c
 taken_then a b c xs ys p q = p ∙ ap (λ (t : List ℕ). xs ++ t) q ∙ sym (append_assoc xs ys c)
 
-pub fault_after : (e : ReadFault) (most room : ℕ) (a b c xs : List ℕ) → length xs + room ≡ most → a ≡ xs ++ b → FaultTakes e room b c → FaultTakes e most a c
+pub fault_after : (e : ReadFault) (most room : ℕ) (a b c xs : List ℕ) → length xs + room ≡ most → a ≡ xs ++ b → FaultTakes e room b c
+    → FaultTakes e most a c
 fault_after NoMemory most room a b c xs h p q = record {
   bytes = xs ++ q.bytes;
   front = taken_then a b c xs q.bytes p q.front;

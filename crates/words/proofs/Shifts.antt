@@ -1,5 +1,6 @@
 -- Bits that are shifted into a word.
-use Rattle.std.proofs.Common.{◌≡◌, ℕ, zero, suc, ◌+◌, ◌*◌, ◌/◌, ◌%◌, ◌^◌, ◌<◌, ◌≤◌, Bool, true, false, nat_lt, nat_eq, if◌then◌else◌, List, [], ◌∷◌, ◌++◌, length, replicate, refl, sym, ap, ◌∙◌, arith}
+use Rattle.std.proofs.Common.{◌≡◌, ℕ, zero, suc, ◌+◌, ◌*◌, ◌/◌, ◌%◌, ◌^◌, ◌<◌, ◌≤◌, Bool, true, false, nat_lt, nat_eq, if◌then◌else◌, List}
+use Rattle.std.proofs.Common.{[], ◌∷◌, ◌++◌, length, replicate, refl, sym, ap, ◌∙◌, arith}
 use Rattle.std.specs.Int.{bit_at}
 use Rattle.std.proofs.lemmas.Bool.Decides.{nat_tests}
 use Rattle.words.specs.declared.counters.Carry.{Carry}
@@ -80,7 +81,8 @@ word_in w bits p e =
     let fifteen : doubled (length bits) w ≡ doubled 15 w = ap (λ (k : ℕ). doubled k w) e in
     let one : doubled (length bits) 1 ≡ doubled 15 1 = ap (λ (k : ℕ). doubled k 1) e in
     let none : w + 0 ≡ w = omega arith in
-    let whole : number_after w bits ≡ doubled (length bits) w + number_after 0 bits = ap (λ (x : ℕ). number_after x bits) (sym none) ∙ before bits w 0 in
+    let whole : number_after w bits ≡ doubled (length bits) w + number_after 0 bits = ap (λ (x : ℕ). number_after x bits) (sym none)
+    ∙ before bits w 0 in
     let below = few bits 0 in
     in_is bits w p ∙ omega (arith, fifteen, one, whole, below)
 
@@ -96,14 +98,16 @@ falls k w false p high = let more = doubled_more k ((shifted w false).word + 1) 
 comes_out : (bits : List Bool) (w k : ℕ) → length bits ≡ suc k → 32768 ≤ doubled (suc k) w → doubled (suc k) (w + 1) ≤ 65536
     → shifted_out w bits ≡ replicate k No ++ ShiftedOut ∷ []
 comes_out [] w k e low high = absurd (omega (arith, e))
-comes_out (b ∷ []) w zero e low high = let out : (if nat_lt w 16384 then No else ShiftedOut) ≡ ShiftedOut = grind (arith, nat_tests) in ap (λ (c : Carry). c ∷ []) (carry_is w b ∙ out)
+comes_out (b ∷ []) w zero e low high = let out : (if nat_lt w 16384 then No else ShiftedOut)
+    ≡ ShiftedOut = grind (arith, nat_tests) in ap (λ (c : Carry). c ∷ []) (carry_is w b ∙ out)
 comes_out (b ∷ c ∷ bs) w zero e low high = absurd (omega (arith, e))
 comes_out (b ∷ bs) w (suc k) e low high =
     let least = doubled_least k (2 * (2 * (w + 1))) in
     let small : w < 16384 = omega arith in
     let stays : (if nat_lt w 16384 then No else ShiftedOut) ≡ No = grind (arith, nat_tests) in
     ap (λ (c : Carry). c ∷ shifted_out (shifted w b).word bs) (carry_is w b ∙ stays)
-    ∙ ap (λ (cs : List Carry). No ∷ cs) (comes_out bs (shifted w b).word k (omega (arith, e)) (rises (suc k) w b small low) (falls (suc k) w b small high))
+    ∙ ap (λ (cs : List Carry). No ∷ cs) (comes_out bs (shifted w b).word k (omega (arith, e)) (rises (suc k) w b small low)
+    (falls (suc k) w b small high))
 
 pub takes_word_in : (w : ℕ) (bits : List Bool) → w < 32768 → length bits ≡ 15 → TakesWordIn w bits
 takes_word_in w bits p e = record {

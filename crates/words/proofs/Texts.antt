@@ -1,5 +1,6 @@
 -- Texts that are written step by step: one whole after another, and a beginning at a failure.
-use Rattle.std.proofs.Common.{◌≡◌, ℕ, ◌+◌, ◌-◌, List, [], ◌++◌, length, take, drop, Result, Ok, Err, refl, sym, ap, ◌∙◌, arith, append_assoc, append-nil, take-add, take_all, length-drop}
+use Rattle.std.proofs.Common.{◌≡◌, ℕ, ◌+◌, ◌-◌, List, [], ◌++◌, length, take, drop, Result, Ok, Err, refl, sym, ap, ◌∙◌, arith}
+use Rattle.std.proofs.Common.{append_assoc, append-nil, take-add, take_all, length-drop}
 use Rattle.std.proofs.lemmas.List.{take-append-drop}
 use Rattle.words.specs.Devices.{IsBeginning, WritesBeginning, Writes}
 
@@ -62,9 +63,11 @@ Writes-after a b c xs ys (Ok x) p q = append-then a b c xs ys p q
 Writes-after a b c xs ys (Err e) p q = beginning-after a b c xs ys p q
 
 -- the first i bytes of a text, and then n of the rest
-pub append-take : (a b c text : List ℕ) (i n : ℕ) → b ≡ a ++ take i text → c ≡ b ++ take n (take (length text - i) (drop i text)) → c ≡ a ++ take (i + n) text
+pub append-take : (a b c text : List ℕ) (i n : ℕ) → b ≡ a ++ take i text → c ≡ b ++ take n (take (length text - i) (drop i text))
+    → c ≡ a ++ take (i + n) text
 append-take a b c text i n p q =
-    let whole : take (length text - i) (drop i text) ≡ drop i text = take_all (length text - i) (drop i text) (omega (arith, length-drop i text)) in
+    let whole : take (length text - i) (drop i text)
+    ≡ drop i text = take_all (length text - i) (drop i text) (omega (arith, length-drop i text)) in
     let next : c ≡ b ++ take n (drop i text) = rw whole at q in
     rw (take-add i n text) (append-then a b c (take i text) (take n (drop i text)) p next)
 

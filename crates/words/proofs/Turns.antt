@@ -1,5 +1,6 @@
 -- The bits of edited words.
-use Rattle.std.proofs.Common.{◌≡◌, ℕ, suc, ◌+◌, ◌-◌, ◌*◌, ◌/◌, ◌%◌, ◌^◌, ◌<◌, ◌≤◌, min, nat_lt, if◌then◌else◌, sym, ap, ◌∙◌, arith, add-one, inl, inr}
+use Rattle.std.proofs.Common.{◌≡◌, ℕ, suc, ◌+◌, ◌-◌, ◌*◌, ◌/◌, ◌%◌, ◌^◌, ◌<◌, ◌≤◌, min, nat_lt, if◌then◌else◌, sym, ap, ◌∙◌, arith, add-one}
+use Rattle.std.proofs.Common.{inl, inr}
 use Rattle.std.specs.Int.{bit_at}
 use Rattle.std.proofs.Math.Nat.{eq-zero-or-pos}
 use Rattle.std.proofs.lemmas.Bool.Decides.{nat_tests}
@@ -66,7 +67,8 @@ bit_of_128th : (n i : ℕ) → bit_at (n / 128) i ≡ bit_at n (i + 7)
 bit_of_128th n i =
     let sevenfold : i + 7 ≡ suc (suc (suc (suc (suc (suc (suc i)))))) = omega arith in
     let shift : n / 128 ≡ n / 2 / 2 / 2 / 2 / 2 / 2 / 2 = omega arith in
-    rw (sevenfold, shift) (sym (bit_at-suc n _ ∙ bit_at-suc (n / 2) _ ∙ bit_at-suc (n / 2 / 2) _ ∙ bit_at-suc (n / 2 / 2 / 2) _ ∙ bit_at-suc (n / 2 / 2 / 2 / 2) _ ∙ bit_at-suc (n / 2 / 2 / 2 / 2 / 2) _ ∙ bit_at-suc (n / 2 / 2 / 2 / 2 / 2 / 2) i))
+    rw (sevenfold, shift) (sym (bit_at-suc n _ ∙ bit_at-suc (n / 2) _ ∙ bit_at-suc (n / 2 / 2) _ ∙ bit_at-suc (n / 2 / 2 / 2) _
+    ∙ bit_at-suc (n / 2 / 2 / 2 / 2) _ ∙ bit_at-suc (n / 2 / 2 / 2 / 2 / 2) _ ∙ bit_at-suc (n / 2 / 2 / 2 / 2 / 2 / 2) i))
 
 edop_above : (w i : ℕ) → 7 - i ≡ 0 → bit_at (edop w) i ≡ (if nat_lt i 7 then bit_at w (i + 7) else 0)
 edop_above w i e =

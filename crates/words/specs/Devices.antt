@@ -1,5 +1,6 @@
 -- What calls of readers and writers do to the bytes that they tell, and to the count of failures.
-use Rattle.std.specs.Prelude.{◌≡◌, ℕ, ◌+◌, ◌-◌, ◌^◌, Bool, true, ◌&&◌, min, List, ◌++◌, length, nat_eq, nat_lt, Result, is_ok, Ok, Err, if◌then◌else◌}
+use Rattle.std.specs.Prelude.{◌≡◌, ℕ, ◌+◌, ◌-◌, ◌^◌, Bool, true, ◌&&◌, min, List, ◌++◌, length, nat_eq, nat_lt, Result, is_ok, Ok, Err}
+use Rattle.std.specs.Prelude.{if◌then◌else◌}
 
 -- the count after one more failure, which stays at its greatest value
 abbrev pub one_more : ℕ → ℕ

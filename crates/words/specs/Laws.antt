@@ -1,5 +1,6 @@
 -- What the formulas come to.
-use Rattle.std.specs.Prelude.{◌≡◌, ◌≢◌, ℕ, ◌+◌, ◌-◌, ◌*◌, ◌%◌, ◌^◌, ◌<◌, ◌≤◌, min, nat_lt, nat_eq, if◌then◌else◌, Bool, true, false, List, [], ◌∷◌, ◌++◌, replicate, ℤ, pos, ◌+ℤ◌, ◌-ℤ◌, ◌*ℤ◌, int_lt, unsigned_abs}
+use Rattle.std.specs.Prelude.{◌≡◌, ◌≢◌, ℕ, ◌+◌, ◌-◌, ◌*◌, ◌%◌, ◌^◌, ◌<◌, ◌≤◌, min, nat_lt, nat_eq, if◌then◌else◌, Bool, true, false, List}
+use Rattle.std.specs.Prelude.{[], ◌∷◌, ◌++◌, replicate, ℤ, pos, ◌+ℤ◌, ◌-ℤ◌, ◌*ℤ◌, int_lt, unsigned_abs}
 use Rattle.std.specs.Int.{bit_at}
 use Rattle.words.specs.declared.wide.Overflow.{Overflow}
 use Rattle.words.specs.declared.wide.Overflow.TheVariants as overflow
@@ -134,8 +135,8 @@ abbrev pub number_after : ℕ → List Bool → ℕ
 number_after n [] = n
 number_after n (b ∷ bs) = number_after (2 * n + bit b) bs
 
--- Fifteen bits that are shifted in are the word, whatever stood there. Where a one and then they are shifted into an empty word, as the uplink sends them, a one is
--- shifted out with the last bit, and not before.
+-- Fifteen bits that are shifted in are the word, whatever stood there. Where a one and then they are shifted into an empty word, as the
+-- uplink sends them, a one is shifted out with the last bit, and not before.
 pub record TakesWordIn (w : ℕ) (bits : List Bool) : Type 0 where
   pub word : shifted_in w bits ≡ number_after 0 bits
   pub full : shifted_out 0 (true ∷ bits) ≡ replicate 15 carry.No ++ carry.ShiftedOut ∷ []

@@ -1,5 +1,6 @@
 -- The product and the quotient of words.
-use Rattle.std.specs.Prelude.{ℕ, ◌-◌, ◌*◌, ◌/◌, ◌%◌, ◌^◌, Bool, true, false, not, ◌&&◌, ◌||◌, nat_lt, nat_le, nat_eq, if◌then◌else◌, ℤ, pos, ◌+ℤ◌, ◌*ℤ◌, int_lt, unsigned_abs}
+use Rattle.std.specs.Prelude.{ℕ, ◌-◌, ◌*◌, ◌/◌, ◌%◌, ◌^◌, Bool, true, false, not, ◌&&◌, ◌||◌, nat_lt, nat_le, nat_eq, if◌then◌else◌, ℤ, pos}
+use Rattle.std.specs.Prelude.{◌+ℤ◌, ◌*ℤ◌, int_lt, unsigned_abs}
 use Rattle.words.specs.declared.product.Product.{Product}
 use Rattle.words.specs.declared.product.Quotient.{Quotient}
 use Rattle.words.specs.Numbers.{value, neg}

@@ -1,6 +1,7 @@
 //! Readers and writers whose contracts see bytes and failures.
 
-ghost use Rattle.std.specs.Prelude.{◌≡◌, ℕ, ◌<◌, ◌≤◌, Bool, true, List, [], ◌++◌, Some, codes, Ok, IfOk, OnOk, OnErr, length, take, drop, if◌then◌else◌};
+ghost use Rattle.std.specs.Prelude.{◌≡◌, ℕ, ◌<◌, ◌≤◌, Bool, true, List, [], ◌++◌, Some, codes, Ok, IfOk, OnOk, OnErr};
+ghost use Rattle.std.specs.Prelude.{length, take, drop, if◌then◌else◌};
 ghost use Rattle.std.specs.Io.{ReadsAtMost, WritesAtMost};
 ghost use Rattle.words.specs.Devices.{failures_after, failures_after_write, Writes};
 
@@ -17,8 +18,8 @@ pub trait Read {
     /// How many calls failed, as far as 128 bits go.
     ghost failures: { Self → ℕ };
 
-    /// Reads some bytes to the front of a buffer, and answers how many: none only at the end or with no room. A call that
-    /// fails takes no byte.
+    /// Reads some bytes to the front of a buffer, and answers how many: none only at the end or with no room. A call
+    /// that fails takes no byte.
     fn read(&mut self, buf: &mut [u8]) -> io::Result<usize>
         ensures bound { ReadsAtMost result buf.new }
         ensures bytes { told ≡ true → IfOk result (λ n. left self.old ≡ take n buf.new ++ left self.new) }
@@ -26,16 +27,16 @@ pub trait Read {
         ensures err { told ≡ true → OnErr result (left self.new ≡ left self.old) }
         ensures failures { failures self.new ≡ failures_after (failures self.old) result };
 
-    /// The bytes that stand ready: a beginning of those that are left, to be had without asking a device. A reader that reads
-    /// none ahead keeps this body.
+    /// The bytes that stand ready: a beginning of those that are left, to be had without asking a device. A reader that
+    /// reads none ahead keeps this body.
     fn ready(&self) -> &[u8]
         ensures { told ≡ true → left self.now ≡ result.now ++ drop (length result.now) (left self.now) }
     {
         b""
     }
 
-    /// Passes over so many of the bytes that are left, or over none, and answers whether it did. A reader that has so many
-    /// ready should.
+    /// Passes over so many of the bytes that are left, or over none, and answers whether it did. A reader that has so
+    /// many ready should.
     fn pass(&mut self, count: usize) -> bool
         ensures within { told ≡ true → result ≡ true → count ≤ length (left self.old) }
         ensures bytes { told ≡ true → left self.new ≡ (if result then drop count (left self.old) else left self.old) }
@@ -45,8 +46,8 @@ pub trait Read {
     }
 }
 
-/// A writer. Where it tells its bytes, contracts see those that were written and those of them that were handed on; they see
-/// its count of failures always.
+/// A writer. Where it tells its bytes, contracts see those that were written and those of them that were handed on;
+/// they see its count of failures always.
 pub trait Write {
     /// Whether `written` and `handed_on` are told.
     ghost told: { Bool };

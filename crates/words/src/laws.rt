@@ -5,7 +5,9 @@ ghost use Rattle.words.specs.Numbers.{neg, neg_wide, sum, extend, correct};
 ghost use Rattle.words.specs.Edits.{cyr, cyl};
 ghost use Rattle.words.specs.Counters.{pcdu, mcdu};
 ghost use Rattle.words.specs.Products.{quotient_fits};
-ghost use Rattle.words.specs.Laws.{IsOpposite, IsOppositeWide, KeepsValue, IsExtension, AddsValues, OverflowsByValue, DiminishesMagnitude, TurnsTo, CyclesRight, CyclesLeft, ShiftsRight, TakesUpperBits, AddsOne, TakesOne, NearsZero, ShiftsIn, TakesWordIn, MakesProduct, Divides};
+ghost use Rattle.words.specs.Laws.{IsOpposite, IsOppositeWide, KeepsValue, IsExtension, AddsValues, OverflowsByValue};
+ghost use Rattle.words.specs.Laws.{DiminishesMagnitude, TurnsTo, CyclesRight, CyclesLeft, ShiftsRight, TakesUpperBits};
+ghost use Rattle.words.specs.Laws.{AddsOne, TakesOne, NearsZero, ShiftsIn, TakesWordIn, MakesProduct, Divides};
 
 use super::wide::Wide;
 use super::word::Word;
@@ -38,8 +40,8 @@ pub fn sum_by_value(x: Wide, y: Wide)
     ensures { AddsValues x y }
 {}
 
-/// A sum of two words has no overflow exactly where the sum of their values has a magnitude below 2^14; else it has that of
-/// its sign.
+/// A sum of two words has no overflow exactly where the sum of their values has a magnitude below 2^14; else it has
+/// that of its sign.
 pub fn overflow_by_value(a: Word, b: Word)
     ensures { OverflowsByValue a b }
 {}
@@ -55,8 +57,8 @@ pub fn diminished_magnitude_by_value(x: Wide)
     ensures { DiminishesMagnitude x }
 {}
 
-/// Two angles of 2^15 parts to a turn: their modular difference turns the second to the first, on or back by less than half
-/// a turn. Of half a turn it is one part short.
+/// Two angles of 2^15 parts to a turn: their modular difference turns the second to the first, on or back by less than
+/// half a turn. Of half a turn it is one part short.
 pub fn modular_difference_by_value(a: Word, k: Word)
     ensures { TurnsTo a k }
 {}
@@ -75,7 +77,8 @@ pub fn shifts(w: Word)
     ensures upper { TakesUpperBits w }
 {}
 
-/// The counter steps by the value: plus one, minus one, one nearer to zero, with what is carried out and which zero comes.
+/// The counter steps by the value: plus one, minus one, one nearer to zero, with what is carried out and which zero
+/// comes.
 pub fn counter_values(w: Word)
     ensures plus { AddsOne w }
     ensures minus { TakesOne w }
@@ -87,7 +90,8 @@ pub fn bit_is_shifted_in(w: Word, bit: bool)
     ensures { ShiftsIn w bit }
 {}
 
-/// Fifteen bits that are shifted in are the word; of a one and fifteen bits that are shifted into an empty word the last alone shifts a one out.
+/// Fifteen bits that are shifted in are the word; of a one and fifteen bits that are shifted into an empty word the
+/// last alone shifts a one out.
 pub fn word_is_shifted_in(w: Word, bits: &[bool])
     ensures { length bits.now ≡ 15 → TakesWordIn w bits.now }
 {}

@@ -88,8 +88,8 @@ impl Ahead {
     }
 }
 
-/// A reader that reads ahead of what is asked for, and tells what its device tells: of the bytes that are left, those that were read
-/// ahead come first.
+/// A reader that reads ahead of what is asked for, and tells what its device tells: of the bytes that are left, those
+/// that were read ahead come first.
 #[derive(Drop)]
 pub struct ReadAhead<T: Read> {
     device: T,

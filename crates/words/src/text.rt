@@ -1,6 +1,7 @@
 //! Whole texts from readers.
 
-ghost use Rattle.std.specs.Prelude.{◌≡◌, ◌+◌, ◌≤◌, ◌++◌, [], Some, true, codes, decimal, IfOk, IfErr, length, if◌then◌else◌};
+ghost use Rattle.std.specs.Prelude.{◌≡◌, ◌+◌, ◌≤◌, ◌++◌, [], Some, true, codes, decimal, IfOk, IfErr, length};
+ghost use Rattle.std.specs.Prelude.{if◌then◌else◌};
 ghost use Rattle.words.specs.Devices.{one_more};
 ghost use Rattle.words.specs.Faults.{number_of_no_text};
 ghost use Rattle.words.specs.Readings.{FaultTakes, has_read_failed, ReadsOnto};
@@ -57,7 +58,8 @@ pub fn read_text<R: Read>(alloc: Global, reader: &mut R, most: usize) -> Result<
     ensures end { R.told ≡ true → IfOk result (λ _. R.left reader.new ≡ []) }
     ensures within { IfOk result (λ text. length text.items ≤ most) }
     ensures fault { R.told ≡ true → IfErr result (λ e. FaultTakes e most (R.left reader.old) (R.left reader.new)) }
-    ensures failures { R.failures reader.new ≡ (if has_read_failed result then one_more (R.failures reader.old) else R.failures reader.old) }
+    ensures failures { R.failures reader.new
+        ≡ (if has_read_failed result then one_more (R.failures reader.old) else R.failures reader.old) }
 {
     let mut text = Vec::new(alloc);
     while text.len() <= most {
@@ -71,11 +73,13 @@ pub fn read_text<R: Read>(alloc: Global, reader: &mut R, most: usize) -> Result<
 
 /// Reads once, at most `most + 1` bytes onto the end of a text.
 fn read_some<R: Read>(reader: &mut R, text: &mut Vec<u8>, most: usize) -> Result<usize, ReadFault>
-    ensures reads { R.told ≡ true → IfOk result (λ n. ReadsOnto (R.left reader.old) (R.left reader.new) text.old.items text.new.items n) }
+    ensures reads { R.told ≡ true → IfOk result
+        (λ n. ReadsOnto (R.left reader.old) (R.left reader.new) text.old.items text.new.items n) }
     ensures count { IfOk result (λ n. length text.new.items ≡ length text.old.items + n) }
     ensures within { IfOk result (λ n. n ≤ most + 1) }
     ensures fault { R.told ≡ true → IfErr result (λ e. FaultTakes e most (R.left reader.old) (R.left reader.new)) }
-    ensures failures { R.failures reader.new ≡ (if has_read_failed result then one_more (R.failures reader.old) else R.failures reader.old) }
+    ensures failures { R.failures reader.new
+        ≡ (if has_read_failed result then one_more (R.failures reader.old) else R.failures reader.old) }
 {
     let mut chunk = [0; CHUNK];
     let part = &mut chunk[..most.min(CHUNK - 1) + 1];

@@ -8,7 +8,8 @@ use Rattle.debugger.specs.Sessions.{Debugs, has_read_failed as reader_failed, ha
 use Rattle.debugger.specs.Transcript.{most_command_bytes}
 use Rattle.debugger.specs.declared.fault.DebugFault.{DebugFault}
 use Rattle.debugger.specs.declared.fault.DebugFault.TheVariants.{NoMemory, ReadFailed, WriteFailed}
-use Rattle.workshop.specs.Debugging.{Debugging, AnswersCommands, AnswersExtended, DebugsExtended, OpensListed, setting_of, talk_of, of_debugging}
+use Rattle.workshop.specs.Debugging.{Debugging, AnswersCommands, AnswersExtended, DebugsExtended, OpensListed, setting_of, talk_of}
+use Rattle.workshop.specs.Debugging.{of_debugging}
 use Rattle.workshop.specs.Loading.{Loads}
 use Rattle.workshop.specs.declared.fault.WorkshopFault.{WorkshopFault}
 use Rattle.workshop.specs.declared.inputs.Loaded.{Loaded}
@@ -47,7 +48,8 @@ answers o before after ended replies reader writer read = record {
 
 pub answers_extended : (source : Source) (o : Opened) (before after : Debugging) (ended : Result (Unit {0}) DebugFault)
     → (before.commands.told ≡ true → before.out.told ≡ true →
-    Talks (talk_of source o) (record { before = before.commands.left; left = after.commands.left }) before.out.written after.out.written ended)
+    Talks (talk_of source o) (record { before = before.commands.left; left = after.commands.left }) before.out.written after.out.written
+    ended)
     → after.commands.failures ≡ (if reader_failed ended then one_more before.commands.failures else before.commands.failures)
     → after.out.failures ≡ (if writer_failed ended then one_more before.out.failures else before.out.failures)
     → (before.commands.told ≡ true → TakesAtMost most_extended_bytes before.commands.left after.commands.left)
@@ -62,8 +64,10 @@ answers_extended source o before after ended replies reader writer read = record
 }
 
 -- the lines were answered over a session that was opened beside the source of its program
-pub debugs_listed : (from : Origin) (l : Loaded) (o : Opened) (source : Source) (before after : Debugging) (result : Result (Unit {0}) WorkshopFault)
-    → Loads from before.files after.files (Ok l) → OpensListed l (Ok (o, source)) → AnswersExtended source o before after result → DebugsExtended from before after result
+pub debugs_listed : (from : Origin) (l : Loaded) (o : Opened) (source : Source) (before after : Debugging)
+    (result : Result (Unit {0}) WorkshopFault)
+    → Loads from before.files after.files (Ok l) → OpensListed l (Ok (o, source)) → AnswersExtended source o before after result
+    → DebugsExtended from before after result
 debugs_listed from l o source before after result loads opens answers = record {
   opened = Ok o;
   opens = record { loaded = Ok l; loads = loads; next = (opens.0, opens.1) };
@@ -71,7 +75,8 @@ debugs_listed from l o source before after result loads opens answers = record {
 }
 
 -- memory ran out once a program and a feed were read
-pub no_session : (from : Origin) (l : Loaded) (before after : Debugging) (fault : WorkshopFault) → Loads from before.files after.files (Ok l) → OpensListed l (Err fault)
+pub no_session : (from : Origin) (l : Loaded) (before after : Debugging) (fault : WorkshopFault)
+    → Loads from before.files after.files (Ok l) → OpensListed l (Err fault)
     → after.commands ≡ before.commands → after.out ≡ before.out → DebugsExtended from before after (Err fault)
 no_session from l before after fault loads opens commands out =
     record { opened = Err fault; opens = record { loaded = Ok l; loads = loads; next = opens }; next = (refl, commands, out) }

@@ -8,11 +8,14 @@ use Rattle.workshop.specs.declared.fault.WorkshopFault.{WorkshopFault}
 use Rattle.workshop.specs.Assemblies.{Assembling, WritesChecked, WritesProgram, without_bank}
 
 -- the words of an image by another name
-pub of_words : {version : Version} {words others : Words} {p : Program} {before after : Assembling} {result : Result (Unit {0}) WorkshopFault}
+pub of_words : {version : Version} {words others : Words} {p : Program} {before after : Assembling}
+    {result : Result (Unit {0}) WorkshopFault}
     → words ≡ others → WritesProgram version words p before after result → WritesProgram version others p before after result
-of_words {version} {words} {others} {p} {before} {after} {result} same writes = subst (λ given. WritesProgram version given p before after result) same writes
+of_words {version} {words} {others} {p} {before} {after} {result} same writes = subst
+    (λ given. WritesProgram version given p before after result) same writes
 
-pub of_copy : {version : Version} {p : Program} {copy checked : Words} {before after : Assembling} {written : Result (Unit {0}) WorkshopFault}
+pub of_copy : {version : Version} {p : Program} {copy checked : Words} {before after : Assembling}
+    {written : Result (Unit {0}) WorkshopFault}
     → copy ≡ p.rope → HaveRoom copy banks → checked ≡ with_checks copy banks → WritesProgram version checked p before after written
     → WritesChecked version p before after (without_bank written)
 of_copy {written = written} same room made writes = record {

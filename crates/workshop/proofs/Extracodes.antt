@@ -6,7 +6,8 @@ use Rattle.cpu.specs.Next.{extra_after, extracode_after}
 use Rattle.cpu.proofs.RowTexts.{row_at, extracode_by_row}
 use Rattle.yayul.specs.Operators.{operators}
 use Rattle.workshop.specs.Laws.{is_own, IsAgreedAfter, AreAgreed}
-use Rattle.workshop.proofs.OperatorTexts.{Kind, field, Holds, field_ok, then_ok, field_from, field_to, Suits, suits, if_suits, Gives, basic_stands, extra_stands, number_ok, no_own, ◌&◌}
+use Rattle.workshop.proofs.OperatorTexts.{Kind, field, Holds, field_ok, then_ok, field_from, field_to, Suits, suits, if_suits, Gives}
+use Rattle.workshop.proofs.OperatorTexts.{basic_stands, extra_stands, number_ok, no_own, ◌&◌}
 use Rattle.workshop.proofs.OperatorTexts.Kind.{Number, Pair, Far, Channel}
 
 -- what a field holds lies where fields lie
@@ -23,7 +24,8 @@ given_after extracode k least size n word kind s e =
     let h = then_ok {A = ℕ} {B = List ℕ} (λ f. Ok ((least + f) ∷ [])) (field kind size n) (word ∷ []) e in
     let is : word ≡ least + h.0 = (let same = h.1.1 in cc) in
     let w = field_within kind size n h.0 (field_ok kind size n h.0 h.1.0) in
-    extracode_by_row extracode k word s.few (omega (arith, is, w, s.high, s.most)) (omega (arith, is, w, s.low)) (omega (arith, is, w, s.high))
+    extracode_by_row extracode k word s.few (omega (arith, is, w, s.high, s.most)) (omega (arith, is, w, s.low))
+    (omega (arith, is, w, s.high))
 
 -- what the assembler leaves: extracode ends after an operator of a number, and of an operator of both tables it stays
 abbrev ends : (O : Type 0) → Bool → Bool → Type 0
@@ -32,31 +34,36 @@ ends O extracode after = (operand : O) → false ≡ after
 abbrev stays : (O : Type 0) → Bool → Bool → Type 0
 stays O extracode after = (operand : O) → extracode ≡ after
 
-numbered_basic : {O : Type 0} (k least size : ℕ) (kind : Kind) → suits false k least size kind ≡ true → extra_after (row_at false k).instruction false ≡ false
+numbered_basic : {O : Type 0} (k least size : ℕ) (kind : Kind) → suits false k least size kind ≡ true
+    → extra_after (row_at false k).instruction false ≡ false
     → IsAgreedAfter (λ extracode word. ⊥) (λ extracode n word. (basic_stands extracode ≡ true) × Gives kind least size n word) (ends O)
 numbered_basic {O} k least size kind s same = record {
   alone = λ extracode word no'. absurd no';
   with_number = λ extracode n word given own. at extracode n word given;
 }
   where
-    at : (extracode : Bool) (n word : ℕ) → (basic_stands extracode ≡ true) × Gives kind least size n word → ends O extracode (extracode_after extracode word)
+    at : (extracode : Bool) (n word : ℕ) → (basic_stands extracode ≡ true) × Gives kind least size n word
+        → ends O extracode (extracode_after extracode word)
     at false n word given = λ operand. sym (given_after false k least size n word kind (if_suits false k least size kind s) given.1 ∙ same)
     at true n word given = absurd (let no' = given.0 in cc)
 
-numbered_extra : {O : Type 0} (k least size : ℕ) (kind : Kind) → suits true k least size kind ≡ true → extra_after (row_at true k).instruction true ≡ false
+numbered_extra : {O : Type 0} (k least size : ℕ) (kind : Kind) → suits true k least size kind ≡ true
+    → extra_after (row_at true k).instruction true ≡ false
     → IsAgreedAfter (λ extracode word. ⊥) (λ extracode n word. (extra_stands extracode ≡ true) × Gives kind least size n word) (ends O)
 numbered_extra {O} k least size kind s same = record {
   alone = λ extracode word no'. absurd no';
   with_number = λ extracode n word given own. at extracode n word given;
 }
   where
-    at : (extracode : Bool) (n word : ℕ) → (extra_stands extracode ≡ true) × Gives kind least size n word → ends O extracode (extracode_after extracode word)
+    at : (extracode : Bool) (n word : ℕ) → (extra_stands extracode ≡ true) × Gives kind least size n word
+        → ends O extracode (extracode_after extracode word)
     at true n word given = λ operand. sym (given_after true k least size n word kind (if_suits true k least size kind s) given.1 ∙ same)
     at false n word given = absurd (let no' = given.0 in cc)
 
 -- an operator of a whole word leaves what its row says
 alone_basic : (code : ℕ) (left : Bool) → left ≡ extracode_after false code
-    → IsAgreedAfter (λ extracode word. (basic_stands extracode ≡ true) × (word ≡ code)) (λ extracode n word. ⊥) (λ extracode after. left ≡ after)
+    → IsAgreedAfter (λ extracode word. (basic_stands extracode ≡ true) × (word ≡ code)) (λ extracode n word. ⊥)
+    (λ extracode after. left ≡ after)
 alone_basic code left same = record { alone = at; with_number = λ extracode n word no' own. absurd no' }
   where
     at : (extracode : Bool) (word : ℕ) → (basic_stands extracode ≡ true) × (word ≡ code) → left ≡ extracode_after extracode word
@@ -64,7 +71,8 @@ alone_basic code left same = record { alone = at; with_number = λ extracode n w
     at true word given = absurd (let no' = given.0 in cc)
 
 alone_extra : (code : ℕ) → false ≡ extracode_after true code
-    → IsAgreedAfter (λ extracode word. (extra_stands extracode ≡ true) × (word ≡ code)) (λ extracode n word. ⊥) (λ extracode after. false ≡ after)
+    → IsAgreedAfter (λ extracode word. (extra_stands extracode ≡ true) × (word ≡ code)) (λ extracode n word. ⊥)
+    (λ extracode after. false ≡ after)
 alone_extra code same = record { alone = at; with_number = λ extracode n word no' own. absurd no' }
   where
     at : (extracode : Bool) (word : ℕ) → (extra_stands extracode ≡ true) × (word ≡ code) → false ≡ extracode_after extracode word
@@ -84,15 +92,18 @@ tc_after n word lt is own =
     elim (cases_lt word 3) [
       | inl less ↦ extracode_by_row false 0 word (omega arith) (omega arith) (omega arith) (omega arith)
       | inr more ↦ elim (cases_lt word 7) [
-        | inl less ↦ (let five : word ≡ 5 = omega (arith, relint, inhint, extend) in extracode_by_row false 3 word (omega arith) (omega arith) (omega arith) (omega arith))
+        | inl less ↦ (let five : word ≡ 5 = omega (arith, relint, inhint, extend) in extracode_by_row false 3 word (omega arith)
+            (omega arith) (omega arith) (omega arith))
         | inr last ↦ extracode_by_row false 5 word (omega arith) (omega arith) (omega arith) (omega arith)
       ]
     ]
 
-tc : {O : Type 0} → IsAgreedAfter (λ extracode word. ⊥) (λ extracode n word. (basic_stands extracode ≡ true) × Gives Number 0 0o10000 n word) (ends O)
+tc : {O : Type 0} → IsAgreedAfter (λ extracode word. ⊥)
+    (λ extracode n word. (basic_stands extracode ≡ true) × Gives Number 0 0o10000 n word) (ends O)
 tc {O} = record { alone = λ extracode word no'. absurd no'; with_number = at }
   where
-    at : (extracode : Bool) (n word : ℕ) → (basic_stands extracode ≡ true) × Gives Number 0 0o10000 n word → is_own extracode word ≡ false → ends O extracode (extracode_after extracode word)
+    at : (extracode : Bool) (n word : ℕ) → (basic_stands extracode ≡ true) × Gives Number 0 0o10000 n word → is_own extracode word ≡ false
+        → ends O extracode (extracode_after extracode word)
     at false n word given own = let h = number_ok 0 0o10000 n word given.1 in λ operand. sym (tc_after n word h.0 (omega arith) own)
     at true n word given own = absurd (let no' = given.0 in cc)
 
@@ -104,7 +115,8 @@ index_basic n word given own =
     let resume = no_own 0o50017 word refl own in
     elim (cases_lt word 0o50017) [
       | inl less ↦ extracode_by_row false 14 word (omega arith) (omega arith) (omega arith) (omega arith)
-      | inr more ↦ (let above : 0o50020 ≤ word = omega (arith, resume) in extracode_by_row false 16 word (omega arith) (omega arith) (omega arith) (omega arith))
+      | inr more ↦ (let above : 0o50020 ≤ word = omega (arith, resume) in extracode_by_row false 16 word (omega arith) (omega arith)
+          (omega arith) (omega arith))
     ]
 
 index_extra : (n word : ℕ) → Gives Number 0o50000 0o10000 n word → extracode_after true word ≡ true
@@ -115,7 +127,8 @@ index : {O : Type 0} (size : Bool → ℕ) → size false ≡ 0o2000 → size tr
     → IsAgreedAfter (λ extracode word. ⊥) (λ extracode n word. (true ≡ true) × Gives Number 0o50000 (size extracode) n word) (stays O)
 index {O} size basic extra = record { alone = λ extracode word no'. absurd no'; with_number = at }
   where
-    at : (extracode : Bool) (n word : ℕ) → (true ≡ true) × Gives Number 0o50000 (size extracode) n word → is_own extracode word ≡ false → stays O extracode (extracode_after extracode word)
+    at : (extracode : Bool) (n word : ℕ) → (true ≡ true) × Gives Number 0o50000 (size extracode) n word → is_own extracode word ≡ false
+        → stays O extracode (extracode_after extracode word)
     at false n word given own = λ operand. sym (index_basic n word (subst (λ (s : ℕ). Gives Number 0o50000 s n word) basic given.1) own)
     at true n word given own = λ operand. sym (index_extra n word (subst (λ (s : ℕ). Gives Number 0o50000 s n word) extra given.1))
 

@@ -7,7 +7,8 @@ use Rattle.words.specs.Readings.{TakesAtMost}
 use Rattle.feed.specs.Feed.{inputs, most_bytes}
 use Rattle.feed.specs.Reading.{ReadsFeed, ReadsWhole, has_read_failed as has_failed}
 use Rattle.feed.specs.declared.fault.FeedFault.{FeedFault}
-use Rattle.feed.specs.declared.fault.FeedFault.TheVariants.{NoMemory, ReadFailed, BadLine, OutOfOrder, TooMany, WrongCounter, TooLong, TooManySeries}
+use Rattle.feed.specs.declared.fault.FeedFault.TheVariants.{NoMemory, ReadFailed, BadLine, OutOfOrder, TooMany, WrongCounter, TooLong}
+use Rattle.feed.specs.declared.fault.FeedFault.TheVariants.{TooManySeries}
 use Rattle.feed.specs.declared.entry.Entry.{Entry}
 use Rattle.workshop.specs.Failures.{Reader, has_read_failed, has_write_failed}
 use Rattle.workshop.specs.Inputs.{of_feed}
@@ -23,7 +24,8 @@ few_bytes text told e differs =
     ]
 
 -- such a feed was read whole
-within : (old new : List ℕ) (told : Result (List Entry) FeedFault) → ReadsWhole old new told → told ≢ Err TooLong → TakesAtMost most_bytes old new
+within : (old new : List ℕ) (told : Result (List Entry) FeedFault) → ReadsWhole old new told → told ≢ Err TooLong
+    → TakesAtMost most_bytes old new
 within old new told whole differs =
     record { bytes = old; front = rw whole.left (sym (append-nil old)); most = few_bytes old told whole.answer differs }
 
@@ -35,7 +37,12 @@ reads_inputs old new (Err (BadLine line)) h = record { tells = ap of_feed h.answ
 reads_inputs old new (Err (OutOfOrder line)) h = record { tells = ap of_feed h.answer; whole = tt; most = within old new _ h (λ e. cc) }
 reads_inputs old new (Err TooMany) h = record { tells = ap of_feed h.answer; whole = tt; most = within old new _ h (λ e. cc) }
 reads_inputs old new (Err (WrongCounter line)) h = record { tells = ap of_feed h.answer; whole = tt; most = within old new _ h (λ e. cc) }
-reads_inputs old new (Err TooLong) h = record { tells = ap of_feed h.answer; whole = tt; most = record { bytes = h.taken.bytes; front = h.taken.front; most = omega (arith, h.taken.count) } }
+reads_inputs old new (Err TooLong) h = record {
+  tells = ap of_feed h.answer;
+  whole = tt;
+  most = record
+      { bytes = h.taken.bytes; front = h.taken.front; most = omega (arith, h.taken.count) };
+}
 reads_inputs old new (Err (TooManySeries line)) h = record { tells = ap of_feed h.answer; whole = tt; most = within old new _ h (λ e. cc) }
 
 same_failure : (told : Result (List Entry) FeedFault) → has_read_failed (of_feed told) ≡ has_failed told
@@ -60,7 +67,14 @@ no_write (Err (WrongCounter line)) = refl
 no_write (Err TooLong) = refl
 no_write (Err (TooManySeries line)) = refl
 
-pub reads_feed : (before after : Reader) (told : Result (List Entry) FeedFault) → (before.told ≡ true → ReadsFeed before.left after.left told)
-    → after.failures ≡ (if has_failed told then one_more before.failures else before.failures) → Reads ReadsInputs before after (of_feed told)
+pub reads_feed : (before after : Reader) (told : Result (List Entry) FeedFault)
+    → (before.told ≡ true → ReadsFeed before.left after.left told)
+    → after.failures ≡ (if has_failed told then one_more before.failures else before.failures)
+    → Reads ReadsInputs before after (of_feed told)
 reads_feed before after told bytes failures =
-    record { bytes = λ t. reads_inputs before.left after.left told (bytes t); failures = rw (same_failure told) failures; writer = no_write told }
+    record {
+      bytes = λ t. reads_inputs before.left after.left told (bytes t);
+      failures = rw (same_failure told) failures;
+      writer = no_write
+          told;
+    }

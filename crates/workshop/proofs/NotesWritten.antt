@@ -18,9 +18,12 @@ use Rattle.workshop.specs.Runs.{Makes}
 use Rattle.cpu.specs.State.{Scenario}
 use Rattle.workshop.specs.Notings.{NotesRun, Noting, ReadsNamed, ReadsNamedImage, RunsNoted}
 
-pub noted_by : (notation : Notation) (origin : Origin) (steps : ℕ) (before after : Noting) (code : NamedCode) (inputs : List Entry) (r : Result NamedCode WorkshopFault) (i : Result (List Entry) WorkshopFault)
-    (result : Result Summary WorkshopFault) → r ≡ Ok code → i ≡ Ok inputs → Reads (ReadsNamed origin) before.files.program after.files.program r
-    → Reads ReadsInputs before.files.feed after.files.feed i → NotesRun notation code (record { rope = code.rope; inputs = inputs }) steps before.texts after.texts result
+pub noted_by : (notation : Notation) (origin : Origin) (steps : ℕ) (before after : Noting) (code : NamedCode) (inputs : List Entry)
+    (r : Result NamedCode WorkshopFault) (i : Result (List Entry) WorkshopFault)
+    (result : Result Summary WorkshopFault) → r ≡ Ok code → i ≡ Ok inputs
+    → Reads (ReadsNamed origin) before.files.program after.files.program r
+    → Reads ReadsInputs before.files.feed after.files.feed i
+    → NotesRun notation code (record { rope = code.rope; inputs = inputs }) steps before.texts after.texts result
     → RunsNoted notation origin steps before after result
 noted_by notation origin steps before after code inputs r i result e f reads more run = record {
   code = Ok code;
@@ -29,7 +32,8 @@ noted_by notation origin steps before after code inputs r i result e f reads mor
 }
 
 -- nothing of an image was read, and memory ran out
-pub no_memory_before : (version : Version) (before : Reader) → Reads (λ old new. ReadsNamedImage version old new) before before (Err NoMemory)
+pub no_memory_before : (version : Version) (before : Reader)
+    → Reads (λ old new. ReadsNamedImage version old new) before before (Err NoMemory)
 no_memory_before version before = record {
   bytes = λ told. record { read = Err rope.NoMemory; reads = refl; full = tt; gives = refl };
   failures = refl;
@@ -37,9 +41,12 @@ no_memory_before version before = record {
 }
 
 -- what a run that is noted tells, once program and feed were read
-pub tells_by : (origin : Origin) (steps : ℕ) (old new : Files) (before after : Telling) (code : NamedCode) (inputs : List Entry) (r : Result NamedCode WorkshopFault) (i : Result (List Entry) WorkshopFault)
-    (result : Result Summary WorkshopFault) → r ≡ Ok code → i ≡ Ok inputs → Reads (ReadsNamed origin) old.program new.program r → Reads ReadsInputs old.feed new.feed i
-    → TellsNoted (run_text (record { rope = code.rope; inputs = inputs })) steps before after result → TellsRead origin steps old new before after result
+pub tells_by : (origin : Origin) (steps : ℕ) (old new : Files) (before after : Telling) (code : NamedCode) (inputs : List Entry)
+    (r : Result NamedCode WorkshopFault) (i : Result (List Entry) WorkshopFault)
+    (result : Result Summary WorkshopFault) → r ≡ Ok code → i ≡ Ok inputs → Reads (ReadsNamed origin) old.program new.program r
+    → Reads ReadsInputs old.feed new.feed i
+    → TellsNoted (run_text (record { rope = code.rope; inputs = inputs })) steps before after result
+    → TellsRead origin steps old new before after result
 tells_by origin steps old new before after code inputs r i result e f reads more tells = record {
   code = Ok code;
   reads = subst (λ x. Reads (ReadsNamed origin) old.program new.program x) e reads;
@@ -47,8 +54,10 @@ tells_by origin steps old new before after code inputs r i result e f reads more
 }
 
 -- where the feed is refused
-pub tells_no_feed : (origin : Origin) (steps : ℕ) (old new : Files) (before after : Telling) (code : NamedCode) (fault : WorkshopFault) (r : Result NamedCode WorkshopFault) (i : Result (List Entry) WorkshopFault)
-    (result : Result Summary WorkshopFault) → r ≡ Ok code → i ≡ Err fault → Reads (ReadsNamed origin) old.program new.program r → Reads ReadsInputs old.feed new.feed i
+pub tells_no_feed : (origin : Origin) (steps : ℕ) (old new : Files) (before after : Telling) (code : NamedCode) (fault : WorkshopFault)
+    (r : Result NamedCode WorkshopFault) (i : Result (List Entry) WorkshopFault)
+    (result : Result Summary WorkshopFault) → r ≡ Ok code → i ≡ Err fault → Reads (ReadsNamed origin) old.program new.program r
+    → Reads ReadsInputs old.feed new.feed i
     → after.progress ≡ before.progress → TellsRead origin steps old new before after result
 tells_no_feed origin steps old new before after code fault r i result e f reads more same = record {
   code = Ok code;
@@ -57,8 +66,10 @@ tells_no_feed origin steps old new before after code fault r i result e f reads 
 }
 
 -- where the program is
-pub tells_no_code : (origin : Origin) (steps : ℕ) (old new : Files) (before after : Telling) (fault : WorkshopFault) (r : Result NamedCode WorkshopFault) (result : Result Summary WorkshopFault)
-    → r ≡ Err fault → Reads (ReadsNamed origin) old.program new.program r → after.progress ≡ before.progress → TellsRead origin steps old new before after result
+pub tells_no_code : (origin : Origin) (steps : ℕ) (old new : Files) (before after : Telling) (fault : WorkshopFault)
+    (r : Result NamedCode WorkshopFault) (result : Result Summary WorkshopFault)
+    → r ≡ Err fault → Reads (ReadsNamed origin) old.program new.program r → after.progress ≡ before.progress
+    → TellsRead origin steps old new before after result
 tells_no_code origin steps old new before after fault r result e reads same = record {
   code = Err fault;
   reads = subst (λ x. Reads (ReadsNamed origin) old.program new.program x) e reads;
@@ -66,8 +77,10 @@ tells_no_code origin steps old new before after fault r result e reads same = re
 }
 
 -- a run that is broken off as it writes, and one that is made
-pub tells_broken : (scenario : Scenario) (steps : ℕ) (before after : Telling) (why : WorkshopFault) → Makes scenario steps before.out after.out (Err why)
-    → TellsWritten {T = Summary} (run_text scenario) steps before after (Err why) → TellsNoted {T = Summary} (run_text scenario) steps before after (Err why)
+pub tells_broken : (scenario : Scenario) (steps : ℕ) (before after : Telling) (why : WorkshopFault)
+    → Makes scenario steps before.out after.out (Err why)
+    → TellsWritten {T = Summary} (run_text scenario) steps before after (Err why)
+    → TellsNoted {T = Summary} (run_text scenario) steps before after (Err why)
 tells_broken scenario steps before after fault.NoMemory m w = absurd m
 tells_broken scenario steps before after fault.ReadFailed m w = absurd m
 tells_broken scenario steps before after fault.WriteFailed m w = inl (record { made = w; failures = m.1 })
@@ -77,6 +90,7 @@ tells_broken scenario steps before after (fault.Rope _) m w = absurd m
 tells_broken scenario steps before after (fault.Table _) m w = absurd m
 tells_broken scenario steps before after fault.TooLong m w = absurd m
 
-pub tells_whole : (scenario : Scenario) (steps : ℕ) (before after : Telling) (summary : Summary) → Makes scenario steps before.out after.out (Ok summary) → TellsAll steps before.progress after.progress
+pub tells_whole : (scenario : Scenario) (steps : ℕ) (before after : Telling) (summary : Summary)
+    → Makes scenario steps before.out after.out (Ok summary) → TellsAll steps before.progress after.progress
     → TellsWhole (run_text scenario) steps before after
 tells_whole scenario steps before after summary m all = record { written = λ told. (m.0 told).written; failures = m.1; all = all }

@@ -36,23 +36,28 @@ tells_feed x y code (Ok is) e h = rw (e, h) refl
 tells_feed x y code (Err fault) e h = tells_on y (loaded x y) fault h (λ r. rw (e, r) refl)
 
 tells_then : (source feed : List ℕ) (code : Result Code WorkshopFault) (before after : Reader) (result : Result Loaded WorkshopFault)
-    → Tells (code_of (assembled Standard source)) code → before.left ≡ feed → before.told ≡ true → LoadsThen code before after result → Tells (prepared source feed) result
+    → Tells (code_of (assembled Standard source)) code → before.left ≡ feed → before.told ≡ true → LoadsThen code before after result
+    → Tells (prepared source feed) result
 unfolding prepared
 tells_then source feed (Ok code) before after result h e told n =
-    subst (λ (r : Result Loaded WorkshopFault). Tells (loaded (code_of (assembled Standard source)) (of_feed (inputs feed))) r) (sym n.gives)
+    subst (λ (r : Result Loaded WorkshopFault). Tells (loaded (code_of (assembled Standard source)) (of_feed (inputs feed))) r)
+    (sym n.gives)
     (tells_feed (code_of (assembled Standard source)) (of_feed (inputs feed)) code n.inputs h
     (subst (λ (text : List ℕ). Tells (of_feed (inputs text)) n.inputs) e (n.reads.bytes told).tells))
 tells_then source feed (Err fault) before after result h e told n =
     subst (λ (r : Result Loaded WorkshopFault). Tells (loaded (code_of (assembled Standard source)) (of_feed (inputs feed))) r) (sym n.0)
-    (tells_on (code_of (assembled Standard source)) (loaded (code_of (assembled Standard source)) (of_feed (inputs feed))) fault h (λ r. rw r refl))
+    (tells_on (code_of (assembled Standard source)) (loaded (code_of (assembled Standard source)) (of_feed (inputs feed))) fault h
+    (λ r. rw r refl))
 
 -- what was read of a source and a feed
 tells_prepared : (before after : Files) (result : Result Loaded WorkshopFault) → Loads (origin.Source Standard) before after result
     → before.program.told ≡ true → before.feed.told ≡ true → Tells (prepared before.program.left before.feed.left) result
-tells_prepared before after result h pt ft = tells_then before.program.left before.feed.left h.code before.feed after.feed result (h.reads.bytes pt).tells refl ft h.next
+tells_prepared before after result h pt ft = tells_then before.program.left before.feed.left h.code before.feed after.feed result
+    (h.reads.bytes pt).tells refl ft h.next
 
 -- no session was opened
-refused_after : (x : Result Loaded WorkshopFault) (l : Result Loaded WorkshopFault) (fault : WorkshopFault) → Tells x l → OpensThen l (Err fault) → Tells x (Err fault)
+refused_after : (x : Result Loaded WorkshopFault) (l : Result Loaded WorkshopFault) (fault : WorkshopFault) → Tells x l
+    → OpensThen l (Err fault) → Tells x (Err fault)
 refused_after x (Ok l) fault t n = subst (λ (e : WorkshopFault). Tells x (Err e)) (sym n) tt
 refused_after x (Err e) fault t n = let same : e ≡ fault = (let h = n in cc) in subst (λ (f : WorkshopFault). Tells x (Err f)) same t
 
@@ -73,14 +78,16 @@ pub of_opened : (before after : Files) (o : Opened) (P : Loaded → Type 0) → 
 of_opened before after o P h pt ft f =
     over_opened (prepared before.program.left before.feed.left) h.loaded o P (tells_prepared before after h.loaded h.loads pt ft) h.next f
 
-is_ok_of : (code : Code) (is : Result (List Entry) WorkshopFault) (l : Loaded) → Ok l ≡ loaded (Ok code) is → (entries : List Entry) × (is ≡ Ok entries)
+is_ok_of : (code : Code) (is : Result (List Entry) WorkshopFault) (l : Loaded) → Ok l ≡ loaded (Ok code) is
+    → (entries : List Entry) × (is ≡ Ok entries)
 is_ok_of code (Ok entries) l e = (entries, refl)
 is_ok_of code (Err fault) l e = let no : Ok l ≡ Err fault = e in cc
 
 takes_more : (n : ℕ) (old new : List ℕ) → TakesAtMost n old new → TakesAtMost (n + 1) old new
 takes_more n old new h = record { bytes = h.bytes; front = h.front; most = omega (arith, h.most) }
 
-no_memory_of : (before after : Reader) (is : Result (List Entry) WorkshopFault) → (entries : List Entry) × (is ≡ Ok entries) → Reads ReadsInputs before after is → Reads ReadsInputs before after (Err NoMemory)
+no_memory_of : (before after : Reader) (is : Result (List Entry) WorkshopFault) → (entries : List Entry) × (is ≡ Ok entries)
+    → Reads ReadsInputs before after is → Reads ReadsInputs before after (Err NoMemory)
 no_memory_of before after (Ok entries) ok reads = record {
   bytes = λ told. record { tells = tt; whole = tt; most = takes_more most_bytes before.left after.left (reads.bytes told).most };
   failures = reads.failures;
@@ -89,9 +96,17 @@ no_memory_of before after (Ok entries) ok reads = record {
 no_memory_of before after (Err fault) ok reads = let no : Err fault ≡ Ok ok.0 = ok.1 in cc
 
 -- a program and a feed were read, and memory ran out then
-no_memory_then : (code : Result Code WorkshopFault) (before after : Reader) (l : Loaded) → LoadsThen code before after (Ok l) → LoadsThen code before after (Err NoMemory)
-no_memory_then (Ok code) before after l n = record { inputs = Err NoMemory; reads = no_memory_of before after n.inputs (is_ok_of code n.inputs l n.gives) n.reads; gives = refl }
+no_memory_then : (code : Result Code WorkshopFault) (before after : Reader) (l : Loaded) → LoadsThen code before after (Ok l)
+    → LoadsThen code before after (Err NoMemory)
+no_memory_then (Ok code) before after l n = record
+    { inputs = Err NoMemory; reads = no_memory_of before after n.inputs (is_ok_of code n.inputs l n.gives) n.reads; gives = refl }
 no_memory_then (Err fault) before after l n = let no : Ok l ≡ Err fault = n.0 in cc
 
-pub no_memory_left : (from : Origin) (before after : Files) (l : Loaded) → Loads from before after (Ok l) → Loads from before after (Err NoMemory)
-no_memory_left from before after l h = record { code = h.code; reads = h.reads; next = no_memory_then h.code before.feed after.feed l h.next }
+pub no_memory_left : (from : Origin) (before after : Files) (l : Loaded) → Loads from before after (Ok l)
+    → Loads from before after (Err NoMemory)
+no_memory_left from before after l h = record {
+  code = h.code;
+  reads = h.reads;
+  next = no_memory_then h.code before.feed after.feed l
+      h.next;
+}

@@ -1,5 +1,6 @@
 -- The words of each operator are shown by its name and its operand.
-use Rattle.std.proofs.Common.{◌≡◌, ◌≤◌, ◌<◌, ◌+◌, ◌-◌, ◌*◌, ◌/◌, ◌%◌, ◌^◌, ℕ, List, [], ◌∷◌, ◌++◌, Bool, true, false, not, ◌&&◌, refl, arith, length, eqb, leb, ltb, ◌∙◌, ap, sym, subst, inl, inr, Ok, Err, Result}
+use Rattle.std.proofs.Common.{◌≡◌, ◌≤◌, ◌<◌, ◌+◌, ◌-◌, ◌*◌, ◌/◌, ◌%◌, ◌^◌, ℕ, List, [], ◌∷◌, ◌++◌, Bool, true, false, not, ◌&&◌, refl}
+use Rattle.std.proofs.Common.{arith, length, eqb, leb, ltb, ◌∙◌, ap, sym, subst, inl, inr, Ok, Err, Result}
 use Rattle.std.specs.Prelude.{codes}
 use Rattle.std.proofs.lemmas.Bool.{cases_Bool, cases_lt, and_parts, eqb-true, leb-true, ltb-true}
 use Rattle.std.proofs.lemmas.Bool.Decides.{nat_tests}
@@ -35,7 +36,8 @@ Holds Far size n f = ((0o2000 ≤ n) × (n < 0o10000)) × (f ≡ n)
 Holds Channel size n f = (n < size) × (f ≡ n)
 
 -- what leads on from a value has a value to lead on from
-pub then_ok : {A B : Type 0} (g : A → Result B FaultKind) (r : Result A FaultKind) (y : B) → and_then g r ≡ Ok y → (x : A) × ((r ≡ Ok x) × (g x ≡ Ok y))
+pub then_ok : {A B : Type 0} (g : A → Result B FaultKind) (r : Result A FaultKind) (y : B) → and_then g r ≡ Ok y
+    → (x : A) × ((r ≡ Ok x) × (g x ≡ Ok y))
 then_ok g (Ok x) y e = (x, (refl, e))
 then_ok g (Err kind) y e = absurd (cc)
 
@@ -117,9 +119,11 @@ abbrev pub suits : Bool → ℕ → ℕ → ℕ → Kind → Bool
 suits extracode k least size kind =
     let r = row_at extracode k in
     ltb k (length (table extracode)) && (leb r.least (least + field_from kind) && (leb (least + field_to kind size) (r.greatest + 1)
-    && (leb (field_to kind size) (2 ^ row_bits extracode k) && (eqb (least / 2 ^ row_bits extracode k * 2 ^ row_bits extracode k) least && ltb r.greatest (2 ^ 15)))))
+    && (leb (field_to kind size) (2 ^ row_bits extracode k)
+    && (eqb (least / 2 ^ row_bits extracode k * 2 ^ row_bits extracode k) least && ltb r.greatest (2 ^ 15)))))
 
-pub if_suits : (extracode : Bool) (k least size : ℕ) (kind : Kind) → suits extracode k least size kind ≡ true → Suits extracode k least size kind
+pub if_suits : (extracode : Bool) (k least size : ℕ) (kind : Kind) → suits extracode k least size kind ≡ true
+    → Suits extracode k least size kind
 if_suits extracode k least size kind e =
     let a = and_parts _ _ e in
     let b = and_parts _ _ a.1 in
@@ -140,11 +144,14 @@ first_of_next : (size n : ℕ) → n < size → first_of (size - 1) ((n + 1) % s
 first_of_next size n lt =
     elim (cases_lt (n + 1) size) [
       | inl less ↦ (let same : (n + 1) % size ≡ n + 1 = mod-eq_of_lt less in rw same (grind (arith, nat_tests)))
-      | inr last ↦ (let all : n + 1 ≡ size = omega arith in let none : (n + 1) % size ≡ 0 = ap (λ (a : ℕ). a % size) all ∙ mod_self size in rw none (omega arith))
+      | inr last ↦ (let all : n + 1 ≡ size = omega arith in let none : (n + 1) % size
+          ≡ 0 = ap (λ (a : ℕ). a % size) all
+          ∙ mod_self size in rw none (omega arith))
     ]
 
 -- the fields of a code are shown as the row has it
-field_text : (name : List ℕ) (extracode : Bool) (k least size f : ℕ) (kind : Kind) → Suits extracode k least size kind → field_from kind ≤ f → f < field_to kind size
+field_text : (name : List ℕ) (extracode : Bool) (k least size f : ℕ) (kind : Kind) → Suits extracode k least size kind → field_from kind ≤ f
+    → f < field_to kind size
     → ((m : ℕ) → row_text extracode k m ≡ name ++ codes " " ++ shown_field kind size m)
     → disassembly extracode (least + f) ≡ name ++ codes " " ++ shown_field kind size f
 field_text name extracode k least size f kind s from to texts =
@@ -158,14 +165,17 @@ number_text : (name : List ℕ) (extracode : Bool) (k least size n f : ℕ) (kin
     → ((m : ℕ) → row_text extracode k m ≡ name ++ codes " " ++ shown_field kind size m)
     → Holds kind size n f → disassembly extracode (least + f) ≡ name ++ codes " " ++ octal_text (digits kind) n
 number_text name extracode k least size n f Number s texts (lt, is) =
-    field_text name extracode k least size f Number s (omega arith) (omega arith) texts ∙ ap (λ (m : ℕ). name ++ codes " " ++ octal_text 4 m) is
+    field_text name extracode k least size f Number s (omega arith) (omega arith) texts
+    ∙ ap (λ (m : ℕ). name ++ codes " " ++ octal_text 4 m) is
 number_text name extracode k least size n f Pair s texts (lt, is) =
     field_text name extracode k least size f Pair s (omega arith) (omega arith) texts
     ∙ ap (λ (m : ℕ). name ++ codes " " ++ octal_text 4 m) (ap (first_of (size - 1)) is ∙ first_of_next size n lt)
 number_text name extracode k least size n f Far s texts (within, is) =
-    field_text name extracode k least size f Far s (omega arith) (omega arith) texts ∙ ap (λ (m : ℕ). name ++ codes " " ++ octal_text 4 m) is
+    field_text name extracode k least size f Far s (omega arith) (omega arith) texts
+    ∙ ap (λ (m : ℕ). name ++ codes " " ++ octal_text 4 m) is
 number_text name extracode k least size n f Channel s texts (lt, is) =
-    field_text name extracode k least size f Channel s (omega arith) (omega arith) texts ∙ ap (λ (m : ℕ). name ++ codes " " ++ octal_text 3 m) is
+    field_text name extracode k least size f Channel s (omega arith) (omega arith) texts
+    ∙ ap (λ (m : ℕ). name ++ codes " " ++ octal_text 3 m) is
 
 -- a code gives a word of a number: its least word and a field
 abbrev pub Gives : Kind → ℕ → ℕ → ℕ → ℕ → Type 0
@@ -194,7 +204,8 @@ numbered_basic name k least size kind s texts = record {
   with_number = λ extracode n word given own. at extracode n word given;
 }
   where
-    at : (extracode : Bool) (n word : ℕ) → (basic_stands extracode ≡ true) × Gives kind least size n word → disassembly extracode word ≡ name ++ codes " " ++ octal_text (digits kind) n
+    at : (extracode : Bool) (n word : ℕ) → (basic_stands extracode ≡ true) × Gives kind least size n word
+        → disassembly extracode word ≡ name ++ codes " " ++ octal_text (digits kind) n
     at false n word given = given_text name false k least size n word kind (if_suits false k least size kind s) texts given.1
     at true n word given = absurd (let no = given.0 in cc)
 
@@ -206,7 +217,8 @@ numbered_extra name k least size kind s texts = record {
   with_number = λ extracode n word given own. at extracode n word given;
 }
   where
-    at : (extracode : Bool) (n word : ℕ) → (extra_stands extracode ≡ true) × Gives kind least size n word → disassembly extracode word ≡ name ++ codes " " ++ octal_text (digits kind) n
+    at : (extracode : Bool) (n word : ℕ) → (extra_stands extracode ≡ true) × Gives kind least size n word
+        → disassembly extracode word ≡ name ++ codes " " ++ octal_text (digits kind) n
     at true n word given = given_text name true k least size n word kind (if_suits true k least size kind s) texts given.1
     at false n word given = absurd (let no = given.0 in cc)
 
@@ -240,7 +252,8 @@ pub no_own : (own word : ℕ) → is_own false own ≡ true → is_own false wor
 no_own own word yes' no' e = absurd (let same : is_own false word ≡ is_own false own = ap (is_own false) e in cc)
 
 -- TC stands in three rows, between words with names of their own
-pub tc_text : (n word : ℕ) → n < 0o10000 → word ≡ n → is_own false word ≡ false → disassembly false word ≡ codes "TC" ++ codes " " ++ octal_text 4 n
+pub tc_text : (n word : ℕ) → n < 0o10000 → word ≡ n → is_own false word ≡ false
+    → disassembly false word ≡ codes "TC" ++ codes " " ++ octal_text 4 n
 unfolding basic_rows instruction_text
 tc_text n word lt is own =
     let relint = no_own 3 word refl own in
@@ -249,19 +262,22 @@ tc_text n word lt is own =
     elim (cases_lt word 3) [
       | inl less ↦ shown_by_row false 0 word n (omega arith) (omega arith) (omega arith) (omega arith) (omega arith)
       | inr more ↦ elim (cases_lt word 7) [
-        | inl less ↦ (let five : word ≡ 5 = omega (arith, relint, inhint, extend) in shown_by_row false 3 word n (omega arith) (omega arith) (omega arith) (omega arith) (omega arith))
+        | inl less ↦ (let five : word ≡ 5 = omega (arith, relint, inhint, extend) in shown_by_row false 3 word n (omega arith) (omega arith)
+            (omega arith) (omega arith) (omega arith))
         | inr last ↦ shown_by_row false 5 word n (omega arith) (omega arith) (omega arith) (omega arith) (omega arith)
       ]
     ]
 
 -- INDEX in two, around RESUME
-pub index_text : (n word : ℕ) → n < 0o2000 → word ≡ 0o50000 + n → is_own false word ≡ false → disassembly false word ≡ codes "INDEX" ++ codes " " ++ octal_text 4 n
+pub index_text : (n word : ℕ) → n < 0o2000 → word ≡ 0o50000 + n → is_own false word ≡ false
+    → disassembly false word ≡ codes "INDEX" ++ codes " " ++ octal_text 4 n
 unfolding basic_rows instruction_text
 index_text n word lt is own =
     let resume = no_own 0o50017 word refl own in
     elim (cases_lt word 0o50017) [
       | inl less ↦ shown_by_row false 14 word n (omega arith) (omega arith) (omega arith) (omega arith) (omega arith)
-      | inr more ↦ (let above : 0o50020 ≤ word = omega (arith, resume) in shown_by_row false 16 word n (omega arith) (omega arith) (omega arith) (omega arith) (omega arith))
+      | inr more ↦ (let above : 0o50020 ≤ word = omega (arith, resume) in shown_by_row false 16 word n (omega arith) (omega arith)
+          (omega arith) (omega arith) (omega arith))
     ]
 
 pub number_ok : (least size n word : ℕ) → Gives Number least size n word → (n < size) × (word ≡ least + n)
@@ -279,7 +295,8 @@ tc = record { alone = λ extracode word no. absurd no; with_number = at }
     at false n word given own = let h = number_ok 0 0o10000 n word given.1 in tc_text n word h.0 (omega arith) own
     at true n word given own = absurd (let no = given.0 in cc)
 
-index_basic : (n word : ℕ) → Gives Number 0o50000 0o2000 n word → is_own false word ≡ false → disassembly false word ≡ codes "INDEX" ++ codes " " ++ octal_text 4 n
+index_basic : (n word : ℕ) → Gives Number 0o50000 0o2000 n word → is_own false word ≡ false
+    → disassembly false word ≡ codes "INDEX" ++ codes " " ++ octal_text 4 n
 index_basic n word given own = let h = number_ok 0o50000 0o2000 n word given in index_text n word h.0 h.1 own
 
 index_extra : (n word : ℕ) → Gives Number 0o50000 0o10000 n word → disassembly true word ≡ codes "INDEX" ++ codes " " ++ octal_text 4 n

@@ -13,9 +13,12 @@ use Rattle.workshop.specs.Failures.{Reader}
 use Rattle.workshop.specs.Loading.{Reads, ReadsInputs}
 use Rattle.workshop.specs.Runs.{Running}
 
-pub covers_by : (notation : Notation) (origin : Origin) (steps : ℕ) (before after : Running) (subject : Subject) (inputs : List Entry) (r : Result Subject WorkshopFault) (i : Result (List Entry) WorkshopFault)
-    (result : Result (Unit {0}) WorkshopFault) → r ≡ Ok subject → i ≡ Ok inputs → Reads (ReadsSubject notation origin) before.files.program after.files.program r
-    → Reads ReadsInputs before.files.feed after.files.feed i → CoversRun notation subject.1 (record { rope = subject.0; inputs = inputs }) steps before.out after.out result
+pub covers_by : (notation : Notation) (origin : Origin) (steps : ℕ) (before after : Running) (subject : Subject) (inputs : List Entry)
+    (r : Result Subject WorkshopFault) (i : Result (List Entry) WorkshopFault)
+    (result : Result (Unit {0}) WorkshopFault) → r ≡ Ok subject → i ≡ Ok inputs
+    → Reads (ReadsSubject notation origin) before.files.program after.files.program r
+    → Reads ReadsInputs before.files.feed after.files.feed i
+    → CoversRun notation subject.1 (record { rope = subject.0; inputs = inputs }) steps before.out after.out result
     → Covers notation origin steps before after result
 covers_by notation origin steps before after subject inputs r i result e f reads more run = record {
   subject = Ok subject;
@@ -24,7 +27,8 @@ covers_by notation origin steps before after subject inputs r i result e f reads
 }
 
 -- nothing of an image was read, and memory ran out
-pub no_memory_before : (version : Version) (names : Option SymbolTable) (before : Reader) → Reads {T = Subject} (λ old new. ReadsImaged version names old new) before before (Err NoMemory)
+pub no_memory_before : (version : Version) (names : Option SymbolTable) (before : Reader)
+    → Reads {T = Subject} (λ old new. ReadsImaged version names old new) before before (Err NoMemory)
 no_memory_before version names before = record {
   bytes = λ told. record { read = Err rope.NoMemory; reads = refl; full = tt; gives = refl };
   failures = refl;

@@ -11,9 +11,12 @@ use Rattle.workshop.specs.Loading.{Reads, ReadsInputs}
 use Rattle.workshop.specs.RunReaches.{AreExecuted, Finds, FindsRun}
 use Rattle.workshop.specs.Runs.{Running}
 
-pub finds_by : (origin : Origin) (steps : ℕ) (before after : Running) (subject : Subject) (inputs : List Entry) (r : Result Subject WorkshopFault) (i : Result (List Entry) WorkshopFault)
-    (result : Result (Unit {0}) WorkshopFault) → r ≡ Ok subject → i ≡ Ok inputs → Reads (ReadsSubject Text origin) before.files.program after.files.program r
-    → Reads ReadsInputs before.files.feed after.files.feed i → FindsRun subject.1 (record { rope = subject.0; inputs = inputs }) steps before.out after.out result
+pub finds_by : (origin : Origin) (steps : ℕ) (before after : Running) (subject : Subject) (inputs : List Entry)
+    (r : Result Subject WorkshopFault) (i : Result (List Entry) WorkshopFault)
+    (result : Result (Unit {0}) WorkshopFault) → r ≡ Ok subject → i ≡ Ok inputs
+    → Reads (ReadsSubject Text origin) before.files.program after.files.program r
+    → Reads ReadsInputs before.files.feed after.files.feed i
+    → FindsRun subject.1 (record { rope = subject.0; inputs = inputs }) steps before.out after.out result
     → Finds origin steps before after result
 finds_by origin steps before after subject inputs r i result e f reads more run = record {
   subject = Ok subject;

@@ -33,7 +33,8 @@ AssemblesTo words symbols (Ok p) = (p.rope ≡ words) × (p.symbols ≡ symbols)
 AssemblesTo words symbols (Err fault) = ⊥
 
 five_source : AssemblesTo (rope five_words) ((codes "FIVE", Fixed 2 5) ∷ [])
-    (program Standard (ended (codes " SETLOC 4000" ∷ codes " CA FIVE" ∷ codes " AD FIVE" ∷ codes " EXTEND" ∷ codes " WRITE 10" ∷ codes " TCF 4000" ∷ codes "FIVE OCT 5" ∷ [])))
+    (program Standard (ended (codes " SETLOC 4000" ∷ codes " CA FIVE" ∷ codes " AD FIVE" ∷ codes " EXTEND" ∷ codes " WRITE 10"
+    ∷ codes " TCF 4000" ∷ codes "FIVE OCT 5" ∷ [])))
 unfolding program runs operators statement_of line_effect request_words request_faults lines window fb_of rope
 five_source = (refl, refl)
 
@@ -42,5 +43,6 @@ unfolding program runs operators statement_of line_effect request_words request_
 loop_source = (refl, refl)
 
 clock_feed : inputs (ended (codes "EVERY 3 5 2 4 TIME1 PINC" ∷ codes "5 CHAN 015 00021" ∷ [])) ≡ Ok (clock [])
-unfolding inputs first_fault plain_from series_from merged in_order inserted is_before entries_from entries_of feed_statement_of runs lines counters sequences
+unfolding inputs first_fault plain_from series_from merged in_order inserted is_before entries_from entries_of feed_statement_of runs lines
+    counters sequences
 clock_feed = refl

@@ -26,7 +26,8 @@ AddsUpIn (One c) scenario steps = Unit {0}
 -- all steps are made, what they read and write is counted, and the counts are written
 abbrev pub Counted : View → SymbolTable → Scenario → ℕ → Writer → Writer → Result Bool WorkshopFault → Type 0
 Counted view symbols scenario steps before after result =
-    WritesText (access_text view symbols scenario steps) before after result × IfOk result (λ found. found ≡ true) × AddsUpIn view scenario steps
+    WritesText (access_text view symbols scenario steps) before after result × IfOk result (λ found. found ≡ true)
+    × AddsUpIn view scenario steps
 
 -- the cell that is asked for is none, and nothing is written
 abbrev pub CountedBy : Option View → SymbolTable → Scenario → ℕ → Writer → Writer → Result Bool WorkshopFault → Type 0
@@ -44,7 +45,8 @@ CountsThen place steps (Ok l) before after result = CountsRun place l.symbols (s
 CountsThen place steps (Err fault) before after result = (result ≡ Err fault) × (after ≡ before)
 
 -- a program and a feed are read, and what was read decides what is written
-pub record CountsAccesses (place : Option (List ℕ)) (from : Origin) (steps : ℕ) (before after : Running) (result : Result Bool WorkshopFault) : Type 0 where
+pub record CountsAccesses (place : Option (List ℕ)) (from : Origin) (steps : ℕ) (before after : Running)
+    (result : Result Bool WorkshopFault) : Type 0 where
   pub loaded : Result Loaded WorkshopFault
   pub loads : Loads from before.files after.files loaded
   pub next : CountsThen place steps loaded before.out after.out result

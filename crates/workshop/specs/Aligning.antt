@@ -23,36 +23,42 @@ abbrev pub least_run : ℕ
 least_run = 12
 
 -- a text of an alignment of two ropes is written, and of how addresses are renamed in it
-pub record WritesAligned (text : Words → Words → Renaming → Pairing → List ℕ) (old new : Words) (before after : Writer) (result : Result (Unit {0}) WorkshopFault) : Type 0 where
+pub record WritesAligned (text : Words → Words → Renaming → Pairing → List ℕ) (old new : Words) (before after : Writer)
+    (result : Result (Unit {0}) WorkshopFault) : Type 0 where
   pub renaming : Renaming
   pub pairing : Pairing
   pub aligned : IsAlignment least_run old new renaming pairing
   pub written : WritesText (text old new renaming pairing) before after result
 
 -- that is so, or memory ran out, and nothing is written
-abbrev pub TellsAligned : (Words → Words → Renaming → Pairing → List ℕ) → Words → Words → Writer → Writer → Result (Unit {0}) WorkshopFault → Type 0
+abbrev pub TellsAligned : (Words → Words → Renaming → Pairing → List ℕ) → Words → Words → Writer → Writer → Result (Unit {0}) WorkshopFault
+    → Type 0
 TellsAligned text old new before after (Err NoMemory) = after ≡ before
 TellsAligned text old new before after result = WritesAligned text old new before after result
 
 -- where the second image was read too, and after a fault nothing
-abbrev pub AlignsNext : (Words → Words → Renaming → Pairing → List ℕ) → Words → Result Words RopeFault → Writer → Writer → Result (Unit {0}) WorkshopFault → Type 0
+abbrev pub AlignsNext : (Words → Words → Renaming → Pairing → List ℕ) → Words → Result Words RopeFault → Writer → Writer
+    → Result (Unit {0}) WorkshopFault → Type 0
 AlignsNext text old (Ok new) before after result = TellsAligned text old new before after result
 AlignsNext text old (Err fault) before after result = (result ≡ Err (of_rope_fault fault)) × (after ≡ before)
 
 -- where the words of the first are there an image is read, and after a fault nothing of it, and nothing is written
-pub record AlignsWith (text : Words → Words → Renaming → Pairing → List ℕ) (version : Version) (old : Words) (before after : Comparing) (result : Result (Unit {0}) WorkshopFault) : Type 0 where
+pub record AlignsWith (text : Words → Words → Renaming → Pairing → List ℕ) (version : Version) (old : Words) (before after : Comparing)
+    (result : Result (Unit {0}) WorkshopFault) : Type 0 where
   pub read : Result Words RopeFault
   pub reads : ReadsRope version before.new after.new read
   pub next : AlignsNext text old read before.out after.out result
 
-abbrev pub AlignsThen : (Words → Words → Renaming → Pairing → List ℕ) → Version → Result Words RopeFault → Comparing → Comparing → Compared → Result (Unit {0}) WorkshopFault → Type 0
+abbrev pub AlignsThen : (Words → Words → Renaming → Pairing → List ℕ) → Version → Result Words RopeFault → Comparing → Comparing → Compared
+    → Result (Unit {0}) WorkshopFault → Type 0
 AlignsThen text version (Ok words) before after last result = AlignsWith text version words before after result × (last ≡ compared.New)
 AlignsThen text version (Err fault) before after last result =
     (result ≡ Err (of_rope_fault fault)) × (after.new ≡ before.new) × (after.out ≡ before.out) × (last ≡ compared.Old)
 
--- the first image is read, and then the second, and a text of their alignment is written; and which was read last, of which a fault of an image
--- is
-pub record Aligns (text : Words → Words → Renaming → Pairing → List ℕ) (first second : Version) (before after : Comparing) (last : Compared) (result : Result (Unit {0}) WorkshopFault) : Type 0 where
+-- the first image is read, and then the second, and a text of their alignment is written; and which was read last, of which a fault of an
+-- image is
+pub record Aligns (text : Words → Words → Renaming → Pairing → List ℕ) (first second : Version) (before after : Comparing) (last : Compared)
+    (result : Result (Unit {0}) WorkshopFault) : Type 0 where
   pub read : Result Words RopeFault
   pub reads : ReadsRope first before.old after.old read
   pub next : AlignsThen text second read before after last result
@@ -64,7 +70,8 @@ FindsThen version (Err fault) before after last result =
     (result ≡ Err fault) × (after.new ≡ before.new) × (after.out ≡ before.out) × (last ≡ compared.Old)
 
 -- a source of a language is assembled, and then an image is read: where its words stand there is written; and which was read last
-pub record Finds (language : Language) (version : Version) (before after : Comparing) (last : Compared) (result : Result (Unit {0}) WorkshopFault) : Type 0 where
+pub record Finds (language : Language) (version : Version) (before after : Comparing) (last : Compared)
+    (result : Result (Unit {0}) WorkshopFault) : Type 0 where
   pub program : Result Program WorkshopFault
   pub reads : Reads (λ old new. ReadsText (assembled language old) old new) before.old after.old program
   pub next : FindsThen version program before after last result

@@ -27,7 +27,8 @@ ListsThen p (Ok x) before after result = WritesText (listing p) before after res
 ListsThen p (Err fault) before after result = (result ≡ Err fault) × (after ≡ before)
 
 -- the image of some words is written, and then the listing of a program
-pub record WritesProgram (version : Version) (words : Words) (p : Program) (before after : Assembling) (result : Result (Unit {0}) WorkshopFault) : Type 0 where
+pub record WritesProgram (version : Version) (words : Words) (p : Program) (before after : Assembling)
+    (result : Result (Unit {0}) WorkshopFault) : Type 0 where
   pub imaged : Result (Unit {0}) WorkshopFault
   pub writes : WritesText (image version words) before.image after.image imaged
   pub next : ListsThen p imaged before.listing after.listing result
@@ -35,10 +36,12 @@ pub record WritesProgram (version : Version) (words : Words) (p : Program) (befo
 -- where a source was assembled its program is written, and after a fault nothing
 abbrev pub AssemblesThen : Version → Result Program WorkshopFault → Assembling → Assembling → Result (Unit {0}) WorkshopFault → Type 0
 AssemblesThen version (Ok p) before after result = WritesProgram version p.rope p before after result
-AssemblesThen version (Err fault) before after result = (result ≡ Err fault) × (after.image ≡ before.image) × (after.listing ≡ before.listing)
+AssemblesThen version (Err fault) before after result = (result ≡ Err fault) × (after.image ≡ before.image)
+    × (after.listing ≡ before.listing)
 
 -- a source of a language is read, and what was read decides what is written
-pub record Assembles (language : Language) (version : Version) (before after : Assembling) (result : Result (Unit {0}) WorkshopFault) : Type 0 where
+pub record Assembles (language : Language) (version : Version) (before after : Assembling) (result : Result (Unit {0}) WorkshopFault) : Type
+    0 where
   pub program : Result Program WorkshopFault
   pub reads : Reads (λ old new. ReadsText (assembled language old) old new) before.source after.source program
   pub next : AssemblesThen version program before after result
@@ -60,11 +63,12 @@ without_bank (Ok x) = Ok None
 without_bank (Err fault) = Err fault
 
 -- the image of a program with check words is written, and then its listing
-pub record WritesChecked (version : Version) (p : Program) (before after : Assembling) (result : Result (Option ℕ) WorkshopFault) : Type 0 where
-  pub room : HaveRoom p.rope banks
-  pub written : Result (Unit {0}) WorkshopFault
-  pub writes : WritesProgram version (with_checks p.rope banks) p before after written
-  pub told : result ≡ without_bank written
+pub record WritesChecked (version : Version) (p : Program) (before after : Assembling) (result : Result (Option ℕ) WorkshopFault) : Type 0
+  where
+    pub room : HaveRoom p.rope banks
+    pub written : Result (Unit {0}) WorkshopFault
+    pub writes : WritesProgram version (with_checks p.rope banks) p before after written
+    pub told : result ≡ without_bank written
 
 -- memory for the check words is refused, and nothing is written
 abbrev pub HasNoMemory : Assembling → Assembling → Result (Option ℕ) WorkshopFault → Type 0
@@ -72,15 +76,18 @@ HasNoMemory before after result = (result ≡ Err NoMemory) × WritesNothing bef
 
 -- where a source was assembled its program is written with check words, and after a fault nothing
 abbrev pub ChecksThen : Version → Result Program WorkshopFault → Assembling → Assembling → Result (Option ℕ) WorkshopFault → Type 0
-ChecksThen version (Ok p) before after result = HasNoMemory before after result ⊎ (TellsFull p before after result ⊎ WritesChecked version p before after result)
+ChecksThen version (Ok p) before after result = HasNoMemory before after result ⊎
+    (TellsFull p before after result ⊎ WritesChecked version p before after result)
 ChecksThen version (Err fault) before after result = (result ≡ Err fault) × WritesNothing before after
 
 -- a source is read, and what was read decides what is written
-pub record AssemblesChecked (language : Language) (version : Version) (before after : Assembling) (result : Result (Option ℕ) WorkshopFault) : Type 0 where
+pub record AssemblesChecked (language : Language) (version : Version) (before after : Assembling) (result : Result (Option ℕ) WorkshopFault)
+    : Type 0 where
   pub program : Result Program WorkshopFault
   pub reads : Reads (λ old new. ReadsText (assembled language old) old new) before.source after.source program
   pub next : ChecksThen version program before after result
 
 -- the line of text that tells a bank without room
 abbrev pub no_room_text : ℕ → List ℕ
-no_room_text bank = codes "agcws: bank " ++ octal_text 2 bank ++ codes " has no room for check words: they take 3 places after its last word\n"
+no_room_text bank = codes "agcws: bank " ++ octal_text 2 bank
+    ++ codes " has no room for check words: they take 3 places after its last word\n"

@@ -21,11 +21,13 @@ tally language unused source = record { errors = length (told language source); 
 -- the faults and the warnings of a source of a language and of this name in a notation; and how many there are
 abbrev pub reported : Notation → Language → List ℕ → Bool → List ℕ → Result (List ℕ × Tally) WorkshopFault
 reported notation language name unused source =
-    if nat_lt most_bytes (length source) then Err TooLong else Ok (report notation language name source (told language source) (warnings language unused source), tally language unused source)
+    if nat_lt most_bytes (length source) then Err TooLong else Ok
+    (report notation language name source (told language source) (warnings language unused source), tally language unused source)
 
 -- the fault of a feed of this name in a notation, where it has one; and how many are told
 abbrev pub feed_reported : Notation → List ℕ → List ℕ → Result (List ℕ × ℕ) WorkshopFault
-feed_reported notation name feed = if nat_lt most_bytes (length feed) then Err TooLong else Ok (feed_report notation name feed, feed_faults feed)
+feed_reported notation name feed = if nat_lt most_bytes (length feed) then Err TooLong else Ok
+    (feed_report notation name feed, feed_faults feed)
 
 -- what an engine has that tells faults
 pub record Checking : Type 0 where
@@ -38,7 +40,8 @@ ChecksThen (Ok r) before after result = WritesText r.0 before after result × If
 ChecksThen (Err fault) before after result = (result ≡ Err fault) × (after ≡ before)
 
 -- an input is read, and what was read decides what is written
-pub record Checks {T : Type 0} (gives : List ℕ → Result (List ℕ × T) WorkshopFault) (before after : Checking) (result : Result T WorkshopFault) : Type 0 where
+pub record Checks {T : Type 0} (gives : List ℕ → Result (List ℕ × T) WorkshopFault) (before after : Checking)
+    (result : Result T WorkshopFault) : Type 0 where
   pub told_of : Result (List ℕ × T) WorkshopFault
   pub reads : Reads (λ old new. ReadsText (gives old) old new) before.input after.input told_of
   pub next : ChecksThen told_of before.out after.out result

@@ -44,11 +44,12 @@ imaged_subject names (Ok words) = Ok (words, shown.Image names)
 imaged_subject names (Err fault) = Err (of_rope_fault fault)
 
 -- an image is read, with a word at every place, for whose places some names may stand
-pub record ReadsImaged (version : Version) (names : Option SymbolTable) (old new : List ℕ) (result : Result Subject WorkshopFault) : Type 0 where
-  pub read : Result Words RopeFault
-  pub reads : ReadsImage version old new read
-  pub full : IfOk read IsFull
-  pub gives : result ≡ imaged_subject names read
+pub record ReadsImaged (version : Version) (names : Option SymbolTable) (old new : List ℕ) (result : Result Subject WorkshopFault) : Type 0
+  where
+    pub read : Result Words RopeFault
+    pub reads : ReadsImage version old new read
+    pub full : IfOk read IsFull
+    pub gives : result ≡ imaged_subject names read
 
 -- what is covered is read, from where its words come
 abbrev pub ReadsSubject : Notation → Origin → List ℕ → List ℕ → Result Subject WorkshopFault → Type 0
@@ -64,11 +65,14 @@ CoversRun notation lines scenario steps before after result =
     ⊎ (WritesText (cover_text notation lines scenario steps) before after result × AllAddUp scenario steps × ShownAddUp scenario steps)
 
 -- where the feed was read the run is covered, and after a fault nothing is written
-abbrev pub CoversThen : Notation → Subject → ℕ → Result (List Entry) WorkshopFault → Writer → Writer → Result (Unit {0}) WorkshopFault → Type 0
-CoversThen notation subject steps (Ok inputs) before after result = CoversRun notation subject.1 (record { rope = subject.0; inputs = inputs }) steps before after result
+abbrev pub CoversThen : Notation → Subject → ℕ → Result (List Entry) WorkshopFault → Writer → Writer → Result (Unit {0}) WorkshopFault
+    → Type 0
+CoversThen notation subject steps (Ok inputs) before after result = CoversRun notation subject.1
+    (record { rope = subject.0; inputs = inputs }) steps before after result
 CoversThen notation subject steps (Err fault) before after result = (result ≡ Err fault) × (after ≡ before)
 
-pub record CoversNext (notation : Notation) (subject : Subject) (steps : ℕ) (before after : Running) (result : Result (Unit {0}) WorkshopFault) : Type 0 where
+pub record CoversNext (notation : Notation) (subject : Subject) (steps : ℕ) (before after : Running)
+    (result : Result (Unit {0}) WorkshopFault) : Type 0 where
   pub inputs : Result (List Entry) WorkshopFault
   pub reads : Reads ReadsInputs before.files.feed after.files.feed inputs
   pub next : CoversThen notation subject steps inputs before.out after.out result
@@ -76,10 +80,12 @@ pub record CoversNext (notation : Notation) (subject : Subject) (steps : ℕ) (b
 -- where the program was read the feed is, and after a fault nothing of it
 abbrev pub CoversProgram : Notation → Result Subject WorkshopFault → ℕ → Running → Running → Result (Unit {0}) WorkshopFault → Type 0
 CoversProgram notation (Ok subject) steps before after result = CoversNext notation subject steps before after result
-CoversProgram notation (Err fault) steps before after result = (result ≡ Err fault) × (after.files.feed ≡ before.files.feed) × (after.out ≡ before.out)
+CoversProgram notation (Err fault) steps before after result = (result ≡ Err fault) × (after.files.feed ≡ before.files.feed)
+    × (after.out ≡ before.out)
 
 -- a program and a feed are read, and what was read decides what is written
-pub record Covers (notation : Notation) (from : Origin) (steps : ℕ) (before after : Running) (result : Result (Unit {0}) WorkshopFault) : Type 0 where
+pub record Covers (notation : Notation) (from : Origin) (steps : ℕ) (before after : Running) (result : Result (Unit {0}) WorkshopFault) :
+    Type 0 where
   pub subject : Result Subject WorkshopFault
   pub reads : Reads (ReadsSubject notation from) before.files.program after.files.program subject
   pub next : CoversProgram notation subject steps before after result

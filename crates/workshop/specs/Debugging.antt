@@ -66,7 +66,8 @@ pub record AnswersCommands (o : Opened) (before after : Debugging) (result : Res
   pub ended : Result (Unit {0}) DebugFault
   pub gives : result ≡ of_debugging ended
   pub replies : before.commands.told ≡ true → before.out.told ≡ true →
-      Debugs (setting_of o) (record { before = before.commands.left; left = after.commands.left }) before.out.written after.out.written ended
+      Debugs (setting_of o) (record { before = before.commands.left; left = after.commands.left }) before.out.written after.out.written
+      ended
   pub reader : after.commands.failures ≡ failures_if (has_read_failed result) before.commands.failures
   pub writer : after.out.failures ≡ failures_if (has_write_failed result) before.out.failures
   pub read : before.commands.told ≡ true → TakesAtMost most_command_bytes before.commands.left after.commands.left
@@ -89,22 +90,34 @@ source_of (Err fault) = no_source
 
 -- what an extended session that was opened is over
 abbrev pub talk_of : Program.Source → Opened → Talk
-talk_of source o = record { may_refuse = false; symbols = o.symbols; source = source; read = extended_line o.symbols; most = most_extended_bytes; scenario = o.session.scenario }
+talk_of source o = record {
+  may_refuse = false;
+  symbols = o.symbols;
+  source = source;
+  read = extended_line o.symbols;
+  most
+      = most_extended_bytes;
+  scenario = o.session.scenario;
+}
 
 -- the lines of an extended session are answered over a session that was opened, as commands are
-pub record AnswersExtended (source : Program.Source) (o : Opened) (before after : Debugging) (result : Result (Unit {0}) WorkshopFault) : Type 0 where
+pub record AnswersExtended (source : Program.Source) (o : Opened) (before after : Debugging) (result : Result (Unit {0}) WorkshopFault) :
+    Type 0 where
   pub ended : Result (Unit {0}) DebugFault
   pub gives : result ≡ of_debugging ended
   pub replies : before.commands.told ≡ true → before.out.told ≡ true →
-      Talks (talk_of source o) (record { before = before.commands.left; left = after.commands.left }) before.out.written after.out.written ended
+      Talks (talk_of source o) (record { before = before.commands.left; left = after.commands.left }) before.out.written after.out.written
+      ended
   pub reader : after.commands.failures ≡ failures_if (has_read_failed result) before.commands.failures
   pub writer : after.out.failures ≡ failures_if (has_write_failed result) before.out.failures
   pub read : before.commands.told ≡ true → TakesAtMost most_extended_bytes before.commands.left after.commands.left
 
 -- where a session was opened its lines are answered, and after a fault none is read and nothing written
-abbrev pub DebugsExtendedThen : Program.Source → Result Opened WorkshopFault → Debugging → Debugging → Result (Unit {0}) WorkshopFault → Type 0
+abbrev pub DebugsExtendedThen : Program.Source → Result Opened WorkshopFault → Debugging → Debugging → Result (Unit {0}) WorkshopFault
+    → Type 0
 DebugsExtendedThen source (Ok o) before after result = AnswersExtended source o before after result
-DebugsExtendedThen source (Err fault) before after result = (result ≡ Err fault) × (after.commands ≡ before.commands) × (after.out ≡ before.out)
+DebugsExtendedThen source (Err fault) before after result = (result ≡ Err fault) × (after.commands ≡ before.commands)
+    × (after.out ≡ before.out)
 
 -- a session is opened, and what was opened decides what is debugged, with the source that was read
 pub record DebugsExtended (from : Origin) (before after : Debugging) (result : Result (Unit {0}) WorkshopFault) : Type 0 where
@@ -114,7 +127,8 @@ pub record DebugsExtended (from : Origin) (before after : Debugging) (result : R
 
 -- the time-travel theorem, of the program of a source over the inputs of a feed: of a list of calls of a session over them
 -- that begins at the start, an observer saw some events, each call with its answer, and the session came to step n
-pub record Travels {O : Type 0} (l : Loaded) (sees : O → Event → O → Type 0) (returns : State → Bool → Type 0) (calls : List Call) (old new : O) (n : ℕ) : Type 0 where
+pub record Travels {O : Type 0} (l : Loaded) (sees : O → Event → O → Type 0) (returns : State → Bool → Type 0) (calls : List Call)
+    (old new : O) (n : ℕ) : Type 0 where
   pub events : List Event
   pub session : SessionView
   pub saw : Saw sees old events new

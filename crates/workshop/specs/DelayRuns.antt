@@ -17,7 +17,8 @@ use Rattle.workshop.specs.Runs.{Running}
 -- memory is refused, and nothing is written; or all steps are made and what is told of them is written, and each cycle is of one cause
 abbrev pub DelaysRun : SymbolTable → Scenario → ℕ → Writer → Writer → Result (Unit {0}) WorkshopFault → Type 0
 DelaysRun symbols scenario steps before after result =
-    ((result ≡ Err NoMemory) × (after ≡ before)) ⊎ (WritesText (delays_text symbols scenario steps) before after result × CyclesAddUp scenario steps)
+    ((result ≡ Err NoMemory) × (after ≡ before)) ⊎
+    (WritesText (delays_text symbols scenario steps) before after result × CyclesAddUp scenario steps)
 
 -- where a program and a feed were read their run is told, and after a fault nothing is written
 abbrev pub DelaysThen : ℕ → Result Loaded WorkshopFault → Writer → Writer → Result (Unit {0}) WorkshopFault → Type 0

@@ -27,7 +27,8 @@ named_of l = record { symbols = l.symbols; scenario = scenario_of l }
 
 -- memory is refused, and nothing is written; or what is told of both runs is
 abbrev pub DifferRun : Named → Named → ℕ → Writer → Writer → Result (Unit {0}) WorkshopFault → Type 0
-DifferRun one other steps before after result = ((result ≡ Err NoMemory) × (after ≡ before)) ⊎ WritesText (differ_text one other steps) before after result
+DifferRun one other steps before after result = ((result ≡ Err NoMemory) × (after ≡ before)) ⊎ WritesText (differ_text one other steps)
+    before after result
 
 -- where both were read it is told of them, and after a fault nothing is written
 abbrev pub DifferThen : Named → ℕ → Result Loaded WorkshopFault → Writer → Writer → Result (Unit {0}) WorkshopFault → Type 0
@@ -35,10 +36,11 @@ DifferThen one steps (Ok l) before after result = DifferRun one (named_of l) ste
 DifferThen one steps (Err fault) before after result = (result ≡ Err fault) × (after ≡ before)
 
 -- the other program and its feed are read beside the first
-pub record TellsBeside (from : Origin) (one : Named) (steps : ℕ) (before after : Beside) (result : Result (Unit {0}) WorkshopFault) : Type 0 where
-  pub loaded : Result Loaded WorkshopFault
-  pub loads : Loads from before.files after.files loaded
-  pub next : DifferThen one steps loaded before.out after.out result
+pub record TellsBeside (from : Origin) (one : Named) (steps : ℕ) (before after : Beside) (result : Result (Unit {0}) WorkshopFault) : Type 0
+  where
+    pub loaded : Result Loaded WorkshopFault
+    pub loads : Loads from before.files after.files loaded
+    pub next : DifferThen one steps loaded before.out after.out result
 
 abbrev pub BesideThen : Origin → ℕ → Result Loaded WorkshopFault → Beside → Beside → Result (Unit {0}) WorkshopFault → Type 0
 BesideThen from steps (Ok l) before after result = TellsBeside from (named_of l) steps before after result
@@ -48,4 +50,5 @@ BesideThen from steps (Err fault) before after result = (result ≡ Err fault) �
 pub record TellsDiffer (from other : Origin) (steps : ℕ) (before after : Pairing) (result : Result (Unit {0}) WorkshopFault) : Type 0 where
   pub loaded : Result Loaded WorkshopFault
   pub loads : Loads from before.one after.one loaded
-  pub next : BesideThen other steps loaded (record { files = before.other; out = before.out }) (record { files = after.other; out = after.out }) result
+  pub next : BesideThen other steps loaded (record { files = before.other; out = before.out })
+      (record { files = after.other; out = after.out }) result

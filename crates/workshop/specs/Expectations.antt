@@ -28,14 +28,16 @@ JudgesClaims scenario steps tests claims before after result =
     × IfOk result (λ answer. answer ≡ Met (are_all_met (map (judged scenario steps) claims))))
 
 -- where the tests are refused that is answered, and nothing is written
-abbrev pub JudgesTests : Scenario → ℕ → List Statement → Result (List Stated) Refusal → Writer → Writer → Result Judged WorkshopFault → Type 0
+abbrev pub JudgesTests : Scenario → ℕ → List Statement → Result (List Stated) Refusal → Writer → Writer → Result Judged WorkshopFault
+    → Type 0
 JudgesTests scenario steps tests (Ok claims) before after result = JudgesClaims scenario steps tests claims before after result
 JudgesTests scenario steps tests (Err refusal) before after result =
     ((result ≡ Err NoMemory) ⊎ (result ≡ Ok (Refused refusal))) × (after ≡ before)
 
 -- where a program and a feed were read its tests are, and after a fault nothing is written
 abbrev pub JudgesThen : ℕ → List Statement → Result Loaded WorkshopFault → Writer → Writer → Result Judged WorkshopFault → Type 0
-JudgesThen steps tests (Ok l) before after result = JudgesTests (scenario_of l) steps tests (claims_after l.symbols 0 tests) before after result
+JudgesThen steps tests (Ok l) before after result = JudgesTests (scenario_of l) steps tests (claims_after l.symbols 0 tests) before after
+    result
 JudgesThen steps tests (Err fault) before after result = (result ≡ Err fault) × (after ≡ before)
 
 -- a source and a feed are read, and what was read decides what is judged

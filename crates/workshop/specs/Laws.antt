@@ -1,5 +1,6 @@
 -- What joins assembler and machine: how the machine reads the words that the assembler makes.
-use Rattle.std.specs.Prelude.{◌≡◌, ◌⊎◌, MatchOption, slice_get, ◌<◌, ◌^◌, nat_le, ℕ, ◌==◌, ◌&&◌, not, Bool, false, List, [], ◌∷◌, ◌++◌, codes, unwrap_or}
+use Rattle.std.specs.Prelude.{◌≡◌, ◌⊎◌, MatchOption, slice_get, ◌<◌, ◌^◌, nat_le, ℕ, ◌==◌, ◌&&◌, not, Bool, false, List, [], ◌∷◌, ◌++◌}
+use Rattle.std.specs.Prelude.{codes, unwrap_or}
 use Rattle.std.specs.List.{AllByRecursion, list_any}
 use Rattle.words.specs.Numerals.{octal_text}
 use Rattle.agc_text.specs.Tables.{value_in}
@@ -44,10 +45,12 @@ own_words = 0o3 ∷ 0o4 ∷ 0o6 ∷ 0o50017 ∷ []
 abbrev pub is_own : Bool → ℕ → Bool
 is_own extracode word = not extracode && list_any (λ own. word == own) own_words
 
--- the words that an operator gives alone are shown by a text, and those that it gives of a number by the text and the number in so many octal digits
+-- the words that an operator gives alone are shown by a text, and those that it gives of a number by the text and the number in so many
+-- octal digits
 pub record IsShown (text : List ℕ) (GivesAlone : Bool → ℕ → Type 0) (GivesWith : Bool → ℕ → ℕ → Type 0) (digits : ℕ) : Type 0 where
   pub alone : (extracode : Bool) (word : ℕ) → GivesAlone extracode word → disassembly extracode word ≡ text
-  pub with_number : (extracode : Bool) (n word : ℕ) → GivesWith extracode n word → is_own extracode word ≡ false → disassembly extracode word ≡ text ++ codes " " ++ octal_text digits n
+  pub with_number : (extracode : Bool) (n word : ℕ) → GivesWith extracode n word → is_own extracode word ≡ false
+      → disassembly extracode word ≡ text ++ codes " " ++ octal_text digits n
 
 -- Each operator of an instruction is shown so.
 abbrev pub AreShown : Type 0
@@ -55,16 +58,20 @@ AreShown = AllByRecursion (λ row. IsShown (shown_as row.0) (GivesAlone row.1) (
 
 -- ## Extracode
 -- after a word of an operator extracode is in force for the machine as it is for the assembler on the next line that gives words
-pub record IsAgreedAfter (GivesAlone : Bool → ℕ → Type 0) (GivesWith : Bool → ℕ → ℕ → Type 0) (LeavesExtracode : Bool → Bool → Type 0) : Type 0 where
+pub record IsAgreedAfter (GivesAlone : Bool → ℕ → Type 0) (GivesWith : Bool → ℕ → ℕ → Type 0) (LeavesExtracode : Bool → Bool → Type 0) :
+    Type 0 where
   pub alone : (extracode : Bool) (word : ℕ) → GivesAlone extracode word → LeavesExtracode extracode (extracode_after extracode word)
-  pub with_number : (extracode : Bool) (n word : ℕ) → GivesWith extracode n word → is_own extracode word ≡ false → LeavesExtracode extracode (extracode_after extracode word)
+  pub with_number : (extracode : Bool) (n word : ℕ) → GivesWith extracode n word → is_own extracode word ≡ false
+      → LeavesExtracode extracode (extracode_after extracode word)
 
--- It is so after each operator of an instruction, where it stands as its row asks. (The word of TC 6 is that of EXTEND, and so stands apart.)
+-- It is so after each operator of an instruction, where it stands as its row asks. (The word of TC 6 is that of EXTEND, and so stands
+-- apart.)
 abbrev pub AreAgreed : Type 0
 AreAgreed = AllByRecursion (λ row. IsAgreedAfter (GivesAlone row.1) (GivesWith row.1) (LeavesExtracode row.1)) instructions
 
 -- ## Written as it is shown
--- a word is shown by a name, and an operator of this name gives it alone; or by the name and a number, and the operator gives it of the number
+-- a word is shown by a name, and an operator of this name gives it alone; or by the name and a number, and the operator gives it of the
+-- number
 pub record IsGivenWith (extracode : Bool) (word : ℕ) (name : List ℕ) (GivesWith : Bool → ℕ → ℕ → Type 0) (digits : ℕ) : Type 0 where
   pub number : ℕ
   pub shown : disassembly extracode word ≡ name ++ codes " " ++ octal_text digits number
@@ -77,7 +84,8 @@ IsGiven extracode word name GivesAlone GivesWith digits =
 -- a row of the assembler's operators gives a word as it is shown
 pub record IsWritten (extracode : Bool) (word : ℕ) : Type 0 where
   pub row : ℕ
-  pub by : MatchOption (slice_get instructions row) ⊥ (λ r. IsGiven extracode word r.0 (GivesAlone r.1) (GivesWith r.1) (operand_digits r.1))
+  pub by : MatchOption (slice_get instructions row) ⊥
+      (λ r. IsGiven extracode word r.0 (GivesAlone r.1) (GivesWith r.1) (operand_digits r.1))
 
 -- the words of EDRUPT, which has no operator
 abbrev pub is_edrupt : Bool → ℕ → Bool

@@ -47,7 +47,8 @@ abbrev pub ReadsInputs : List ℕ → List ℕ → Result (List Entry) WorkshopF
 ReadsInputs old new result = ReadsText (of_feed (inputs old)) old new result
 
 -- a reader is read: what becomes of its bytes, where they are told; and it has failed exactly where that is answered
-pub record Reads {T : Type 0} (Takes : List ℕ → List ℕ → Result T WorkshopFault → Type 0) (before after : Reader) (result : Result T WorkshopFault) : Type 0 where
+pub record Reads {T : Type 0} (Takes : List ℕ → List ℕ → Result T WorkshopFault → Type 0) (before after : Reader)
+    (result : Result T WorkshopFault) : Type 0 where
   pub bytes : before.told ≡ true → Takes before.left after.left result
   pub failures : after.failures ≡ failures_if (has_read_failed result) before.failures
   pub writer : has_write_failed result ≡ false

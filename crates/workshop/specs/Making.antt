@@ -20,7 +20,8 @@ MakesThen text (Ok words) before after result = MakesText (text words) before af
 MakesThen text (Err fault) before after result = (result ≡ Err (of_rope_fault fault)) × (after ≡ before)
 
 -- an image is read, and what was read decides what is written
-pub record ShowsMade (version : Version) (text : Words → List ℕ) (before after : Showing) (result : Result (Unit {0}) WorkshopFault) : Type 0 where
+pub record ShowsMade (version : Version) (text : Words → List ℕ) (before after : Showing) (result : Result (Unit {0}) WorkshopFault) : Type
+    0 where
   pub read : Result Words RopeFault
   pub reads : ReadsRope version before.image after.image read
   pub next : MakesThen text read before.out after.out result

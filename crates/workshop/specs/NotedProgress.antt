@@ -21,29 +21,34 @@ pub record TellsWhole (text : ℕ → List ℕ) (steps : ℕ) (before after : Te
   pub failures : after.out.failures ≡ before.out.failures
   pub all : TellsAll steps before.progress after.progress
 
--- all steps are told where they were made, though the notes could not be written; where the run is broken off as it writes, those that were made; after any other
--- fault none
+-- all steps are told where they were made, though the notes could not be written; where the run is broken off as it writes, those that were
+-- made; after any other fault none
 abbrev pub TellsNoted : {T : Type 0} → (ℕ → List ℕ) → ℕ → Telling → Telling → Result T WorkshopFault → Type 0
 TellsNoted text steps before after (Ok x) = TellsWhole text steps before after
 TellsNoted text steps before after (Err WriteFailed) = TellsBroken text steps before after ⊎ TellsWhole text steps before after
 TellsNoted text steps before after (Err _) = after.progress ≡ before.progress
 
 -- where a program and a feed were read the steps of their run are told, and after a fault none
-abbrev pub TellsInputs : {T : Type 0} → NamedCode → ℕ → Result (List Entry) WorkshopFault → Telling → Telling → Result T WorkshopFault → Type 0
-TellsInputs code steps (Ok inputs) before after result = TellsNoted (run_text (record { rope = code.rope; inputs = inputs })) steps before after result
+abbrev pub TellsInputs : {T : Type 0} → NamedCode → ℕ → Result (List Entry) WorkshopFault → Telling → Telling → Result T WorkshopFault
+    → Type 0
+TellsInputs code steps (Ok inputs) before after result = TellsNoted (run_text (record { rope = code.rope; inputs = inputs })) steps before
+    after result
 TellsInputs code steps (Err fault) before after result = after.progress ≡ before.progress
 
-pub record TellsFeed {T : Type 0} (code : NamedCode) (steps : ℕ) (old new : Files) (before after : Telling) (result : Result T WorkshopFault) : Type 0 where
+pub record TellsFeed {T : Type 0} (code : NamedCode) (steps : ℕ) (old new : Files) (before after : Telling)
+    (result : Result T WorkshopFault) : Type 0 where
   pub inputs : Result (List Entry) WorkshopFault
   pub reads : Reads ReadsInputs old.feed new.feed inputs
   pub next : TellsInputs code steps inputs before after result
 
-abbrev pub TellsCode : {T : Type 0} → Result NamedCode WorkshopFault → ℕ → Files → Files → Telling → Telling → Result T WorkshopFault → Type 0
+abbrev pub TellsCode : {T : Type 0} → Result NamedCode WorkshopFault → ℕ → Files → Files → Telling → Telling → Result T WorkshopFault
+    → Type 0
 TellsCode (Ok code) steps old new before after result = TellsFeed code steps old new before after result
 TellsCode (Err fault) steps old new before after result = after.progress ≡ before.progress
 
 -- a program is read, and then a feed, and what was read decides what is told
-pub record TellsRead {T : Type 0} (from : Origin) (steps : ℕ) (old new : Files) (before after : Telling) (result : Result T WorkshopFault) : Type 0 where
+pub record TellsRead {T : Type 0} (from : Origin) (steps : ℕ) (old new : Files) (before after : Telling) (result : Result T WorkshopFault) :
+    Type 0 where
   pub code : Result NamedCode WorkshopFault
   pub reads : Reads (ReadsNamed from) old.program new.program code
   pub next : TellsCode code steps old new before after result

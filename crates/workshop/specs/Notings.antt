@@ -53,19 +53,23 @@ pub record Texts : Type 0 where
 -- all steps are made, and then the notes are written; or the run breaks off, and no note is written; or all steps are made, and a
 -- beginning of the notes is written
 abbrev pub EndsNoted : List ℕ → Scenario → ℕ → Texts → Texts → Result Summary WorkshopFault → Type 0
-EndsNoted text scenario steps before after (Ok summary) = Makes scenario steps before.out after.out (Ok summary) × WritesText text before.notes after.notes (Ok summary)
+EndsNoted text scenario steps before after (Ok summary) = Makes scenario steps before.out after.out (Ok summary)
+    × WritesText text before.notes after.notes (Ok summary)
 EndsNoted text scenario steps before after (Err fault) =
     (Makes scenario steps before.out after.out (Err fault) × (after.notes ≡ before.notes))
-    ⊎ (Makes scenario steps before.out after.out (Ok (summary_of scenario steps)) × WritesText {T = Summary} text before.notes after.notes (Err fault))
+    ⊎ (Makes scenario steps before.out after.out (Ok (summary_of scenario steps))
+    × WritesText {T = Summary} text before.notes after.notes (Err fault))
 
 -- memory for the notes is refused, and nothing is written; or the run is made and noted
 abbrev pub NotesRun : Notation → NamedCode → Scenario → ℕ → Texts → Texts → Result Summary WorkshopFault → Type 0
 NotesRun notation code scenario steps before after result =
-    ((result ≡ Err NoMemory) × (after ≡ before)) ⊎ EndsNoted (notes_text notation code.symbols code.named scenario steps) scenario steps before after result
+    ((result ≡ Err NoMemory) × (after ≡ before)) ⊎ EndsNoted (notes_text notation code.symbols code.named scenario steps) scenario steps
+    before after result
 
 -- where the feed was read the run is made and noted, and after a fault nothing is written
 abbrev pub NotesThen : Notation → NamedCode → ℕ → Result (List Entry) WorkshopFault → Texts → Texts → Result Summary WorkshopFault → Type 0
-NotesThen notation code steps (Ok inputs) before after result = NotesRun notation code (record { rope = code.rope; inputs = inputs }) steps before after result
+NotesThen notation code steps (Ok inputs) before after result = NotesRun notation code (record { rope = code.rope; inputs = inputs }) steps
+    before after result
 NotesThen notation code steps (Err fault) before after result = (result ≡ Err fault) × (after ≡ before)
 
 -- what an engine has that runs and notes
@@ -73,7 +77,8 @@ pub record Noting : Type 0 where
   pub files : Files
   pub texts : Texts
 
-pub record NotesNext (notation : Notation) (code : NamedCode) (steps : ℕ) (before after : Noting) (result : Result Summary WorkshopFault) : Type 0 where
+pub record NotesNext (notation : Notation) (code : NamedCode) (steps : ℕ) (before after : Noting) (result : Result Summary WorkshopFault) :
+    Type 0 where
   pub inputs : Result (List Entry) WorkshopFault
   pub reads : Reads ReadsInputs before.files.feed after.files.feed inputs
   pub next : NotesThen notation code steps inputs before.texts after.texts result
@@ -81,10 +86,12 @@ pub record NotesNext (notation : Notation) (code : NamedCode) (steps : ℕ) (bef
 -- where the program was read the feed is, and after a fault nothing of it
 abbrev pub NotesProgram : Notation → Result NamedCode WorkshopFault → ℕ → Noting → Noting → Result Summary WorkshopFault → Type 0
 NotesProgram notation (Ok code) steps before after result = NotesNext notation code steps before after result
-NotesProgram notation (Err fault) steps before after result = (result ≡ Err fault) × (after.files.feed ≡ before.files.feed) × (after.texts ≡ before.texts)
+NotesProgram notation (Err fault) steps before after result = (result ≡ Err fault) × (after.files.feed ≡ before.files.feed)
+    × (after.texts ≡ before.texts)
 
 -- a program and a feed are read, and what was read decides what runs
-pub record RunsNoted (notation : Notation) (from : Origin) (steps : ℕ) (before after : Noting) (result : Result Summary WorkshopFault) : Type 0 where
+pub record RunsNoted (notation : Notation) (from : Origin) (steps : ℕ) (before after : Noting) (result : Result Summary WorkshopFault) :
+    Type 0 where
   pub code : Result NamedCode WorkshopFault
   pub reads : Reads (ReadsNamed from) before.files.program after.files.program code
   pub next : NotesProgram notation code steps before after result

@@ -1,5 +1,6 @@
 -- What a run tells while it goes: how many steps it has made.
-use Rattle.std.specs.Prelude.{◌≡◌, ℕ, zero, suc, ◌+◌, ◌*◌, ◌/◌, ◌%◌, ◌^◌, ◌<◌, ◌==◌, Bool, true, List, [], ◌++◌, codes, decimal, Result, Ok, Err, if◌then◌else◌}
+use Rattle.std.specs.Prelude.{◌≡◌, ℕ, zero, suc, ◌+◌, ◌*◌, ◌/◌, ◌%◌, ◌^◌, ◌<◌, ◌==◌, Bool, true, List, [], ◌++◌, codes, decimal, Result, Ok}
+use Rattle.std.specs.Prelude.{Err, if◌then◌else◌}
 use Rattle.words.specs.Devices.{IsBeginning, Writes, WritesBeginning, failures_after}
 use Rattle.words.specs.declared.device.WriteFailed as device
 use Rattle.cpu.specs.ChannelLines.{channel_lines}
@@ -39,7 +40,8 @@ progress_at n = if n % steps_between == 0 then progress_line n else []
 -- they are told, where all before was; and nothing once a write has failed
 abbrev pub TellsNext : ℕ → Writer → Writer → Result (Unit {0}) device.WriteFailed → Result (Unit {0}) device.WriteFailed → Type 0
 TellsNext n before after (Ok x) result =
-    (before.told ≡ true → Writes before.written after.written (progress_at n) result) × (after.failures ≡ failures_after before.failures result)
+    (before.told ≡ true → Writes before.written after.written (progress_at n) result)
+    × (after.failures ≡ failures_after before.failures result)
 TellsNext n before after (Err e) result = (after ≡ before) × (result ≡ Err e)
 
 -- what was told of a run that has made so many steps: all lines, or where a write has failed, a beginning of them
@@ -53,7 +55,8 @@ pub record TellsAll (steps : ℕ) (before after : Writer) : Type 0 where
   pub tells : Tells steps before after told
 
 -- ## Of a run whose text is written when its steps are made
--- all steps are told, whether the text could be written or not; and after any other fault, as where the program or the feed is refused, nothing is
+-- all steps are told, whether the text could be written or not; and after any other fault, as where the program or the feed is refused,
+-- nothing is
 abbrev pub TellsProfile : {T : Type 0} → ℕ → Writer → Writer → Result T WorkshopFault → Type 0
 TellsProfile steps before after (Ok x) = TellsAll steps before after
 TellsProfile steps before after (Err WriteFailed) = TellsAll steps before after
@@ -82,12 +85,14 @@ TellsWritten text steps before after (Err WriteFailed) = TellsMade text steps be
 TellsWritten text steps before after (Err _) = ⊥
 
 -- where a program and a feed were read the steps of their run are told, and after a fault nothing is
-abbrev pub TellsThen : {T : Type 0} → (Loaded → ℕ → List ℕ) → ℕ → Result Loaded WorkshopFault → Telling → Telling → Result T WorkshopFault → Type 0
+abbrev pub TellsThen : {T : Type 0} → (Loaded → ℕ → List ℕ) → ℕ → Result Loaded WorkshopFault → Telling → Telling → Result T WorkshopFault
+    → Type 0
 TellsThen text steps (Ok l) before after result = TellsWritten (text l) steps before after result
 TellsThen text steps (Err fault) before after result = after.progress ≡ before.progress
 
 -- a program and a feed are read, and what was read decides what is told
-pub record TellsLoaded {T : Type 0} (text : Loaded → ℕ → List ℕ) (from : Origin) (steps : ℕ) (old new : Files) (before after : Telling) (result : Result T WorkshopFault) : Type 0 where
+pub record TellsLoaded {T : Type 0} (text : Loaded → ℕ → List ℕ) (from : Origin) (steps : ℕ) (old new : Files) (before after : Telling)
+    (result : Result T WorkshopFault) : Type 0 where
   pub loaded : Result Loaded WorkshopFault
   pub loads : Loads from old new loaded
   pub next : TellsThen text steps loaded before after result

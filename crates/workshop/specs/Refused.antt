@@ -22,7 +22,8 @@ refused_position _ = None
 -- the line that tells it: the number of the word's first byte, from 0 on, and its place as a listing has it
 abbrev pub position_text : ℕ → List ℕ
 position_text position =
-    codes "agcws: BYTE " ++ decimal (2 * position) ++ codes " " ++ place_text (Fixed (bank_of_entry (position / bank_words)) (position % bank_words)) ++ codes "\n"
+    codes "agcws: BYTE " ++ decimal (2 * position) ++ codes " "
+    ++ place_text (Fixed (bank_of_entry (position / bank_words)) (position % bank_words)) ++ codes "\n"
 
 abbrev pub text_of_position : Option ℕ → List ℕ
 text_of_position None = []

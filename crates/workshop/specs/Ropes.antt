@@ -47,10 +47,11 @@ pub record Showing : Type 0 where
   pub out : Writer
 
 -- an image is read, and what was read decides what is written
-pub record Shows (version : Version) (text : Words → List ℕ) (before after : Showing) (result : Result (Unit {0}) WorkshopFault) : Type 0 where
-  pub read : Result Words RopeFault
-  pub reads : ReadsRope version before.image after.image read
-  pub next : ShowsThen text read before.out after.out result
+pub record Shows (version : Version) (text : Words → List ℕ) (before after : Showing) (result : Result (Unit {0}) WorkshopFault) : Type 0
+  where
+    pub read : Result Words RopeFault
+    pub reads : ReadsRope version before.image after.image read
+    pub next : ShowsThen text read before.out after.out result
 
 -- where the second image was read too the differences at places of an extent are written, and how many there are is answered
 abbrev pub WritesDifferences : Extent → Words → Result Words RopeFault → Writer → Writer → Result ℕ WorkshopFault → Type 0
@@ -65,7 +66,8 @@ pub record Comparing : Type 0 where
   pub out : Writer
 
 -- where the first words were read an image is, and after a fault nothing of it, and nothing is written
-pub record ComparesNext (extent : Extent) (version : Version) (words : Words) (before after : Comparing) (result : Result ℕ WorkshopFault) : Type 0 where
+pub record ComparesNext (extent : Extent) (version : Version) (words : Words) (before after : Comparing) (result : Result ℕ WorkshopFault) :
+    Type 0 where
   pub read : Result Words RopeFault
   pub reads : ReadsRope version before.new after.new read
   pub next : WritesDifferences extent words read before.out after.out result
@@ -89,7 +91,8 @@ ComparesOnlyThen version (Err fault) before after last result =
 
 -- a source of a language is assembled, and then an image is read: they are compared at the places that the source fills; and which was
 -- read last
-pub record ComparesOnly (language : Language) (version : Version) (before after : Comparing) (last : Compared) (result : Result ℕ WorkshopFault) : Type 0 where
+pub record ComparesOnly (language : Language) (version : Version) (before after : Comparing) (last : Compared)
+    (result : Result ℕ WorkshopFault) : Type 0 where
   pub program : Result Program WorkshopFault
   pub reads : Reads (λ old new. ReadsText (assembled language old) old new) before.old after.old program
   pub next : ComparesOnlyThen version program before after last result

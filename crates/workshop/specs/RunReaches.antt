@@ -23,9 +23,10 @@ use Rattle.workshop.specs.Runs.{Running}
 pub record AreExecuted (scenario : Scenario) (n : ℕ) (marks : List Bool) : Type 0 where
   pub each : (q : Spot) → IsSpot q → ((has marks q ≡ true) ↔ Among q (executed scenario n))
 
--- what is reached from the vectors, and from these and all that so many steps execute, and what these execute, is marked, and the text of these
--- marks is written
-pub record WritesFound (lines : Shown) (scenario : Scenario) (steps : ℕ) (before after : Writer) (result : Result (Unit {0}) WorkshopFault) : Type 0 where
+-- what is reached from the vectors, and from these and all that so many steps execute, and what these execute, is marked, and the text of
+-- these marks is written
+pub record WritesFound (lines : Shown) (scenario : Scenario) (steps : ℕ) (before after : Writer) (result : Result (Unit {0}) WorkshopFault)
+    : Type 0 where
   pub found : Found
   pub start : AreReached scenario.rope vectors found.start
   pub run : AreReached scenario.rope (run_roots scenario steps) found.run
@@ -34,11 +35,13 @@ pub record WritesFound (lines : Shown) (scenario : Scenario) (steps : ℕ) (befo
 
 -- or memory is refused, and nothing is written
 abbrev pub FindsRun : Shown → Scenario → ℕ → Writer → Writer → Result (Unit {0}) WorkshopFault → Type 0
-FindsRun lines scenario steps before after result = ((result ≡ Err NoMemory) × (after ≡ before)) ⊎ WritesFound lines scenario steps before after result
+FindsRun lines scenario steps before after result = ((result ≡ Err NoMemory) × (after ≡ before)) ⊎ WritesFound lines scenario steps before
+    after result
 
 -- where the feed was read its run is made, and after a fault nothing is written
 abbrev pub FindsThen : Subject → ℕ → Result (List Entry) WorkshopFault → Writer → Writer → Result (Unit {0}) WorkshopFault → Type 0
-FindsThen subject steps (Ok inputs) before after result = FindsRun subject.1 (record { rope = subject.0; inputs = inputs }) steps before after result
+FindsThen subject steps (Ok inputs) before after result = FindsRun subject.1 (record { rope = subject.0; inputs = inputs }) steps before
+    after result
 FindsThen subject steps (Err fault) before after result = (result ≡ Err fault) × (after ≡ before)
 
 pub record FindsNext (subject : Subject) (steps : ℕ) (before after : Running) (result : Result (Unit {0}) WorkshopFault) : Type 0 where
@@ -49,7 +52,8 @@ pub record FindsNext (subject : Subject) (steps : ℕ) (before after : Running) 
 -- where the program was read the feed is, and after a fault nothing of it
 abbrev pub FindsProgram : Result Subject WorkshopFault → ℕ → Running → Running → Result (Unit {0}) WorkshopFault → Type 0
 FindsProgram (Ok subject) steps before after result = FindsNext subject steps before after result
-FindsProgram (Err fault) steps before after result = (result ≡ Err fault) × (after.files.feed ≡ before.files.feed) × (after.out ≡ before.out)
+FindsProgram (Err fault) steps before after result = (result ≡ Err fault) × (after.files.feed ≡ before.files.feed)
+    × (after.out ≡ before.out)
 
 -- a program and a feed are read, and what was read decides what is written
 pub record Finds (from : Origin) (steps : ℕ) (before after : Running) (result : Result (Unit {0}) WorkshopFault) : Type 0 where

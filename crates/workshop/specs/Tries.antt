@@ -16,13 +16,15 @@ use Rattle.workshop.specs.Loading.{Reads, ReadsProgram}
 
 -- what is told of a run and of some trials is written: all of it, or a beginning of it after a fault; the writer has failed exactly where
 -- that is answered
-pub record WritesTrials (scenario : Scenario) (trials : List Plain) (steps : ℕ) (before after : Writer) (result : Result (Unit {0}) WorkshopFault) : Type 0 where
+pub record WritesTrials (scenario : Scenario) (trials : List Plain) (steps : ℕ) (before after : Writer)
+    (result : Result (Unit {0}) WorkshopFault) : Type 0 where
   pub written : before.told ≡ true → Writes before.written after.written (whatif_text scenario trials steps) result
   pub failures : after.failures ≡ failures_if (has_write_failed result) before.failures
 
 -- where the feed has a fault that is answered, and nothing is written
 abbrev pub TriesBy : Words → List Plain → ℕ → Result (List Entry) WorkshopFault → Writer → Writer → Result (Unit {0}) WorkshopFault → Type 0
-TriesBy rope trials steps (Ok list) before after result = WritesTrials (record { rope = rope; inputs = list }) trials steps before after result
+TriesBy rope trials steps (Ok list) before after result = WritesTrials (record { rope = rope; inputs = list }) trials steps before after
+    result
 TriesBy rope trials steps (Err fault) before after result = (result ≡ Err fault) × (after ≡ before)
 
 -- memory is refused, and nothing is written; or the text of the feed decides
@@ -40,7 +42,8 @@ pub record Trying : Type 0 where
   pub out : Writer
 
 -- a program is read, and what was read decides what is told
-pub record Tries (from : Origin) (feed : List ℕ) (trials : List Plain) (steps : ℕ) (before after : Trying) (result : Result (Unit {0}) WorkshopFault) : Type 0 where
+pub record Tries (from : Origin) (feed : List ℕ) (trials : List Plain) (steps : ℕ) (before after : Trying)
+    (result : Result (Unit {0}) WorkshopFault) : Type 0 where
   pub code : Result Code WorkshopFault
   pub reads : Reads (ReadsProgram from) before.program after.program code
   pub next : TriesThen feed trials steps code before.out after.out result

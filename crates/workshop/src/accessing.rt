@@ -19,11 +19,13 @@ use std::alloc::Global;
 use trace::PlaceNames;
 use words::{Read, Write};
 
-/// Reads a program and then a feed, makes some steps, and writes how often each cell was read and written at each level; or where a
-/// cell is asked for, by which places. Answers whether there is this cell; where there is none no step is made.
+/// Reads a program and then a feed, makes some steps, and writes how often each cell was read and written at each
+/// level; or where a cell is asked for, by which places. Answers whether there is this cell; where there is none no
+/// step is made.
 ///
-/// The first fault of the program is answered, else that of the feed, else that memory ran out, and then nothing is written.
-/// Memory for the counts is taken once, before the first step. After a write that failed a beginning of the text was written.
+/// The first fault of the program is answered, else that of the feed, else that memory ran out, and then nothing is
+/// written. Memory for the counts is taken once, before the first step. After a write that failed a beginning of the
+/// text was written.
 ///
 /// It is told after each 2^20 steps how many were made, as `run_and_tell` tells it.
 pub fn access_program<P: Read, F: Read, W: Write, T: Write>(
@@ -38,9 +40,24 @@ pub fn access_program<P: Read, F: Read, W: Write, T: Write>(
 ) -> Result<bool, WorkshopFault>
     requires { steps ≤ 2 ^ 40 - 2 }
     ensures counts { CountsAccesses (option_map (λ text. text.now) place.entry) origin steps
-        (record { files = record { program = reader P.told P.left P.failures program.old; feed = reader F.told F.left F.failures feed.old }; out = writer W.told W.written W.failures out.old })
-        (record { files = record { program = reader P.told P.left P.failures program.new; feed = reader F.told F.left F.failures feed.new }; out = writer W.told W.written W.failures out.new }) result }
-    ensures progress { TellsCounted steps (writer T.told T.written T.failures progress.old) (writer T.told T.written T.failures progress.new) result }
+        (record {
+          files = record {
+            program = reader P.told P.left P.failures program.old;
+            feed = reader F.told F.left
+                F.failures feed.old;
+          };
+          out = writer W.told W.written W.failures out.old;
+        })
+        (record {
+          files = record {
+            program = reader P.told P.left P.failures program.new;
+            feed = reader F.told F.left
+                F.failures feed.new;
+          };
+          out = writer W.told W.written W.failures out.new;
+        }) result }
+    ensures progress { TellsCounted steps (writer T.told T.written T.failures progress.old)
+        (writer T.told T.written T.failures progress.new) result }
 {
     let loaded = load(alloc, origin, program, feed)?;
     access(alloc, loaded, place, steps, out, progress)
@@ -59,7 +76,8 @@ fn access<W: Write, T: Write>(
     requires { steps ≤ 2 ^ 40 - 2 }
     ensures counts { CountsRun (option_map (λ text. text.now) place.entry) loaded.symbols (scenario_of loaded) steps
         (writer W.told W.written W.failures out.old) (writer W.told W.written W.failures out.new) result }
-    ensures progress { TellsCounted steps (writer T.told T.written T.failures progress.old) (writer T.told T.written T.failures progress.new) result }
+    ensures progress { TellsCounted steps (writer T.told T.written T.failures progress.old)
+        (writer T.told T.written T.failures progress.new) result }
 {
     let Some(view) = view_asked(&loaded.symbols, place) else {
         return Ok(false);
@@ -87,7 +105,8 @@ fn count<W: Write, T: Write>(
     requires none { Counts tally.old.view processor.old.scenario 0 tally.old }
     ensures counts { Counted tally.old.view names.now processor.old.scenario steps
         (writer W.told W.written W.failures out.old) (writer W.told W.written W.failures out.new) result }
-    ensures progress { TellsCounted steps (writer T.told T.written T.failures progress.old) (writer T.told T.written T.failures progress.new) result }
+    ensures progress { TellsCounted steps (writer T.told T.written T.failures progress.old)
+        (writer T.told T.written T.failures progress.new) result }
 {
     make_steps(processor, tally, steps, progress);
     write_accesses(tally, names, processor.rope(), out)?;
@@ -101,7 +120,8 @@ fn make_steps<T: Write>(processor: &mut Processor, tally: &mut Tally, steps: u64
     ensures scenario { processor.new.scenario ≡ processor.old.scenario }
     ensures counts { Counts tally.old.view processor.old.scenario steps tally.new }
     ensures adds_up { AddsUpIn tally.old.view processor.old.scenario steps }
-    ensures progress { TellsAll steps (writer T.told T.written T.failures progress.old) (writer T.told T.written T.failures progress.new) }
+    ensures progress { TellsAll steps (writer T.told T.written T.failures progress.old)
+        (writer T.told T.written T.failures progress.new) }
 {
     let mut machine = Machine::start();
     let mut told = Ok(());

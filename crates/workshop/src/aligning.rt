@@ -1,5 +1,5 @@
-//! The engines that align two ropes: what has become of their words, where the names of one stand in the other, and where a passage of a source
-//! stands in an image.
+//! The engines that align two ropes: what has become of their words, where the names of one stand in the other, and
+//! where a passage of a source stands in an image.
 
 ghost use Rattle.std.specs.Prelude.{◌≡◌, true, IfOk};
 ghost use Rattle.align.specs.AlignTexts.{alignment_lines, found_lines};
@@ -21,8 +21,8 @@ const LEAST_RUN: usize = 12;
 
 /// Reads two rope images, each of its version, to their ends, and writes what has become of their words.
 ///
-/// The first fault of the old image is answered, else that of the new one, or that memory ran out, and then nothing is written. Which of the
-/// images was read last, of which a fault is, stands in `last`.
+/// The first fault of the old image is answered, else that of the new one, or that memory ran out, and then nothing is
+/// written. Which of the images was read last, of which a fault is, stands in `last`.
 pub fn align_engine<A: Read, B: Read, W: Write>(
     alloc: Global,
     old: &mut A,
@@ -33,8 +33,18 @@ pub fn align_engine<A: Read, B: Read, W: Write>(
     out: &mut W,
 ) -> Result<(), WorkshopFault>
     ensures { Aligns alignment_lines old_version new_version
-        (record { old = reader A.told A.left A.failures old.old; new = reader B.told B.left B.failures new.old; out = writer W.told W.written W.failures out.old })
-        (record { old = reader A.told A.left A.failures old.new; new = reader B.told B.left B.failures new.new; out = writer W.told W.written W.failures out.new }) last.new result }
+        (record {
+          old = reader A.told A.left A.failures old.old;
+          new = reader B.told B.left B.failures new.old;
+          out
+              = writer W.told W.written W.failures out.old;
+        })
+        (record {
+          old = reader A.told A.left A.failures old.new;
+          new = reader B.told B.left B.failures new.new;
+          out
+              = writer W.told W.written W.failures out.new;
+        }) last.new result }
 {
     *last = Compared::Old;
     let words = Rope::read(alloc, old, old_version)?;
@@ -43,7 +53,8 @@ pub fn align_engine<A: Read, B: Read, W: Write>(
     tell_alignment(alloc, &words, &others, out)
 }
 
-/// Reads two rope images, as `align_engine` does, and writes the names of a table of the old one with their places in the new one.
+/// Reads two rope images, as `align_engine` does, and writes the names of a table of the old one with their places in
+/// the new one.
 pub fn carry_engine<A: Read, B: Read, W: Write>(
     alloc: Global,
     names: &Symbols,
@@ -55,8 +66,18 @@ pub fn carry_engine<A: Read, B: Read, W: Write>(
     out: &mut W,
 ) -> Result<(), WorkshopFault>
     ensures { Aligns (λ _ _ renaming pairing. carried_lines renaming pairing names.now) old_version new_version
-        (record { old = reader A.told A.left A.failures old.old; new = reader B.told B.left B.failures new.old; out = writer W.told W.written W.failures out.old })
-        (record { old = reader A.told A.left A.failures old.new; new = reader B.told B.left B.failures new.new; out = writer W.told W.written W.failures out.new }) last.new result }
+        (record {
+          old = reader A.told A.left A.failures old.old;
+          new = reader B.told B.left B.failures new.old;
+          out
+              = writer W.told W.written W.failures out.old;
+        })
+        (record {
+          old = reader A.told A.left A.failures old.new;
+          new = reader B.told B.left B.failures new.new;
+          out
+              = writer W.told W.written W.failures out.new;
+        }) last.new result }
 {
     *last = Compared::Old;
     let words = Rope::read(alloc, old, old_version)?;
@@ -65,10 +86,11 @@ pub fn carry_engine<A: Read, B: Read, W: Write>(
     tell_carried(alloc, names, &words, &others, out)
 }
 
-/// Assembles a source of a language, reads a rope image of a version to its end, and writes where the words of the source stand in it.
+/// Assembles a source of a language, reads a rope image of a version to its end, and writes where the words of the
+/// source stand in it.
 ///
-/// The source has at most 8,388,608 bytes. Its first fault is answered, else that of the image, or that memory ran out, and then nothing is
-/// written. Which of them was read last stands in `last`.
+/// The source has at most 8,388,608 bytes. Its first fault is answered, else that of the image, or that memory ran out,
+/// and then nothing is written. Which of them was read last stands in `last`.
 pub fn find_engine<S: Read, R: Read, W: Write>(
     alloc: Global,
     language: Language,
@@ -79,8 +101,18 @@ pub fn find_engine<S: Read, R: Read, W: Write>(
     out: &mut W,
 ) -> Result<(), WorkshopFault>
     ensures { Finds language version
-        (record { old = reader S.told S.left S.failures source.old; new = reader R.told R.left R.failures image.old; out = writer W.told W.written W.failures out.old })
-        (record { old = reader S.told S.left S.failures source.new; new = reader R.told R.left R.failures image.new; out = writer W.told W.written W.failures out.new }) last.new result }
+        (record {
+          old = reader S.told S.left S.failures source.old;
+          new = reader R.told R.left R.failures image.old;
+          out
+              = writer W.told W.written W.failures out.old;
+        })
+        (record {
+          old = reader S.told S.left S.failures source.new;
+          new = reader R.told R.left R.failures image.new;
+          out
+              = writer W.told W.written W.failures out.new;
+        }) last.new result }
 {
     *last = Compared::Old;
     let program = read_program(alloc, language, source)?;
@@ -96,7 +128,8 @@ fn tell_alignment<W: Write>(
     new: &Rope,
     out: &mut W,
 ) -> Result<(), WorkshopFault>
-    ensures { TellsAligned alignment_lines old.now new.now (writer W.told W.written W.failures out.old) (writer W.told W.written W.failures out.new) result }
+    ensures { TellsAligned alignment_lines old.now new.now (writer W.told W.written W.failures out.old)
+        (writer W.told W.written W.failures out.new) result }
 {
     let Ok(alignment) = align(alloc, old, new, LEAST_RUN) else {
         return Err(WorkshopFault::NoMemory);
@@ -112,7 +145,8 @@ fn tell_carried<W: Write>(
     new: &Rope,
     out: &mut W,
 ) -> Result<(), WorkshopFault>
-    ensures { TellsAligned (λ _ _ renaming pairing. carried_lines renaming pairing names.now) old.now new.now (writer W.told W.written W.failures out.old) (writer W.told W.written W.failures out.new) result }
+    ensures { TellsAligned (λ _ _ renaming pairing. carried_lines renaming pairing names.now) old.now new.now
+        (writer W.told W.written W.failures out.old) (writer W.told W.written W.failures out.new) result }
 {
     let Ok(alignment) = align(alloc, old, new, LEAST_RUN) else {
         return Err(WorkshopFault::NoMemory);
@@ -127,7 +161,8 @@ fn tell_found<W: Write>(
     rope: &Rope,
     out: &mut W,
 ) -> Result<(), WorkshopFault>
-    ensures { TellsAligned found_lines passage.now rope.now (writer W.told W.written W.failures out.old) (writer W.told W.written W.failures out.new) result }
+    ensures { TellsAligned found_lines passage.now rope.now (writer W.told W.written W.failures out.old)
+        (writer W.told W.written W.failures out.new) result }
 {
     let Ok(alignment) = align(alloc, passage, rope, LEAST_RUN) else {
         return Err(WorkshopFault::NoMemory);

@@ -16,10 +16,11 @@ use std::alloc::Global;
 use words::{Read, Write, push_all, push_octal, write_all};
 use yayul::{Language, Program};
 
-/// Assembles the source, which is of a language, and writes the rope image of 73,728 bytes, of a version, to one writer, and then the listing to the other.
+/// Assembles the source, which is of a language, and writes the rope image of 73,728 bytes, of a version, to one
+/// writer, and then the listing to the other.
 ///
-/// The source has at most 8,388,608 bytes. Its first fault is answered, and then nothing is written. Nothing of the listing
-/// is written before the whole image.
+/// The source has at most 8,388,608 bytes. Its first fault is answered, and then nothing is written. Nothing of the
+/// listing is written before the whole image.
 pub fn asm_engine<S: Read, I: Write, L: Write>(
     alloc: Global,
     language: Language,
@@ -29,15 +30,25 @@ pub fn asm_engine<S: Read, I: Write, L: Write>(
     version: Version,
 ) -> Result<(), WorkshopFault>
     ensures { Assembles language version
-        (record { source = reader S.told S.left S.failures source.old; image = writer I.told I.written I.failures image.old; listing = writer L.told L.written L.failures listing.old })
-        (record { source = reader S.told S.left S.failures source.new; image = writer I.told I.written I.failures image.new; listing = writer L.told L.written L.failures listing.new }) result }
+        (record {
+          source = reader S.told S.left S.failures source.old;
+          image = writer I.told I.written I.failures
+              image.old;
+          listing = writer L.told L.written L.failures listing.old;
+        })
+        (record {
+          source = reader S.told S.left S.failures source.new;
+          image = writer I.told I.written I.failures
+              image.new;
+          listing = writer L.told L.written L.failures listing.new;
+        }) result }
 {
     let program = read_program(alloc, language, source)?;
     write_program(program.rope(), &program, image, listing, version)
 }
 
-/// Assembles the source as `asm_engine` does, and writes the image with check words: after the last word of each bank two TC
-/// to themselves, and the word that makes the bank's sum its number or the complement of it.
+/// Assembles the source as `asm_engine` does, and writes the image with check words: after the last word of each bank
+/// two TC to themselves, and the word that makes the bank's sum its number or the complement of it.
 ///
 /// Where a bank has no room for them the first such is answered, and nothing is written.
 pub fn asm_with_check_words<S: Read, I: Write, L: Write>(
@@ -49,8 +60,18 @@ pub fn asm_with_check_words<S: Read, I: Write, L: Write>(
     version: Version,
 ) -> Result<Option<Bank>, WorkshopFault>
     ensures { AssemblesChecked language version
-        (record { source = reader S.told S.left S.failures source.old; image = writer I.told I.written I.failures image.old; listing = writer L.told L.written L.failures listing.old })
-        (record { source = reader S.told S.left S.failures source.new; image = writer I.told I.written I.failures image.new; listing = writer L.told L.written L.failures listing.new }) result }
+        (record {
+          source = reader S.told S.left S.failures source.old;
+          image = writer I.told I.written I.failures
+              image.old;
+          listing = writer L.told L.written L.failures listing.old;
+        })
+        (record {
+          source = reader S.told S.left S.failures source.new;
+          image = writer I.told I.written I.failures
+              image.new;
+          listing = writer L.told L.written L.failures listing.new;
+        }) result }
 {
     let program = read_program(alloc, language, source)?;
     let mut rope = program.rope().copied(alloc)?;
@@ -70,8 +91,18 @@ fn write_program<I: Write, L: Write>(
     version: Version,
 ) -> Result<(), WorkshopFault>
     ensures { (unread read : Reader) → WritesProgram version words.now program.now
-        (record { source = unread; image = writer I.told I.written I.failures image.old; listing = writer L.told L.written L.failures listing.old })
-        (record { source = read; image = writer I.told I.written I.failures image.new; listing = writer L.told L.written L.failures listing.new }) result }
+        (record {
+          source = unread;
+          image = writer I.told I.written I.failures image.old;
+          listing = writer L.told
+              L.written L.failures listing.old;
+        })
+        (record {
+          source = read;
+          image = writer I.told I.written I.failures image.new;
+          listing = writer L.told L.written
+              L.failures listing.new;
+        }) result }
 {
     words.write(image, version)?;
     Ok(program.list(listing)?)
@@ -97,8 +128,8 @@ fn no_room_line(bank: Bank) -> ArrayVec<u8, NO_ROOM_LINE>
     line
 }
 
-/// Tells a bank without room for check words, as `agcws: bank 02 has no room for check words: they take 3 places after its last word`,
-/// and answers the exit status of a program that it ends. It takes no memory.
+/// Tells a bank without room for check words, as `agcws: bank 02 has no room for check words: they take 3 places after
+/// its last word`, and answers the exit status of a program that it ends. It takes no memory.
 pub fn report_no_room<W: Write>(bank: Bank, errors: &mut W) -> Result<u8, WorkshopFault>
     ensures written { W.told ≡ true → Writes (W.written errors.old) (W.written errors.new) (no_room_text bank) result }
     ensures failures { W.failures errors.new ≡ failures_after (W.failures errors.old) result }

@@ -39,9 +39,10 @@ impl Tally {
     }
 }
 
-/// Reads a source of a language whole, and writes a line for each fault that does not follow from another, with the source's name and the
-/// line that it stands on, among them a line for each warning, and what is said where it has faults and is a feed or an image, or the same as JSON; it answers
-/// how many of both there are. Labels that no operand names are told of where that is asked for.
+/// Reads a source of a language whole, and writes a line for each fault that does not follow from another, with the
+/// source's name and the line that it stands on, among them a line for each warning, and what is said where it has
+/// faults and is a feed or an image, or the same as JSON; it answers how many of both there are. Labels that no operand
+/// names are told of where that is asked for.
 ///
 /// The source has at most 8,388,608 bytes.
 pub fn check_source<S: Read, W: Write>(
@@ -54,16 +55,25 @@ pub fn check_source<S: Read, W: Write>(
     out: &mut W,
 ) -> Result<Tally, WorkshopFault>
     ensures { Checks (reported notation language name.now unused)
-        (record { input = reader S.told S.left S.failures source.old; out = writer W.told W.written W.failures out.old })
-        (record { input = reader S.told S.left S.failures source.new; out = writer W.told W.written W.failures out.new }) result }
+        (record {
+          input = reader S.told S.left S.failures source.old;
+          out = writer W.told W.written W.failures
+              out.old;
+        })
+        (record {
+          input = reader S.told S.left S.failures source.new;
+          out = writer W.told W.written W.failures
+              out.new;
+        }) result }
 {
     let (text, tally) = read_report(alloc, notation, language, name, unused, source)?;
     write_all(out, &text)?;
     Ok(tally)
 }
 
-/// Reads a feed whole, and writes lines for its first fault, where it has one, with the feed's name and the line that it stands on, and what
-/// is said where it is a source or an image, or the same as JSON; it answers how many faults are told: as `feed::read` answers, none or one.
+/// Reads a feed whole, and writes lines for its first fault, where it has one, with the feed's name and the line that
+/// it stands on, and what is said where it is a source or an image, or the same as JSON; it answers how many faults are
+/// told: as `feed::read` answers, none or one.
 ///
 /// The feed has at most 8,388,608 bytes.
 pub fn check_feed<F: Read, W: Write>(
@@ -75,7 +85,8 @@ pub fn check_feed<F: Read, W: Write>(
 ) -> Result<usize, WorkshopFault>
     ensures { Checks (feed_reported notation name.now)
         (record { input = reader F.told F.left F.failures feed.old; out = writer W.told W.written W.failures out.old })
-        (record { input = reader F.told F.left F.failures feed.new; out = writer W.told W.written W.failures out.new }) result }
+        (record { input = reader F.told F.left F.failures feed.new; out = writer W.told W.written W.failures out.new })
+        result }
 {
     let (lines, count) = read_feed_report(alloc, notation, name, feed)?;
     write_all(out, &lines)?;
@@ -89,7 +100,8 @@ pub fn write_tally<W: Write>(
     tally: &Tally,
     out: &mut W,
 ) -> Result<(), WorkshopFault>
-    ensures { TellsTally notation tally.now (writer W.told W.written W.failures out.old) (writer W.told W.written W.failures out.new) result }
+    ensures { TellsTally notation tally.now (writer W.told W.written W.failures out.old)
+        (writer W.told W.written W.failures out.new) result }
 {
     let text = match counts(alloc, notation, tally.errors, tally.warnings) {
         Ok(text) => text,
@@ -98,7 +110,8 @@ pub fn write_tally<W: Write>(
     Ok(write_all(out, &text)?)
 }
 
-/// The line that tells that a file of this name could not be read, as `my.agc: error E6: a file could not be opened or read`.
+/// The line that tells that a file of this name could not be read, as `my.agc: error E6: a file could not be opened or
+/// read`.
 pub fn unread_text(
     alloc: Global,
     name: &[u8],
@@ -123,7 +136,8 @@ fn read_report<S: Read>(
     source: &mut S,
 ) -> Result<(Vec<u8>, Tally), WorkshopFault>
     ensures { Reads (λ old new. ReadsText (reported notation language name.now unused old) old new)
-        (reader S.told S.left S.failures source.old) (reader S.told S.left S.failures source.new) (result_map_both (λ r. (r.0.items, r.1)) (λ fault. fault) result) }
+        (reader S.told S.left S.failures source.old) (reader S.told S.left S.failures source.new)
+        (result_map_both (λ r. (r.0.items, r.1)) (λ fault. fault) result) }
 {
     let source = read_text(alloc, source, MOST_BYTES)?;
     let findings = findings(alloc, language, &source)?;
@@ -143,8 +157,10 @@ fn told_of(
     source: &[u8],
     findings: &[Finding],
 ) -> Result<(Vec<u8>, Tally), AllocError>
-    ensures text { IfOk result (λ r. r.0.items ≡ report notation language name.now source.now findings.now (warnings language unused source.now)) }
-    ensures count { IfOk result (λ r. r.1 ≡ record { errors = length findings.now; warnings = length (warnings language unused source.now) }) }
+    ensures text { IfOk result (λ r. r.0.items
+        ≡ report notation language name.now source.now findings.now (warnings language unused source.now)) }
+    ensures count { IfOk result (λ r. r.1 ≡ record
+        { errors = length findings.now; warnings = length (warnings language unused source.now) }) }
 {
     let warnings = warnings(alloc, language, source, unused)?;
     let text = report(alloc, notation, language, name, source, findings, &warnings)?;
@@ -163,7 +179,8 @@ fn read_feed_report<F: Read>(
     feed: &mut F,
 ) -> Result<(Vec<u8>, usize), WorkshopFault>
     ensures { Reads (λ old new. ReadsText (feed_reported notation name.now old) old new)
-        (reader F.told F.left F.failures feed.old) (reader F.told F.left F.failures feed.new) (result_map_both (λ r. (r.0.items, r.1)) (λ fault. fault) result) }
+        (reader F.told F.left F.failures feed.old) (reader F.told F.left F.failures feed.new)
+        (result_map_both (λ r. (r.0.items, r.1)) (λ fault. fault) result) }
 {
     let text = read_text(alloc, feed, MOST_BYTES)?;
     match feed_report(alloc, notation, name, &text) {

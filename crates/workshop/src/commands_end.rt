@@ -71,7 +71,8 @@ impl<R: Read> Read for Counted<R> {
     }
 }
 
-/// Writes that commands end, after so many bytes that no more count of those of a session that is not extended. It takes no memory.
+/// Writes that commands end, after so many bytes that no more count of those of a session that is not extended. It
+/// takes no memory.
 pub fn tell_commands_end<W: Write>(bytes: u64, errors: &mut W) -> Result<(), WorkshopFault>
     ensures written { W.told ≡ true → Writes (W.written errors.old) (W.written errors.new) (commands_end bytes) result }
     ensures failures { W.failures errors.new ≡ failures_after (W.failures errors.old) result }

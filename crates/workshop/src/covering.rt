@@ -25,11 +25,12 @@ use trace::PlaceNames;
 use words::{Read, Write, WriteFailed};
 use yayul::{Language, Symbols};
 
-/// Reads a program and then a feed, makes some steps, and writes how often each word was executed and the cycles that this took:
-/// before the rows of a source's listing, or before the words of an image; as JSON in an object of each row.
+/// Reads a program and then a feed, makes some steps, and writes how often each word was executed and the cycles that
+/// this took: before the rows of a source's listing, or before the words of an image; as JSON in an object of each row.
 ///
-/// The first fault of the program is answered, else that of the feed, else that memory ran out, and then nothing is written.
-/// Memory for the figures is taken once, before the first step. After a write that failed a beginning of the text was written.
+/// The first fault of the program is answered, else that of the feed, else that memory ran out, and then nothing is
+/// written. Memory for the figures is taken once, before the first step. After a write that failed a beginning of the
+/// text was written.
 ///
 /// It is told after each 2^20 steps how many were made, as `run_and_tell` tells it.
 pub fn cover_program<P: Read, F: Read, W: Write, T: Write>(
@@ -44,9 +45,24 @@ pub fn cover_program<P: Read, F: Read, W: Write, T: Write>(
 ) -> Result<(), WorkshopFault>
     requires { steps ≤ 2 ^ 40 - 2 }
     ensures covers { Covers notation origin steps
-        (record { files = record { program = reader P.told P.left P.failures program.old; feed = reader F.told F.left F.failures feed.old }; out = writer W.told W.written W.failures out.old })
-        (record { files = record { program = reader P.told P.left P.failures program.new; feed = reader F.told F.left F.failures feed.new }; out = writer W.told W.written W.failures out.new }) result }
-    ensures progress { TellsProfile steps (writer T.told T.written T.failures progress.old) (writer T.told T.written T.failures progress.new) result }
+        (record {
+          files = record {
+            program = reader P.told P.left P.failures program.old;
+            feed = reader F.told F.left
+                F.failures feed.old;
+          };
+          out = writer W.told W.written W.failures out.old;
+        })
+        (record {
+          files = record {
+            program = reader P.told P.left P.failures program.new;
+            feed = reader F.told F.left
+                F.failures feed.new;
+          };
+          out = writer W.told W.written W.failures out.new;
+        }) result }
+    ensures progress { TellsProfile steps (writer T.told T.written T.failures progress.old)
+        (writer T.told T.written T.failures progress.new) result }
 {
     let (rope, rows) = read_subject(alloc, notation, origin, program)?;
     let mut processor = Processor::new(rope, read_feed(alloc, feed)?);
@@ -134,7 +150,8 @@ fn cover<W: Write, T: Write>(
     requires { steps ≤ 2 ^ 40 - 2 }
     ensures covers { CoversRun notation rows.now processor.old.scenario steps
         (writer W.told W.written W.failures out.old) (writer W.told W.written W.failures out.new) result }
-    ensures progress { TellsProfile steps (writer T.told T.written T.failures progress.old) (writer T.told T.written T.failures progress.new) result }
+    ensures progress { TellsProfile steps (writer T.told T.written T.failures progress.old)
+        (writer T.told T.written T.failures progress.new) result }
 {
     let Ok(mut tally) = Tally::new(alloc) else {
         return Err(WorkshopFault::NoMemory);
@@ -157,7 +174,8 @@ fn write_profile<W: Write>(
     rows: &Shown,
     out: &mut W,
 ) -> Result<(), WriteFailed>
-    ensures written { W.told ≡ true → Writes (W.written out.old) (W.written out.new) (profile_text notation (figures_at tally.now) total rope.now rows.now) result }
+    ensures written { W.told ≡ true → Writes (W.written out.old) (W.written out.new)
+        (profile_text notation (figures_at tally.now) total rope.now rows.now) result }
     ensures failures { W.failures out.new ≡ failures_after (W.failures out.old) result }
 {
     match rows {
@@ -182,7 +200,8 @@ fn make_steps<T: Write>(
     ensures cycles { result ≡ (run processor.old.scenario steps).cycles }
     ensures adds_up { AllAddUp processor.old.scenario steps }
     ensures shown_add_up { ShownAddUp processor.old.scenario steps }
-    ensures progress { TellsAll steps (writer T.told T.written T.failures progress.old) (writer T.told T.written T.failures progress.new) }
+    ensures progress { TellsAll steps (writer T.told T.written T.failures progress.old)
+        (writer T.told T.written T.failures progress.new) }
 {
     let mut machine = Machine::start();
     let mut told = Ok(());

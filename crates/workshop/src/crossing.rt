@@ -9,15 +9,16 @@ use words::Write;
 use xref::{mentions, write_cross_reference};
 use yayul::Language;
 
-/// Writes the cross-reference of a source of a language: for each name that a line defines, in the order of the lines, a row for each line that
-/// mentions it, with what it does with it. All memory is taken before anything is written.
+/// Writes the cross-reference of a source of a language: for each name that a line defines, in the order of the lines,
+/// a row for each line that mentions it, with what it does with it. All memory is taken before anything is written.
 pub fn xref_engine<W: Write>(
     alloc: Global,
     language: Language,
     source: &[u8],
     out: &mut W,
 ) -> Result<(), WorkshopFault>
-    ensures { CrossReferences language source.now (writer W.told W.written W.failures out.old) (writer W.told W.written W.failures out.new) result }
+    ensures { CrossReferences language source.now (writer W.told W.written W.failures out.old)
+        (writer W.told W.written W.failures out.new) result }
 {
     let Ok(found) = mentions(alloc, language, source) else {
         return Err(WorkshopFault::NoMemory);

@@ -36,17 +36,26 @@ pub fn open_session<S: Read, F: Read>(
     feed: &mut F,
 ) -> Result<Opened, WorkshopFault>
     ensures opens { Opens (Origin.Source Standard)
-        (record { program = reader S.told S.left S.failures source.old; feed = reader F.told F.left F.failures feed.old })
-        (record { program = reader S.told S.left S.failures source.new; feed = reader F.told F.left F.failures feed.new }) result }
+        (record {
+          program = reader S.told S.left S.failures source.old;
+          feed = reader F.told F.left F.failures
+              feed.old;
+        })
+        (record {
+          program = reader S.told S.left S.failures source.new;
+          feed = reader F.told F.left F.failures
+              feed.new;
+        }) result }
     ensures start { IfOk result (λ o. o.session.n ≡ 0) }
 {
     open_program(alloc, Origin::Source(Language::Standard), source, feed)
 }
 
-/// Reads a program and then a feed, and opens a session over them that has made no step. Its images stand in slots, which are
-/// all made here, so that no step is refused for memory.
+/// Reads a program and then a feed, and opens a session over them that has made no step. Its images stand in slots,
+/// which are all made here, so that no step is refused for memory.
 ///
-/// A source and a feed have at most 8,388,608 bytes each. The first fault of the program is answered, else that of the feed.
+/// A source and a feed have at most 8,388,608 bytes each. The first fault of the program is answered, else that of the
+/// feed.
 pub fn open_program<P: Read, F: Read>(
     alloc: Global,
     origin: Origin,
@@ -54,8 +63,16 @@ pub fn open_program<P: Read, F: Read>(
     feed: &mut F,
 ) -> Result<Opened, WorkshopFault>
     ensures opens { Opens origin
-        (record { program = reader P.told P.left P.failures program.old; feed = reader F.told F.left F.failures feed.old })
-        (record { program = reader P.told P.left P.failures program.new; feed = reader F.told F.left F.failures feed.new }) result }
+        (record {
+          program = reader P.told P.left P.failures program.old;
+          feed = reader F.told F.left F.failures
+              feed.old;
+        })
+        (record {
+          program = reader P.told P.left P.failures program.new;
+          feed = reader F.told F.left F.failures
+              feed.new;
+        }) result }
     ensures start { IfOk result (λ o. o.session.n ≡ 0) }
 {
     let loaded = load(alloc, origin, program, feed)?;
@@ -87,8 +104,26 @@ pub fn debug_engine<S: Read, F: Read, R: Read, W: Write>(
     out: &mut W,
 ) -> Result<(), WorkshopFault>
     ensures { DebugsProgram (Origin.Source Standard)
-        (record { files = record { program = reader S.told S.left S.failures source.old; feed = reader F.told F.left F.failures feed.old }; commands = reader R.told R.left R.failures commands.old; out = writer W.told W.written W.failures out.old })
-        (record { files = record { program = reader S.told S.left S.failures source.new; feed = reader F.told F.left F.failures feed.new }; commands = reader R.told R.left R.failures commands.new; out = writer W.told W.written W.failures out.new }) result }
+        (record {
+          files = record {
+            program = reader S.told S.left S.failures source.old;
+            feed = reader F.told F.left
+                F.failures feed.old;
+          };
+          commands = reader R.told R.left R.failures commands.old;
+          out = writer W.told
+              W.written W.failures out.old;
+        })
+        (record {
+          files = record {
+            program = reader S.told S.left S.failures source.new;
+            feed = reader F.told F.left
+                F.failures feed.new;
+          };
+          commands = reader R.told R.left R.failures commands.new;
+          out = writer W.told
+              W.written W.failures out.new;
+        }) result }
 {
     debug_program(
         alloc,
@@ -100,7 +135,8 @@ pub fn debug_engine<S: Read, F: Read, R: Read, W: Write>(
     )
 }
 
-/// Reads a rope image of a version to its end, reads the feed, and answers the commands over the words of the image: see
+/// Reads a rope image of a version to its end, reads the feed, and answers the commands over the words of the image:
+/// see
 /// `debug_program`. There are no symbols.
 pub fn debug_image_engine<I: Read, F: Read, R: Read, W: Write>(
     alloc: Global,
@@ -111,16 +147,35 @@ pub fn debug_image_engine<I: Read, F: Read, R: Read, W: Write>(
     out: &mut W,
 ) -> Result<(), WorkshopFault>
     ensures { DebugsProgram (Origin.Image version)
-        (record { files = record { program = reader I.told I.left I.failures image.old; feed = reader F.told F.left F.failures feed.old }; commands = reader R.told R.left R.failures commands.old; out = writer W.told W.written W.failures out.old })
-        (record { files = record { program = reader I.told I.left I.failures image.new; feed = reader F.told F.left F.failures feed.new }; commands = reader R.told R.left R.failures commands.new; out = writer W.told W.written W.failures out.new }) result }
+        (record {
+          files = record {
+            program = reader I.told I.left I.failures image.old;
+            feed = reader F.told F.left
+                F.failures feed.old;
+          };
+          commands = reader R.told R.left R.failures commands.old;
+          out = writer W.told
+              W.written W.failures out.old;
+        })
+        (record {
+          files = record {
+            program = reader I.told I.left I.failures image.new;
+            feed = reader F.told F.left
+                F.failures feed.new;
+          };
+          commands = reader R.told R.left R.failures commands.new;
+          out = writer W.told
+              W.written W.failures out.new;
+        }) result }
 {
     debug_program(alloc, Origin::Image(version), image, feed, commands, out)
 }
 
 /// Reads a program and then a feed, and answers the commands over a session of them: see `debug_session`.
 ///
-/// The first fault of the program is answered, else that of the feed; then no command is read, and nothing written. After a
-/// failed read of the commands the replies to the whole lines before stand, after a failed write a beginning of the transcript.
+/// The first fault of the program is answered, else that of the feed; then no command is read, and nothing written.
+/// After a failed read of the commands the replies to the whole lines before stand, after a failed write a beginning of
+/// the transcript.
 pub fn debug_program<P: Read, F: Read, R: Read, W: Write>(
     alloc: Global,
     origin: Origin,
@@ -130,8 +185,26 @@ pub fn debug_program<P: Read, F: Read, R: Read, W: Write>(
     out: &mut W,
 ) -> Result<(), WorkshopFault>
     ensures { DebugsProgram origin
-        (record { files = record { program = reader P.told P.left P.failures program.old; feed = reader F.told F.left F.failures feed.old }; commands = reader R.told R.left R.failures commands.old; out = writer W.told W.written W.failures out.old })
-        (record { files = record { program = reader P.told P.left P.failures program.new; feed = reader F.told F.left F.failures feed.new }; commands = reader R.told R.left R.failures commands.new; out = writer W.told W.written W.failures out.new }) result }
+        (record {
+          files = record {
+            program = reader P.told P.left P.failures program.old;
+            feed = reader F.told F.left
+                F.failures feed.old;
+          };
+          commands = reader R.told R.left R.failures commands.old;
+          out = writer W.told
+              W.written W.failures out.old;
+        })
+        (record {
+          files = record {
+            program = reader P.told P.left P.failures program.new;
+            feed = reader F.told F.left
+                F.failures feed.new;
+          };
+          commands = reader R.told R.left R.failures commands.new;
+          out = writer W.told
+              W.written W.failures out.new;
+        }) result }
 {
     let mut opened = open_program(alloc, origin, program, feed)?;
     debug_session(alloc, &mut opened.session, &opened.symbols, commands, out)?;
@@ -148,8 +221,26 @@ pub fn debug_extended<P: Read, F: Read, R: Read, W: Write>(
     out: &mut W,
 ) -> Result<(), WorkshopFault>
     ensures { DebugsExtended origin
-        (record { files = record { program = reader P.told P.left P.failures program.old; feed = reader F.told F.left F.failures feed.old }; commands = reader R.told R.left R.failures commands.old; out = writer W.told W.written W.failures out.old })
-        (record { files = record { program = reader P.told P.left P.failures program.new; feed = reader F.told F.left F.failures feed.new }; commands = reader R.told R.left R.failures commands.new; out = writer W.told W.written W.failures out.new }) result }
+        (record {
+          files = record {
+            program = reader P.told P.left P.failures program.old;
+            feed = reader F.told F.left
+                F.failures feed.old;
+          };
+          commands = reader R.told R.left R.failures commands.old;
+          out = writer W.told
+              W.written W.failures out.old;
+        })
+        (record {
+          files = record {
+            program = reader P.told P.left P.failures program.new;
+            feed = reader F.told F.left
+                F.failures feed.new;
+          };
+          commands = reader R.told R.left R.failures commands.new;
+          out = writer W.told
+              W.written W.failures out.new;
+        }) result }
 {
     let loaded = load(alloc, origin, program, feed)?;
     let (mut begun, rows) = open_loaded(alloc, loaded)?;
@@ -164,11 +255,11 @@ pub fn debug_extended<P: Read, F: Read, R: Read, W: Write>(
     Ok(())
 }
 
-/// Assembles the source, reads the feed, opens a session over them, makes the calls in order, refused ones among them, tells
-/// the observer each with its answer, and answers how many steps the session has gone then.
+/// Assembles the source, reads the feed, opens a session over them, makes the calls in order, refused ones among them,
+/// tells the observer each with its answer, and answers how many steps the session has gone then.
 ///
-/// What the observer is told is what `follow` tells it: each call with its answer, by the reference run. How many machines are
-/// held and how many steps executed is said by `follow` alone, of the session that its caller keeps.
+/// What the observer is told is what `follow` tells it: each call with its answer, by the reference run. How many
+/// machines are held and how many steps executed is said by `follow` alone, of the session that its caller keeps.
 ///
 /// Where no session is opened, why is answered as `open_session` answers it, and the observer is as it was.
 pub fn follow_source<S: Read, F: Read, H: Fn(&Machine) -> bool, O: Observer>(
@@ -181,11 +272,23 @@ pub fn follow_source<S: Read, F: Read, H: Fn(&Machine) -> bool, O: Observer>(
 ) -> Result<u64, WorkshopFault>
     requires callable { H.IsAlwaysCallable hit.now }
     requires allowed { All IsAllowed calls.now }
-    ensures travel { S.told ≡ true → F.told ≡ true → IfOk result (λ n. IsOkAnd (prepared (S.left source.old) (F.left feed.old)) (λ l. Travels l (Hears O.Watcher.sees O.Observer.sees) (FnReturnsAt H.Fn hit.now) calls.now observer.old observer.new n)) }
-    ensures fault { S.told ≡ true → F.told ≡ true → IfErr result (λ fault. Tells (prepared (S.left source.old) (F.left feed.old)) (Err fault)) }
+    ensures travel { S.told ≡ true → F.told ≡ true
+        → IfOk result (λ n. IsOkAnd (prepared (S.left source.old) (F.left feed.old))
+        (λ l. Travels l (Hears O.Watcher.sees O.Observer.sees) (FnReturnsAt H.Fn hit.now) calls.now observer.old
+        observer.new n)) }
+    ensures fault { S.told ≡ true → F.told ≡ true
+        → IfErr result (λ fault. Tells (prepared (S.left source.old) (F.left feed.old)) (Err fault)) }
     ensures follows { Follows
-        (record { program = reader S.told S.left S.failures source.old; feed = reader F.told F.left F.failures feed.old })
-        (record { program = reader S.told S.left S.failures source.new; feed = reader F.told F.left F.failures feed.new }) observer.old observer.new result }
+        (record {
+          program = reader S.told S.left S.failures source.old;
+          feed = reader F.told F.left F.failures
+              feed.old;
+        })
+        (record {
+          program = reader S.told S.left S.failures source.new;
+          feed = reader F.told F.left F.failures
+              feed.new;
+        }) observer.old observer.new result }
 {
     let mut opened = open_session(alloc, source, feed)?;
     Ok(follow(&mut opened.session, calls, hit, observer))

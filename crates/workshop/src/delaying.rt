@@ -19,10 +19,11 @@ use std::alloc::Global;
 use trace::PlaceNames;
 use words::{Read, Write};
 
-/// Reads a program and then a feed, makes some steps, and writes how long each interrupt waited, and for how long none could come.
+/// Reads a program and then a feed, makes some steps, and writes how long each interrupt waited, and for how long none
+/// could come.
 ///
-/// The first fault of the program is answered, else that of the feed, else that memory ran out, and then nothing is written.
-/// Memory is taken once, before the first step. After a write that failed a beginning of the text was written.
+/// The first fault of the program is answered, else that of the feed, else that memory ran out, and then nothing is
+/// written. Memory is taken once, before the first step. After a write that failed a beginning of the text was written.
 ///
 /// It is told after each 2^20 steps how many were made, as `run_and_tell` tells it.
 pub fn delays_program<P: Read, F: Read, W: Write, T: Write>(
@@ -36,9 +37,24 @@ pub fn delays_program<P: Read, F: Read, W: Write, T: Write>(
 ) -> Result<(), WorkshopFault>
     requires { steps ≤ 2 ^ 40 - 2 }
     ensures delays { TellsDelays origin steps
-        (record { files = record { program = reader P.told P.left P.failures program.old; feed = reader F.told F.left F.failures feed.old }; out = writer W.told W.written W.failures out.old })
-        (record { files = record { program = reader P.told P.left P.failures program.new; feed = reader F.told F.left F.failures feed.new }; out = writer W.told W.written W.failures out.new }) result }
-    ensures progress { TellsProfile steps (writer T.told T.written T.failures progress.old) (writer T.told T.written T.failures progress.new) result }
+        (record {
+          files = record {
+            program = reader P.told P.left P.failures program.old;
+            feed = reader F.told F.left
+                F.failures feed.old;
+          };
+          out = writer W.told W.written W.failures out.old;
+        })
+        (record {
+          files = record {
+            program = reader P.told P.left P.failures program.new;
+            feed = reader F.told F.left
+                F.failures feed.new;
+          };
+          out = writer W.told W.written W.failures out.new;
+        }) result }
+    ensures progress { TellsProfile steps (writer T.told T.written T.failures progress.old)
+        (writer T.told T.written T.failures progress.new) result }
 {
     let loaded = load(alloc, origin, program, feed)?;
     delays(alloc, loaded, steps, out, progress)
@@ -55,7 +71,8 @@ fn delays<W: Write, T: Write>(
     requires { steps ≤ 2 ^ 40 - 2 }
     ensures delays { DelaysRun loaded.symbols (scenario_of loaded) steps
         (writer W.told W.written W.failures out.old) (writer W.told W.written W.failures out.new) result }
-    ensures progress { TellsProfile steps (writer T.told T.written T.failures progress.old) (writer T.told T.written T.failures progress.new) result }
+    ensures progress { TellsProfile steps (writer T.told T.written T.failures progress.old)
+        (writer T.told T.written T.failures progress.new) result }
 {
     let Ok(names) = PlaceNames::new(alloc, loaded.symbols) else {
         return Err(WorkshopFault::NoMemory);
@@ -76,7 +93,8 @@ fn make_steps<T: Write>(processor: &mut Processor, kept: &mut Delays, steps: u64
     ensures scenario { processor.new.scenario ≡ processor.old.scenario }
     ensures measures { Measures processor.old.scenario steps kept.new }
     ensures adds_up { CyclesAddUp processor.old.scenario steps }
-    ensures progress { TellsAll steps (writer T.told T.written T.failures progress.old) (writer T.told T.written T.failures progress.new) }
+    ensures progress { TellsAll steps (writer T.told T.written T.failures progress.old)
+        (writer T.told T.written T.failures progress.new) }
 {
     let mut machine = Machine::start();
     let mut told = Ok(());

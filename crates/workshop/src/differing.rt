@@ -14,11 +14,12 @@ use std::alloc::{AllocError, Global};
 use trace::PlaceNames;
 use words::{Read, Write};
 
-/// Reads a program and its feed, and then another with its own, and writes where their runs of some steps part: see `write_differ`.
+/// Reads a program and its feed, and then another with its own, and writes where their runs of some steps part: see
+/// `write_differ`.
 ///
-/// The first fault of the first program is answered, else that of its feed, else that of the other program, else that of its feed, else
-/// that memory ran out, and then nothing is written. No memory is taken for the steps. After a write that failed a beginning of the text
-/// was written.
+/// The first fault of the first program is answered, else that of its feed, else that of the other program, else that
+/// of its feed, else that memory ran out, and then nothing is written. No memory is taken for the steps. After a write
+/// that failed a beginning of the text was written.
 pub fn differ_program<P: Read, F: Read, Q: Read, G: Read, W: Write>(
     alloc: Global,
     origin: Origin,
@@ -32,8 +33,32 @@ pub fn differ_program<P: Read, F: Read, Q: Read, G: Read, W: Write>(
 ) -> Result<(), WorkshopFault>
     requires { steps ≤ 2 ^ 40 - 2 }
     ensures { TellsDiffer origin other_origin steps
-        (record { one = record { program = reader P.told P.left P.failures program.old; feed = reader F.told F.left F.failures feed.old }; other = record { program = reader Q.told Q.left Q.failures other.old; feed = reader G.told G.left G.failures other_feed.old }; out = writer W.told W.written W.failures out.old })
-        (record { one = record { program = reader P.told P.left P.failures program.new; feed = reader F.told F.left F.failures feed.new }; other = record { program = reader Q.told Q.left Q.failures other.new; feed = reader G.told G.left G.failures other_feed.new }; out = writer W.told W.written W.failures out.new }) result }
+        (record {
+          one = record {
+            program = reader P.told P.left P.failures program.old;
+            feed = reader F.told F.left
+                F.failures feed.old;
+          };
+          other = record {
+            program = reader Q.told Q.left Q.failures other.old;
+            feed = reader G.told G.left G.failures
+                other_feed.old;
+          };
+          out = writer W.told W.written W.failures out.old;
+        })
+        (record {
+          one = record {
+            program = reader P.told P.left P.failures program.new;
+            feed = reader F.told F.left
+                F.failures feed.new;
+          };
+          other = record {
+            program = reader Q.told Q.left Q.failures other.new;
+            feed = reader G.told G.left G.failures
+                other_feed.new;
+          };
+          out = writer W.told W.written W.failures out.new;
+        }) result }
 {
     let loaded = load(alloc, origin, program, feed)?;
     differ_beside(alloc, loaded, other_origin, other, other_feed, steps, out)
@@ -51,8 +76,22 @@ fn differ_beside<Q: Read, G: Read, W: Write>(
 ) -> Result<(), WorkshopFault>
     requires { steps ≤ 2 ^ 40 - 2 }
     ensures { TellsBeside origin (named_of loaded) steps
-        (record { files = record { program = reader Q.told Q.left Q.failures other.old; feed = reader G.told G.left G.failures feed.old }; out = writer W.told W.written W.failures out.old })
-        (record { files = record { program = reader Q.told Q.left Q.failures other.new; feed = reader G.told G.left G.failures feed.new }; out = writer W.told W.written W.failures out.new }) result }
+        (record {
+          files = record {
+            program = reader Q.told Q.left Q.failures other.old;
+            feed = reader G.told G.left
+                G.failures feed.old;
+          };
+          out = writer W.told W.written W.failures out.old;
+        })
+        (record {
+          files = record {
+            program = reader Q.told Q.left Q.failures other.new;
+            feed = reader G.told G.left
+                G.failures feed.new;
+          };
+          out = writer W.told W.written W.failures out.new;
+        }) result }
 {
     let beside = load(alloc, origin, other, feed)?;
     differ(alloc, loaded, beside, steps, out)

@@ -57,8 +57,22 @@ pub fn run_engine<S: Read, F: Read, W: Write>(
 ) -> Result<Summary, WorkshopFault>
     requires { steps ≤ 2 ^ 40 - 2 }
     ensures runs { Runs (Origin.Source Standard) steps
-        (record { files = record { program = reader S.told S.left S.failures source.old; feed = reader F.told F.left F.failures feed.old }; out = writer W.told W.written W.failures out.old })
-        (record { files = record { program = reader S.told S.left S.failures source.new; feed = reader F.told F.left F.failures feed.new }; out = writer W.told W.written W.failures out.new }) result }
+        (record {
+          files = record {
+            program = reader S.told S.left S.failures source.old;
+            feed = reader F.told F.left
+                F.failures feed.old;
+          };
+          out = writer W.told W.written W.failures out.old;
+        })
+        (record {
+          files = record {
+            program = reader S.told S.left S.failures source.new;
+            feed = reader F.told F.left
+                F.failures feed.new;
+          };
+          out = writer W.told W.written W.failures out.new;
+        }) result }
     ensures handed_on { W.told ≡ true → 0 < steps → OnOk result (W.handed_on out.new ≡ W.written out.new) }
 {
     run_program(
@@ -83,8 +97,22 @@ pub fn run_image_engine<I: Read, F: Read, W: Write>(
 ) -> Result<Summary, WorkshopFault>
     requires { steps ≤ 2 ^ 40 - 2 }
     ensures runs { Runs (Origin.Image version) steps
-        (record { files = record { program = reader I.told I.left I.failures image.old; feed = reader F.told F.left F.failures feed.old }; out = writer W.told W.written W.failures out.old })
-        (record { files = record { program = reader I.told I.left I.failures image.new; feed = reader F.told F.left F.failures feed.new }; out = writer W.told W.written W.failures out.new }) result }
+        (record {
+          files = record {
+            program = reader I.told I.left I.failures image.old;
+            feed = reader F.told F.left
+                F.failures feed.old;
+          };
+          out = writer W.told W.written W.failures out.old;
+        })
+        (record {
+          files = record {
+            program = reader I.told I.left I.failures image.new;
+            feed = reader F.told F.left
+                F.failures feed.new;
+          };
+          out = writer W.told W.written W.failures out.new;
+        }) result }
     ensures handed_on { W.told ≡ true → 0 < steps → OnOk result (W.handed_on out.new ≡ W.written out.new) }
 {
     run_program(alloc, Origin::Image(version), image, feed, steps, out)
@@ -93,8 +121,8 @@ pub fn run_image_engine<I: Read, F: Read, W: Write>(
 /// Reads a program and then a feed, and runs the program for some steps: the line of each output is written, as
 /// `7 CH 010 00012` with the cycles, the channel and the word.
 ///
-/// A source and a feed have at most 8,388,608 bytes each. The first fault of the program is answered, else that of the feed,
-/// and then nothing is written. Lines are handed on while it goes, and all of them where it has made its steps.
+/// A source and a feed have at most 8,388,608 bytes each. The first fault of the program is answered, else that of the
+/// feed, and then nothing is written. Lines are handed on while it goes, and all of them where it has made its steps.
 pub fn run_program<P: Read, F: Read, W: Write>(
     alloc: Global,
     origin: Origin,
@@ -105,15 +133,30 @@ pub fn run_program<P: Read, F: Read, W: Write>(
 ) -> Result<Summary, WorkshopFault>
     requires { steps ≤ 2 ^ 40 - 2 }
     ensures runs { Runs origin steps
-        (record { files = record { program = reader P.told P.left P.failures program.old; feed = reader F.told F.left F.failures feed.old }; out = writer W.told W.written W.failures out.old })
-        (record { files = record { program = reader P.told P.left P.failures program.new; feed = reader F.told F.left F.failures feed.new }; out = writer W.told W.written W.failures out.new }) result }
+        (record {
+          files = record {
+            program = reader P.told P.left P.failures program.old;
+            feed = reader F.told F.left
+                F.failures feed.old;
+          };
+          out = writer W.told W.written W.failures out.old;
+        })
+        (record {
+          files = record {
+            program = reader P.told P.left P.failures program.new;
+            feed = reader F.told F.left
+                F.failures feed.new;
+          };
+          out = writer W.told W.written W.failures out.new;
+        }) result }
     ensures handed_on { W.told ≡ true → 0 < steps → OnOk result (W.handed_on out.new ≡ W.written out.new) }
 {
     run_and_tell(alloc, origin, program, feed, steps, out, &mut Unheard)
 }
 
-/// Reads a program and then a feed, and runs the program for some steps, as `run_program` does; and tells after each 2^20 steps
-/// how many were made, as `agcws: STEPS 1048576`. A write that fails there is no fault of the run: nothing more is told.
+/// Reads a program and then a feed, and runs the program for some steps, as `run_program` does; and tells after each
+/// 2^20 steps how many were made, as `agcws: STEPS 1048576`. A write that fails there is no fault of the run: nothing
+/// more is told.
 pub fn run_and_tell<P: Read, F: Read, W: Write, T: Write>(
     alloc: Global,
     origin: Origin,
@@ -125,14 +168,44 @@ pub fn run_and_tell<P: Read, F: Read, W: Write, T: Write>(
 ) -> Result<Summary, WorkshopFault>
     requires { steps ≤ 2 ^ 40 - 2 }
     ensures runs { Runs origin steps
-        (record { files = record { program = reader P.told P.left P.failures program.old; feed = reader F.told F.left F.failures feed.old }; out = writer W.told W.written W.failures out.old })
-        (record { files = record { program = reader P.told P.left P.failures program.new; feed = reader F.told F.left F.failures feed.new }; out = writer W.told W.written W.failures out.new }) result }
+        (record {
+          files = record {
+            program = reader P.told P.left P.failures program.old;
+            feed = reader F.told F.left
+                F.failures feed.old;
+          };
+          out = writer W.told W.written W.failures out.old;
+        })
+        (record {
+          files = record {
+            program = reader P.told P.left P.failures program.new;
+            feed = reader F.told F.left
+                F.failures feed.new;
+          };
+          out = writer W.told W.written W.failures out.new;
+        }) result }
     ensures handed_on { W.told ≡ true → 0 < steps → OnOk result (W.handed_on out.new ≡ W.written out.new) }
     ensures progress { TellsLoaded loaded_text origin steps
-        (record { program = reader P.told P.left P.failures program.old; feed = reader F.told F.left F.failures feed.old })
-        (record { program = reader P.told P.left P.failures program.new; feed = reader F.told F.left F.failures feed.new })
-        (record { out = writer W.told W.written W.failures out.old; progress = writer T.told T.written T.failures progress.old })
-        (record { out = writer W.told W.written W.failures out.new; progress = writer T.told T.written T.failures progress.new }) result }
+        (record {
+          program = reader P.told P.left P.failures program.old;
+          feed = reader F.told F.left F.failures
+              feed.old;
+        })
+        (record {
+          program = reader P.told P.left P.failures program.new;
+          feed = reader F.told F.left F.failures
+              feed.new;
+        })
+        (record {
+          out = writer W.told W.written W.failures out.old;
+          progress = writer T.told T.written T.failures
+              progress.old;
+        })
+        (record {
+          out = writer W.told W.written W.failures out.new;
+          progress = writer T.told T.written T.failures
+              progress.new;
+        }) result }
 {
     let loaded = load(alloc, origin, program, feed)?;
     let mut processor = Processor::new(loaded.rope, loaded.feed);
@@ -142,8 +215,8 @@ pub fn run_and_tell<P: Read, F: Read, W: Write, T: Write>(
 /// The most steps that are made before the lines written so far are handed on.
 pub(crate) const STEPS_BETWEEN_FLUSHES: u64 = 1 << 20;
 
-/// Makes some steps from the start, and writes the lines of what they put out. Lines are handed on while it goes, so that
-/// those of a long run are seen, and stand where it is broken off.
+/// Makes some steps from the start, and writes the lines of what they put out. Lines are handed on while it goes, so
+/// that those of a long run are seen, and stand where it is broken off.
 fn run<W: Write, T: Write>(
     processor: &mut Processor,
     steps: u64,
@@ -155,8 +228,16 @@ fn run<W: Write, T: Write>(
         (writer W.told W.written W.failures out.old) (writer W.told W.written W.failures out.new) result }
     ensures handed_on { W.told ≡ true → 0 < steps → OnOk result (W.handed_on out.new ≡ W.written out.new) }
     ensures progress { TellsWritten (run_text processor.old.scenario) steps
-        (record { out = writer W.told W.written W.failures out.old; progress = writer T.told T.written T.failures progress.old })
-        (record { out = writer W.told W.written W.failures out.new; progress = writer T.told T.written T.failures progress.new }) result }
+        (record {
+          out = writer W.told W.written W.failures out.old;
+          progress = writer T.told T.written T.failures
+              progress.old;
+        })
+        (record {
+          out = writer W.told W.written W.failures out.new;
+          progress = writer T.told T.written T.failures
+              progress.new;
+        }) result }
 {
     let mut machine = Machine::start();
     let mut outputs = 0;
@@ -208,7 +289,8 @@ pub(crate) fn step_and_write<W: Write>(
     ensures count { OnOk result (lines.new ≡ lines.old + length (outputs_after processor.old.scenario machine.old)) }
     ensures at_most_one { OnOk result (lines.new ≤ lines.old + 1) }
     ensures written { W.told ≡ true →
-        Writes (W.written out.old) (W.written out.new) (channel_lines (outputs_after processor.old.scenario machine.old)) result }
+        Writes (W.written out.old) (W.written out.new)
+        (channel_lines (outputs_after processor.old.scenario machine.old)) result }
     ensures failures { W.failures out.new ≡ failures_after (W.failures out.old) result }
     ensures meter { processor.new.meter ≤ processor.old.meter + 1 }
 {
@@ -222,7 +304,8 @@ fn write_put<W: Write>(put: Option<Output>, lines: &mut u64, out: &mut W) -> Res
     requires room { lines.old < 2 ^ 63 }
     ensures count { OnOk result (lines.new ≡ lines.old + length (option_to_list put)) }
     ensures at_most_one { OnOk result (lines.new ≤ lines.old + 1) }
-    ensures written { W.told ≡ true → Writes (W.written out.old) (W.written out.new) (channel_lines (option_to_list put)) result }
+    ensures written { W.told ≡ true → Writes (W.written out.old) (W.written out.new)
+        (channel_lines (option_to_list put)) result }
     ensures failures { W.failures out.new ≡ failures_after (W.failures out.old) result }
 {
     match put {

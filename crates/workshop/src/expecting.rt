@@ -28,11 +28,11 @@ pub enum Judged {
     Met(bool),
 }
 
-/// Reads a source and then a feed, makes the steps of a text of tests, each once, and writes for each test whether the run bears it
-/// out: see `write_verdicts`.
+/// Reads a source and then a feed, makes the steps of a text of tests, each once, and writes for each test whether the
+/// run bears it out: see `write_verdicts`.
 ///
-/// The first fault of the source is answered, else that of the feed, else the first line of the text that is refused, or that memory
-/// ran out, and then nothing is written.
+/// The first fault of the source is answered, else that of the feed, else the first line of the text that is refused,
+/// or that memory ran out, and then nothing is written.
 pub fn judge_program<P: Read, F: Read, W: Write>(
     alloc: Global,
     tests: &Expectation<'_>,
@@ -43,8 +43,22 @@ pub fn judge_program<P: Read, F: Read, W: Write>(
     requires steps { tests.now.steps ≤ 2 ^ 40 - 2 }
     requires short { tests.now.line + length tests.now.tests.now ≤ 2 ^ 20 }
     ensures { Judges tests.now.steps (statements tests.now.line (lines tests.now.tests.now))
-        (record { files = record { program = reader P.told P.left P.failures program.old; feed = reader F.told F.left F.failures feed.old }; out = writer W.told W.written W.failures out.old })
-        (record { files = record { program = reader P.told P.left P.failures program.new; feed = reader F.told F.left F.failures feed.new }; out = writer W.told W.written W.failures out.new }) result }
+        (record {
+          files = record {
+            program = reader P.told P.left P.failures program.old;
+            feed = reader F.told F.left
+                F.failures feed.old;
+          };
+          out = writer W.told W.written W.failures out.old;
+        })
+        (record {
+          files = record {
+            program = reader P.told P.left P.failures program.new;
+            feed = reader F.told F.left
+                F.failures feed.new;
+          };
+          out = writer W.told W.written W.failures out.new;
+        }) result }
 {
     let loaded = load(alloc, Origin::Source(Language::Standard), program, feed)?;
     let claims = match claims_in(alloc, &loaded.symbols, tests.line, tests.tests) {
@@ -66,7 +80,8 @@ fn judge_claims<W: Write>(
 ) -> Result<Judged, WorkshopFault>
     requires steps { tests.now.steps ≤ 2 ^ 40 - 2 }
     requires short { tests.now.line + length tests.now.tests.now ≤ 2 ^ 20 }
-    ensures { JudgesClaims processor.old.scenario tests.now.steps (statements tests.now.line (lines tests.now.tests.now)) claims.now
+    ensures { JudgesClaims processor.old.scenario tests.now.steps
+        (statements tests.now.line (lines tests.now.tests.now)) claims.now
         (writer W.told W.written W.failures out.old) (writer W.told W.written W.failures out.new) result }
 {
     let Ok(watches) = judge(alloc, processor, claims, tests.steps) else {

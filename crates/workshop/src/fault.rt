@@ -4,7 +4,8 @@ ghost use Rattle.std.specs.Prelude.{◌≡◌, ◌≤◌, ◌+◌, ◌++◌, Som
 ghost use Rattle.arrayvec.specs.ArrayVec.{array_vec_len};
 ghost use Rattle.words.specs.Devices.{Writes, failures_after};
 ghost use Rattle.feed.specs.Faults.{line_text};
-ghost use Rattle.workshop.specs.Faults.{number_of, line_of, fault_text, status_of, of_debug_fault, of_feed_fault, of_read_fault, of_rope_fault, of_source_fault, of_table_fault};
+ghost use Rattle.workshop.specs.Faults.{number_of, line_of, fault_text, status_of, of_debug_fault, of_feed_fault};
+ghost use Rattle.workshop.specs.Faults.{of_read_fault, of_rope_fault, of_source_fault, of_table_fault};
 
 use arrayvec::ArrayVec;
 use debugger::DebugFault;
@@ -176,7 +177,8 @@ impl fmt::Display for WorkshopFault {
 
 impl std::error::Error for WorkshopFault {}
 
-/// Room for a fault's line: `agcws: E`, a number, ` LINE `, a number and a line feed. No number that is written has more than 20 digits.
+/// Room for a fault's line: `agcws: E`, a number, ` LINE `, a number and a line feed. No number that is written has
+/// more than 20 digits.
 const FAULT_LINE: usize = 64;
 
 type FaultLine = ArrayVec<u8, FAULT_LINE>;
@@ -208,7 +210,8 @@ fn push_line_number(line: &mut FaultLine, number: Option<u32>)
 /// Writes a fault's line, as `agcws: E14 LINE 9`, and answers the exit status of a program that it ends: 1 for an input
 /// that is refused, 3 for a device or memory. It takes no memory.
 pub fn report<W: Write>(fault: &WorkshopFault, errors: &mut W) -> Result<u8, WorkshopFault>
-    ensures written { W.told ≡ true → Writes (W.written errors.old) (W.written errors.new) (fault_text fault.now) result }
+    ensures written { W.told ≡ true → Writes (W.written errors.old) (W.written errors.new) (fault_text fault.now)
+        result }
     ensures failures { W.failures errors.new ≡ failures_after (W.failures errors.old) result }
     ensures status { IfOk result (λ status. status ≡ status_of fault.now) }
     ensures fault { IfErr result (λ e. e ≡ WorkshopFault.WriteFailed) }

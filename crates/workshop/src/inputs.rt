@@ -29,8 +29,16 @@ pub(crate) fn load<P: Read, F: Read>(
     feed: &mut F,
 ) -> Result<Loaded, WorkshopFault>
     ensures { Loads origin
-        (record { program = reader P.told P.left P.failures program.old; feed = reader F.told F.left F.failures feed.old })
-        (record { program = reader P.told P.left P.failures program.new; feed = reader F.told F.left F.failures feed.new }) result }
+        (record {
+          program = reader P.told P.left P.failures program.old;
+          feed = reader F.told F.left F.failures
+              feed.old;
+        })
+        (record {
+          program = reader P.told P.left P.failures program.new;
+          feed = reader F.told F.left F.failures
+              feed.new;
+        }) result }
 {
     let (rope, symbols, rows) = origin.read(alloc, program)?;
     let feed = read_feed(alloc, feed)?;

@@ -16,8 +16,8 @@ use std::alloc::Global;
 use words::{MOST_BYTES, Read, Write, read_text, write_all};
 use yayul::Symbols;
 
-/// Reads a table of names whole: the lines below SYMBOLS of a listing, or where there is no such line all lines, each with a name and what
-/// it stands for. It has at most 8,388,608 bytes.
+/// Reads a table of names whole: the lines below SYMBOLS of a listing, or where there is no such line all lines, each
+/// with a name and what it stands for. It has at most 8,388,608 bytes.
 ///
 /// The first line that has another form is told.
 pub fn read_names<R: Read>(alloc: Global, table: &mut R) -> Result<Symbols, WorkshopFault>
@@ -28,8 +28,8 @@ pub fn read_names<R: Read>(alloc: Global, table: &mut R) -> Result<Symbols, Work
     Ok(names_in(alloc, &text)?)
 }
 
-/// Reads a rope image of a version to its end, and writes a source with names and instructions that gives the words of a bank, or of
-/// all banks.
+/// Reads a rope image of a version to its end, and writes a source with names and instructions that gives the words of
+/// a bank, or of all banks.
 ///
 /// The first fault of the image is answered, or that memory ran out, and then nothing is written.
 pub fn named_source_engine<R: Read, W: Write>(
@@ -42,7 +42,8 @@ pub fn named_source_engine<R: Read, W: Write>(
 ) -> Result<(), WorkshopFault>
     ensures { ShowsMade version (λ words. named_source names.now words bank)
         (record { image = reader R.told R.left R.failures image.old; out = writer W.told W.written W.failures out.old })
-        (record { image = reader R.told R.left R.failures image.new; out = writer W.told W.written W.failures out.new }) result }
+        (record { image = reader R.told R.left R.failures image.new; out = writer W.told W.written W.failures out.new })
+        result }
 {
     let rope = Rope::read(alloc, image, version)?;
     write_named_source(alloc, names, &rope, bank, out)
@@ -56,7 +57,8 @@ fn write_named_source<W: Write>(
     bank: Option<Bank>,
     out: &mut W,
 ) -> Result<(), WorkshopFault>
-    ensures { MakesText (named_source names.now rope.now bank) (writer W.told W.written W.failures out.old) (writer W.told W.written W.failures out.new) result }
+    ensures { MakesText (named_source names.now rope.now bank) (writer W.told W.written W.failures out.old)
+        (writer W.told W.written W.failures out.new) result }
 {
     match named_source(alloc, names, rope, &bank) {
         Err(_) => Err(WorkshopFault::NoMemory),

@@ -36,12 +36,13 @@ pub(crate) struct NamedCode {
     pub(crate) named: NamedPlaces,
 }
 
-/// Reads a program and then a feed, and runs the program for some steps, as `run_and_tell` does; and writes then what has happened
-/// in these steps that is seldom meant, as `NOTE QUOTIENT   02,4004  10100  DV D               STEP 5 CYCLES 13 TIMES 1`, or as
-/// JSON in an object.
+/// Reads a program and then a feed, and runs the program for some steps, as `run_and_tell` does; and writes then what
+/// has happened in these steps that is seldom meant, as `NOTE QUOTIENT   02,4004  10100  DV D               STEP 5
+/// CYCLES 13 TIMES 1`, or as JSON in an object.
 ///
-/// Memory for the notes is taken once, before the first step. For the text of the notes steps are made again, up to the last in which
-/// something has happened for the first time at its place. Where the run breaks off no note is written; after a write of them that failed a beginning of them stands.
+/// Memory for the notes is taken once, before the first step. For the text of the notes steps are made again, up to the
+/// last in which something has happened for the first time at its place. Where the run breaks off no note is written;
+/// after a write of them that failed a beginning of them stands.
 pub fn run_with_notes<P: Read, F: Read, W: Write, T: Write, N: Write>(
     alloc: Global,
     notation: Notation,
@@ -55,14 +56,52 @@ pub fn run_with_notes<P: Read, F: Read, W: Write, T: Write, N: Write>(
 ) -> Result<Summary, WorkshopFault>
     requires { steps ≤ 2 ^ 40 - 2 }
     ensures runs { RunsNoted notation origin steps
-        (record { files = record { program = reader P.told P.left P.failures program.old; feed = reader F.told F.left F.failures feed.old }; texts = record { out = writer W.told W.written W.failures out.old; notes = writer N.told N.written N.failures notes.old } })
-        (record { files = record { program = reader P.told P.left P.failures program.new; feed = reader F.told F.left F.failures feed.new }; texts = record { out = writer W.told W.written W.failures out.new; notes = writer N.told N.written N.failures notes.new } }) result }
+        (record {
+          files = record {
+            program = reader P.told P.left P.failures program.old;
+            feed = reader F.told F.left
+                F.failures feed.old;
+          };
+          texts = record {
+            out = writer W.told W.written W.failures out.old;
+            notes = writer N.told N.written N.failures
+                notes.old;
+          };
+        })
+        (record {
+          files = record {
+            program = reader P.told P.left P.failures program.new;
+            feed = reader F.told F.left
+                F.failures feed.new;
+          };
+          texts = record {
+            out = writer W.told W.written W.failures out.new;
+            notes = writer N.told N.written N.failures
+                notes.new;
+          };
+        }) result }
     ensures handed_on { W.told ≡ true → 0 < steps → OnOk result (W.handed_on out.new ≡ W.written out.new) }
     ensures progress { TellsRead origin steps
-        (record { program = reader P.told P.left P.failures program.old; feed = reader F.told F.left F.failures feed.old })
-        (record { program = reader P.told P.left P.failures program.new; feed = reader F.told F.left F.failures feed.new })
-        (record { out = writer W.told W.written W.failures out.old; progress = writer T.told T.written T.failures progress.old })
-        (record { out = writer W.told W.written W.failures out.new; progress = writer T.told T.written T.failures progress.new }) result }
+        (record {
+          program = reader P.told P.left P.failures program.old;
+          feed = reader F.told F.left F.failures
+              feed.old;
+        })
+        (record {
+          program = reader P.told P.left P.failures program.new;
+          feed = reader F.told F.left F.failures
+              feed.new;
+        })
+        (record {
+          out = writer W.told W.written W.failures out.old;
+          progress = writer T.told T.written T.failures
+              progress.old;
+        })
+        (record {
+          out = writer W.told W.written W.failures out.new;
+          progress = writer T.told T.written T.failures
+              progress.new;
+        }) result }
 {
     let code = read_named(alloc, origin, program)?;
     let feed = read_feed(alloc, feed)?;
@@ -155,13 +194,30 @@ fn run_then_note<W: Write, T: Write, N: Write>(
 ) -> Result<Summary, WorkshopFault>
     requires few { steps ≤ 2 ^ 40 - 2 }
     requires none { (scenario : Scenario) → Counted notebook.old.named scenario 0 notebook.old }
-    ensures ends { EndsNoted (notes_text notation names.now notebook.old.named processor.old.scenario steps) processor.old.scenario steps
-        (record { out = writer W.told W.written W.failures out.old; notes = writer N.told N.written N.failures notes.old })
-        (record { out = writer W.told W.written W.failures out.new; notes = writer N.told N.written N.failures notes.new }) result }
+    ensures ends { EndsNoted (notes_text notation names.now notebook.old.named processor.old.scenario steps)
+        processor.old.scenario steps
+        (record {
+          out = writer W.told W.written W.failures out.old;
+          notes = writer N.told N.written N.failures
+              notes.old;
+        })
+        (record {
+          out = writer W.told W.written W.failures out.new;
+          notes = writer N.told N.written N.failures
+              notes.new;
+        }) result }
     ensures handed_on { W.told ≡ true → 0 < steps → OnOk result (W.handed_on out.new ≡ W.written out.new) }
     ensures progress { TellsNoted (run_text processor.old.scenario) steps
-        (record { out = writer W.told W.written W.failures out.old; progress = writer T.told T.written T.failures progress.old })
-        (record { out = writer W.told W.written W.failures out.new; progress = writer T.told T.written T.failures progress.new }) result }
+        (record {
+          out = writer W.told W.written W.failures out.old;
+          progress = writer T.told T.written T.failures
+              progress.old;
+        })
+        (record {
+          out = writer W.told W.written W.failures out.new;
+          progress = writer T.told T.written T.failures
+              progress.new;
+        }) result }
     ensures meter { processor.new.meter ≤ processor.old.meter + 2 * steps }
 {
     let mut machine = Machine::start();
@@ -170,7 +226,8 @@ fn run_then_note<W: Write, T: Write, N: Write>(
     Ok(summary)
 }
 
-/// Makes some steps from the start, notes what happens in each, and writes the lines of what they put out, as a run without notes does.
+/// Makes some steps from the start, notes what happens in each, and writes the lines of what they put out, as a run
+/// without notes does.
 fn run_noting<W: Write, T: Write>(
     processor: &mut Processor,
     machine: &mut Machine,
@@ -191,8 +248,16 @@ fn run_noting<W: Write, T: Write>(
     ensures summary { IfOk result (λ summary. summary ≡ summary_of processor.old.scenario steps) }
     ensures handed_on { W.told ≡ true → 0 < steps → OnOk result (W.handed_on out.new ≡ W.written out.new) }
     ensures progress { TellsWritten (run_text processor.old.scenario) steps
-        (record { out = writer W.told W.written W.failures out.old; progress = writer T.told T.written T.failures progress.old })
-        (record { out = writer W.told W.written W.failures out.new; progress = writer T.told T.written T.failures progress.new }) result }
+        (record {
+          out = writer W.told W.written W.failures out.old;
+          progress = writer T.told T.written T.failures
+              progress.old;
+        })
+        (record {
+          out = writer W.told W.written W.failures out.new;
+          progress = writer T.told T.written T.failures
+              progress.new;
+        }) result }
     ensures meter { processor.new.meter ≤ processor.old.meter + steps }
 {
     let mut outputs = 0;

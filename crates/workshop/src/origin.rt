@@ -22,7 +22,8 @@ pub enum Origin {
 }
 
 impl Origin {
-    /// Reads a program: its words in their places, its symbols, and the lines of its source. A source has at most 8,388,608 bytes.
+    /// Reads a program: its words in their places, its symbols, and the lines of its source. A source has at most
+    /// 8,388,608 bytes.
     pub(crate) fn read<R: Read>(
         self,
         alloc: Global,

@@ -20,10 +20,11 @@ const PLACES: u32 = BANK_WORDS as u32 * FIXED_BANKS as u32;
 /// The most bytes of a line: a number of at most 20 digits, a place of 7, and what stands between.
 const LINE: usize = 48;
 
-/// Writes where an image is refused, as `agcws: BYTE 2 02,4001`: the number of the first of the two bytes that spell no word, from 0 on,
-/// and the place of their word; of any other fault nothing. It takes no memory.
+/// Writes where an image is refused, as `agcws: BYTE 2 02,4001`: the number of the first of the two bytes that spell no
+/// word, from 0 on, and the place of their word; of any other fault nothing. It takes no memory.
 pub fn report_where<W: Write>(fault: &WorkshopFault, errors: &mut W) -> Result<(), WorkshopFault>
-    ensures written { W.told ≡ true → Writes (W.written errors.old) (W.written errors.new) (where_text fault.now) result }
+    ensures written { W.told ≡ true → Writes (W.written errors.old) (W.written errors.new) (where_text fault.now)
+        result }
     ensures failures { W.failures errors.new ≡ failures_after (W.failures errors.old) result }
     ensures fault { IfErr result (λ e. e ≡ WorkshopFault.WriteFailed) }
 {

@@ -9,7 +9,8 @@ ghost use Rattle.audit.specs.WordLines.{word_lines};
 ghost use Rattle.names.specs.NamedLines.{named_lines};
 ghost use Rattle.rope.specs.Image.{image};
 ghost use Rattle.workshop.specs.Failures.{Reader, reader, writer};
-ghost use Rattle.workshop.specs.Ropes.{Compares, ComparesNext, ComparesOnly, Shows, ShowsMended, TellsDamages, TellsParity};
+ghost use Rattle.workshop.specs.Ropes.{Compares, ComparesNext, ComparesOnly, Shows, ShowsMended, TellsDamages};
+ghost use Rattle.workshop.specs.Ropes.{TellsParity};
 
 use crate::fault::WorkshopFault;
 use crate::inputs::read_program;
@@ -34,8 +35,8 @@ pub enum Compared {
     New,
 }
 
-/// Reads a rope image of a version to its end, and writes a line for each word of a bank, or of all banks: its place, the
-/// word, and the instruction that it is.
+/// Reads a rope image of a version to its end, and writes a line for each word of a bank, or of all banks: its place,
+/// the word, and the instruction that it is.
 ///
 /// The first fault of the image is answered, and then nothing is written.
 pub fn words_engine<R: Read, W: Write>(
@@ -47,17 +48,18 @@ pub fn words_engine<R: Read, W: Write>(
 ) -> Result<(), WorkshopFault>
     ensures { Shows version (λ words. word_lines words bank)
         (record { image = reader R.told R.left R.failures image.old; out = writer W.told W.written W.failures out.old })
-        (record { image = reader R.told R.left R.failures image.new; out = writer W.told W.written W.failures out.new }) result }
+        (record { image = reader R.told R.left R.failures image.new; out = writer W.told W.written W.failures out.new })
+        result }
 {
     let rope = Rope::read(alloc, image, version)?;
     Ok(write_words(&rope, bank, out)?)
 }
 
-/// Reads a rope image of a version to its end, and writes a line for each word of a bank, or of all banks, as `words_engine` does, with
-/// names for the places to which the words lead.
+/// Reads a rope image of a version to its end, and writes a line for each word of a bank, or of all banks, as
+/// `words_engine` does, with names for the places to which the words lead.
 ///
-/// That there is no memory for the names is answered before anything is read, else the first fault of the image; then nothing is
-/// written.
+/// That there is no memory for the names is answered before anything is read, else the first fault of the image; then
+/// nothing is written.
 pub fn named_words_engine<R: Read, W: Write>(
     alloc: Global,
     names: Symbols,
@@ -68,7 +70,8 @@ pub fn named_words_engine<R: Read, W: Write>(
 ) -> Result<(), WorkshopFault>
     ensures { Shows version (λ words. named_lines names words bank)
         (record { image = reader R.told R.left R.failures image.old; out = writer W.told W.written W.failures out.old })
-        (record { image = reader R.told R.left R.failures image.new; out = writer W.told W.written W.failures out.new }) result }
+        (record { image = reader R.told R.left R.failures image.new; out = writer W.told W.written W.failures out.new })
+        result }
 {
     let Ok(named) = PlaceNames::new(alloc, names) else {
         return Err(WorkshopFault::NoMemory);
@@ -89,7 +92,8 @@ pub fn source_engine<R: Read, W: Write>(
 ) -> Result<(), WorkshopFault>
     ensures { Shows version (λ words. source_text words bank)
         (record { image = reader R.told R.left R.failures image.old; out = writer W.told W.written W.failures out.old })
-        (record { image = reader R.told R.left R.failures image.new; out = writer W.told W.written W.failures out.new }) result }
+        (record { image = reader R.told R.left R.failures image.new; out = writer W.told W.written W.failures out.new })
+        result }
 {
     let rope = Rope::read(alloc, image, version)?;
     Ok(write_source(&rope, bank, out)?)
@@ -107,7 +111,8 @@ pub fn octals_engine<R: Read, W: Write>(
 ) -> Result<(), WorkshopFault>
     ensures { Shows version (λ words. octals_text words bank)
         (record { image = reader R.told R.left R.failures image.old; out = writer W.told W.written W.failures out.old })
-        (record { image = reader R.told R.left R.failures image.new; out = writer W.told W.written W.failures out.new }) result }
+        (record { image = reader R.told R.left R.failures image.new; out = writer W.told W.written W.failures out.new })
+        result }
 {
     let rope = Rope::read(alloc, image, version)?;
     Ok(write_octals(&rope, bank, out)?)
@@ -124,14 +129,15 @@ pub fn sums_engine<R: Read, W: Write>(
 ) -> Result<(), WorkshopFault>
     ensures { Shows version sum_lines
         (record { image = reader R.told R.left R.failures rope.old; out = writer W.told W.written W.failures out.old })
-        (record { image = reader R.told R.left R.failures rope.new; out = writer W.told W.written W.failures out.new }) result }
+        (record { image = reader R.told R.left R.failures rope.new; out = writer W.told W.written W.failures out.new })
+        result }
 {
     let words = Rope::read(alloc, rope, version)?;
     Ok(write_sums(&words, out)?)
 }
 
-/// Reads a rope image of a version to its end, and writes a line for each bank: its number, the sums of its words in both orders of
-/// the bits, and in which the sum is the bank's number or the complement of it.
+/// Reads a rope image of a version to its end, and writes a line for each bank: its number, the sums of its words in
+/// both orders of the bits, and in which the sum is the bank's number or the complement of it.
 ///
 /// The first fault of the image is answered, and then nothing is written.
 pub fn form_sums_engine<R: Read, W: Write>(
@@ -142,7 +148,8 @@ pub fn form_sums_engine<R: Read, W: Write>(
 ) -> Result<(), WorkshopFault>
     ensures { Shows version (form_lines version)
         (record { image = reader R.told R.left R.failures rope.old; out = writer W.told W.written W.failures out.old })
-        (record { image = reader R.told R.left R.failures rope.new; out = writer W.told W.written W.failures out.new }) result }
+        (record { image = reader R.told R.left R.failures rope.new; out = writer W.told W.written W.failures out.new })
+        result }
 {
     let rope = Rope::read(alloc, rope, version)?;
     Ok(write_form_sums(&rope, version, out)?)
@@ -158,17 +165,18 @@ pub fn upgrade_engine<R: Read, W: Write>(
 ) -> Result<(), WorkshopFault>
     ensures { Shows Version.One (image Version.Two)
         (record { image = reader R.told R.left R.failures old.old; out = writer W.told W.written W.failures out.old })
-        (record { image = reader R.told R.left R.failures old.new; out = writer W.told W.written W.failures out.new }) result }
+        (record { image = reader R.told R.left R.failures old.new; out = writer W.told W.written W.failures out.new })
+        result }
 {
     let rope = Rope::read(alloc, old, Version::One)?;
     Ok(rope.write(out, Version::Two)?)
 }
 
-/// Reads two rope images, each of its version, to their ends, and writes a line for each place where their words differ, and
-/// then how many places there are, which it answers.
+/// Reads two rope images, each of its version, to their ends, and writes a line for each place where their words
+/// differ, and then how many places there are, which it answers.
 ///
-/// The first fault of the old image is answered, else that of the new one, and then nothing is written. Which of them was read last,
-/// of which a fault is, stands in `last`.
+/// The first fault of the old image is answered, else that of the new one, and then nothing is written. Which of them
+/// was read last, of which a fault is, stands in `last`.
 pub fn compare_engine<A: Read, B: Read, W: Write>(
     alloc: Global,
     old: &mut A,
@@ -179,8 +187,18 @@ pub fn compare_engine<A: Read, B: Read, W: Write>(
     out: &mut W,
 ) -> Result<u32, WorkshopFault>
     ensures { Compares old_version new_version
-        (record { old = reader A.told A.left A.failures old.old; new = reader B.told B.left B.failures new.old; out = writer W.told W.written W.failures out.old })
-        (record { old = reader A.told A.left A.failures old.new; new = reader B.told B.left B.failures new.new; out = writer W.told W.written W.failures out.new }) last.new result }
+        (record {
+          old = reader A.told A.left A.failures old.old;
+          new = reader B.told B.left B.failures new.old;
+          out
+              = writer W.told W.written W.failures out.old;
+        })
+        (record {
+          old = reader A.told A.left A.failures old.new;
+          new = reader B.told B.left B.failures new.new;
+          out
+              = writer W.told W.written W.failures out.new;
+        }) last.new result }
 {
     *last = Compared::Old;
     let words = Rope::read(alloc, old, old_version)?;
@@ -189,11 +207,12 @@ pub fn compare_engine<A: Read, B: Read, W: Write>(
     Ok(write_differences(&words, &others, Extent::All, out)?)
 }
 
-/// Assembles a source of a language, reads a rope image of a version to its end, and writes a line for each place that the source fills where
-/// the words differ, and then how many places there are, which it answers. Of the other places nothing is said.
+/// Assembles a source of a language, reads a rope image of a version to its end, and writes a line for each place that
+/// the source fills where the words differ, and then how many places there are, which it answers. Of the other places
+/// nothing is said.
 ///
-/// The source has at most 8,388,608 bytes. Its first fault is answered, else that of the image, and then nothing is written. Which of
-/// them was read last stands in `last`.
+/// The source has at most 8,388,608 bytes. Its first fault is answered, else that of the image, and then nothing is
+/// written. Which of them was read last stands in `last`.
 pub fn compare_only_engine<S: Read, R: Read, W: Write>(
     alloc: Global,
     language: Language,
@@ -204,8 +223,18 @@ pub fn compare_only_engine<S: Read, R: Read, W: Write>(
     out: &mut W,
 ) -> Result<u32, WorkshopFault>
     ensures { ComparesOnly language version
-        (record { old = reader S.told S.left S.failures source.old; new = reader R.told R.left R.failures image.old; out = writer W.told W.written W.failures out.old })
-        (record { old = reader S.told S.left S.failures source.new; new = reader R.told R.left R.failures image.new; out = writer W.told W.written W.failures out.new }) last.new result }
+        (record {
+          old = reader S.told S.left S.failures source.old;
+          new = reader R.told R.left R.failures image.old;
+          out
+              = writer W.told W.written W.failures out.old;
+        })
+        (record {
+          old = reader S.told S.left S.failures source.new;
+          new = reader R.told R.left R.failures image.new;
+          out
+              = writer W.told W.written W.failures out.new;
+        }) last.new result }
 {
     *last = Compared::Old;
     let program = read_program(alloc, language, source)?;
@@ -214,8 +243,8 @@ pub fn compare_only_engine<S: Read, R: Read, W: Write>(
     Ok(write_differences(program.rope(), &words, Extent::Filled, out)?)
 }
 
-/// Reads the bytes of a rope image to their end, and writes a line for each word whose two bytes have an even number of one
-/// bits, and then how many such words there are, which it answers.
+/// Reads the bytes of a rope image to their end, and writes a line for each word whose two bytes have an even number of
+/// one bits, and then how many such words there are, which it answers.
 ///
 /// An image that is short or long is refused, and then nothing is written.
 pub fn parity_engine<R: Read, W: Write>(
@@ -225,15 +254,16 @@ pub fn parity_engine<R: Read, W: Write>(
 ) -> Result<u32, WorkshopFault>
     ensures { TellsParity
         (record { image = reader R.told R.left R.failures image.old; out = writer W.told W.written W.failures out.old })
-        (record { image = reader R.told R.left R.failures image.new; out = writer W.told W.written W.failures out.new }) result }
+        (record { image = reader R.told R.left R.failures image.new; out = writer W.told W.written W.failures out.new })
+        result }
 {
     let bytes = Dump::read(alloc, image)?;
     Ok(write_parities(&bytes, out)?)
 }
 
 /// Reads the bytes of a rope image to their end, and writes what is damaged in it, bank by bank: what the words, their
-/// parities and the sums tell together. Then it writes of how many banks it told, the parity of the whole image counted as
-/// one, and answers that.
+/// parities and the sums tell together. Then it writes of how many banks it told, the parity of the whole image counted
+/// as one, and answers that.
 ///
 /// An image that is short or long is refused, and then nothing is written.
 pub fn damages_engine<R: Read, W: Write>(
@@ -243,14 +273,15 @@ pub fn damages_engine<R: Read, W: Write>(
 ) -> Result<u32, WorkshopFault>
     ensures { TellsDamages
         (record { image = reader R.told R.left R.failures image.old; out = writer W.told W.written W.failures out.old })
-        (record { image = reader R.told R.left R.failures image.new; out = writer W.told W.written W.failures out.new }) result }
+        (record { image = reader R.told R.left R.failures image.new; out = writer W.told W.written W.failures out.new })
+        result }
 {
     let bytes = Dump::read(alloc, image)?;
     Ok(write_damages(&bytes, out)?)
 }
 
-/// Reads the bytes of a rope image to their end, and writes a source that gives its words: where one bit alone can have been wrong
-/// in a bank's words of wrong parity, by its sum, with that bit turned.
+/// Reads the bytes of a rope image to their end, and writes a source that gives its words: where one bit alone can have
+/// been wrong in a bank's words of wrong parity, by its sum, with that bit turned.
 ///
 /// An image that is short or long is refused, and then nothing is written.
 pub fn mended_engine<R: Read, W: Write>(
@@ -260,7 +291,8 @@ pub fn mended_engine<R: Read, W: Write>(
 ) -> Result<(), WorkshopFault>
     ensures { ShowsMended
         (record { image = reader R.told R.left R.failures image.old; out = writer W.told W.written W.failures out.old })
-        (record { image = reader R.told R.left R.failures image.new; out = writer W.told W.written W.failures out.new }) result }
+        (record { image = reader R.told R.left R.failures image.new; out = writer W.told W.written W.failures out.new })
+        result }
 {
     let bytes = Dump::read(alloc, image)?;
     Ok(write_mended(&bytes, out)?)

@@ -18,11 +18,11 @@ use reach::{Executed, Found, reached_from_vectors, reached_with_run, write_reach
 use std::alloc::{AllocError, Global};
 use words::{Read, Write};
 
-/// Reads a program and then a feed, makes some steps, and writes the rows of its source's listing, or the words of its image, each after
-/// the root from which a way leads to it, and whether the run has not executed it.
+/// Reads a program and then a feed, makes some steps, and writes the rows of its source's listing, or the words of its
+/// image, each after the root from which a way leads to it, and whether the run has not executed it.
 ///
-/// The first fault of the program is answered, else that of the feed, else that memory ran out, and then nothing is written. After a
-/// write that failed a beginning of the text was written.
+/// The first fault of the program is answered, else that of the feed, else that memory ran out, and then nothing is
+/// written. After a write that failed a beginning of the text was written.
 pub fn reach_run<P: Read, F: Read, W: Write>(
     alloc: Global,
     origin: Origin,
@@ -33,8 +33,22 @@ pub fn reach_run<P: Read, F: Read, W: Write>(
 ) -> Result<(), WorkshopFault>
     requires { steps ≤ 2 ^ 40 - 2 }
     ensures { Finds origin steps
-        (record { files = record { program = reader P.told P.left P.failures program.old; feed = reader F.told F.left F.failures feed.old }; out = writer W.told W.written W.failures out.old })
-        (record { files = record { program = reader P.told P.left P.failures program.new; feed = reader F.told F.left F.failures feed.new }; out = writer W.told W.written W.failures out.new }) result }
+        (record {
+          files = record {
+            program = reader P.told P.left P.failures program.old;
+            feed = reader F.told F.left
+                F.failures feed.old;
+          };
+          out = writer W.told W.written W.failures out.old;
+        })
+        (record {
+          files = record {
+            program = reader P.told P.left P.failures program.new;
+            feed = reader F.told F.left
+                F.failures feed.new;
+          };
+          out = writer W.told W.written W.failures out.new;
+        }) result }
 {
     let (rope, rows) = read_subject(alloc, Notation::Text, origin, program)?;
     let processor = Processor::new(rope, read_feed(alloc, feed)?);
@@ -50,7 +64,8 @@ fn write_run_reached<W: Write>(
     out: &mut W,
 ) -> Result<(), WorkshopFault>
     requires { steps ≤ 2 ^ 40 - 2 }
-    ensures { FindsRun rows.now processor.scenario steps (writer W.told W.written W.failures out.old) (writer W.told W.written W.failures out.new) result }
+    ensures { FindsRun rows.now processor.scenario steps (writer W.told W.written W.failures out.old)
+        (writer W.told W.written W.failures out.new) result }
 {
     let mut processor = processor;
     let Ok(found) = found(alloc, &mut processor, steps) else {
@@ -65,7 +80,8 @@ fn found(alloc: Global, processor: &mut Processor, steps: u64) -> Result<Found, 
     requires { steps ≤ 2 ^ 40 - 2 }
     ensures scenario { processor.new.scenario ≡ processor.old.scenario }
     ensures start { IfOk result (λ found. AreReached processor.old.scenario.rope vectors found.start) }
-    ensures run { IfOk result (λ found. AreReached processor.old.scenario.rope (run_roots processor.old.scenario steps) found.run) }
+    ensures run { IfOk result (λ found. AreReached processor.old.scenario.rope (run_roots processor.old.scenario steps)
+        found.run) }
     ensures done { IfOk result (λ found. AreExecuted processor.old.scenario steps found.done) }
 {
     let mut done = Executed::new(alloc)?;

@@ -21,12 +21,14 @@ use std::alloc::Global;
 use trace::PlaceNames;
 use words::{Read, Write, WriteFailed};
 
-/// Reads a program and then a feed, makes some steps, and writes a line for each of them from a first one on, in a form, as
-/// `1        2        02,4000  34005  CA FIVE            A=000005`: the step, the cycles after it, what it is, what it has read, where
-/// that is shown, what it has written, and the channel line of what it puts out; or its sentence.
+/// Reads a program and then a feed, makes some steps, and writes a line for each of them from a first one on, in a
+/// form, as
+/// `1        2        02,4000  34005  CA FIVE            A=000005`: the step, the cycles after it, what it is, what it
+/// has read, where that is shown, what it has written, and the channel line of what it puts out; or its sentence.
 ///
-/// The first fault of the program is answered, else that of the feed, and then nothing is written. After a write that failed a
-/// beginning of the lines was written. Lines are handed on while it goes, and all of them where it has made its steps.
+/// The first fault of the program is answered, else that of the feed, and then nothing is written. After a write that
+/// failed a beginning of the lines was written. Lines are handed on while it goes, and all of them where it has made
+/// its steps.
 ///
 /// It is told after each 2^20 steps how many were made, as `run_and_tell` tells it.
 pub fn trace_program<P: Read, F: Read, W: Write, T: Write>(
@@ -42,14 +44,44 @@ pub fn trace_program<P: Read, F: Read, W: Write, T: Write>(
 ) -> Result<(), WorkshopFault>
     requires { steps ≤ 2 ^ 40 - 2 }
     ensures traces { Traces form origin first steps
-        (record { files = record { program = reader P.told P.left P.failures program.old; feed = reader F.told F.left F.failures feed.old }; out = writer W.told W.written W.failures out.old })
-        (record { files = record { program = reader P.told P.left P.failures program.new; feed = reader F.told F.left F.failures feed.new }; out = writer W.told W.written W.failures out.new }) result }
+        (record {
+          files = record {
+            program = reader P.told P.left P.failures program.old;
+            feed = reader F.told F.left
+                F.failures feed.old;
+          };
+          out = writer W.told W.written W.failures out.old;
+        })
+        (record {
+          files = record {
+            program = reader P.told P.left P.failures program.new;
+            feed = reader F.told F.left
+                F.failures feed.new;
+          };
+          out = writer W.told W.written W.failures out.new;
+        }) result }
     ensures handed_on { W.told ≡ true → 0 < steps → OnOk result (W.handed_on out.new ≡ W.written out.new) }
     ensures progress { TellsLoaded (traced_text form first) origin steps
-        (record { program = reader P.told P.left P.failures program.old; feed = reader F.told F.left F.failures feed.old })
-        (record { program = reader P.told P.left P.failures program.new; feed = reader F.told F.left F.failures feed.new })
-        (record { out = writer W.told W.written W.failures out.old; progress = writer T.told T.written T.failures progress.old })
-        (record { out = writer W.told W.written W.failures out.new; progress = writer T.told T.written T.failures progress.new }) result }
+        (record {
+          program = reader P.told P.left P.failures program.old;
+          feed = reader F.told F.left F.failures
+              feed.old;
+        })
+        (record {
+          program = reader P.told P.left P.failures program.new;
+          feed = reader F.told F.left F.failures
+              feed.new;
+        })
+        (record {
+          out = writer W.told W.written W.failures out.old;
+          progress = writer T.told T.written T.failures
+              progress.old;
+        })
+        (record {
+          out = writer W.told W.written W.failures out.new;
+          progress = writer T.told T.written T.failures
+              progress.new;
+        }) result }
 {
     let loaded = load(alloc, origin, program, feed)?;
     let Ok(names) = PlaceNames::new(alloc, loaded.symbols) else {
@@ -59,7 +91,8 @@ pub fn trace_program<P: Read, F: Read, W: Write, T: Write>(
     trace(form, &names, &mut processor, first, steps, out, progress)
 }
 
-/// Makes some steps from the start, and writes the lines of those from a first one on. Lines are handed on while it goes.
+/// Makes some steps from the start, and writes the lines of those from a first one on. Lines are handed on while it
+/// goes.
 fn trace<W: Write, T: Write>(
     form: LineForm,
     names: &PlaceNames,
@@ -74,8 +107,16 @@ fn trace<W: Write, T: Write>(
         (writer W.told W.written W.failures out.old) (writer W.told W.written W.failures out.new) result }
     ensures handed_on { W.told ≡ true → 0 < steps → OnOk result (W.handed_on out.new ≡ W.written out.new) }
     ensures progress { TellsWritten (told_lines form names.now processor.old.scenario first) steps
-        (record { out = writer W.told W.written W.failures out.old; progress = writer T.told T.written T.failures progress.old })
-        (record { out = writer W.told W.written W.failures out.new; progress = writer T.told T.written T.failures progress.new }) result }
+        (record {
+          out = writer W.told W.written W.failures out.old;
+          progress = writer T.told T.written T.failures
+              progress.old;
+        })
+        (record {
+          out = writer W.told W.written W.failures out.new;
+          progress = writer T.told T.written T.failures
+              progress.new;
+        }) result }
 {
     let mut machine = Machine::start();
     let mut told = Ok(());
@@ -107,7 +148,8 @@ fn step_and_trace<W: Write>(
     ensures scenario { processor.new.scenario ≡ processor.old.scenario }
     ensures state { machine.new ≡ (next processor.old.scenario machine.old).0 }
     ensures written { W.told ≡ true →
-        Writes (W.written out.old) (W.written out.new) (told_from form names.now processor.old.scenario first number machine.old) result }
+        Writes (W.written out.old) (W.written out.new)
+        (told_from form names.now processor.old.scenario first number machine.old) result }
     ensures failures { W.failures out.new ≡ failures_after (W.failures out.old) result }
 {
     if number < first {

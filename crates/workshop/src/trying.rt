@@ -14,11 +14,12 @@ use std::alloc::Global;
 use whatif::{TextReader, TrialFault, try_inputs};
 use words::{Read, Write};
 
-/// Reads a program, and tells what its run of some steps over a feed of this text would put out with each of some inputs alone: see
+/// Reads a program, and tells what its run of some steps over a feed of this text would put out with each of some
+/// inputs alone: see
 /// `whatif::try_inputs`.
 ///
-/// The first fault of the program is answered, else that of the feed, else that memory ran out, and then nothing is written. What
-/// comes later, as that memory runs out, leaves a beginning of the text.
+/// The first fault of the program is answered, else that of the feed, else that memory ran out, and then nothing is
+/// written. What comes later, as that memory runs out, leaves a beginning of the text.
 pub fn try_program<P: Read, W: Write>(
     alloc: Global,
     origin: Origin,
@@ -30,8 +31,16 @@ pub fn try_program<P: Read, W: Write>(
 ) -> Result<(), WorkshopFault>
     requires { steps ≤ 2 ^ 40 - 2 }
     ensures { Tries origin feed.now trials.now steps
-        (record { program = reader P.told P.left P.failures program.old; out = writer W.told W.written W.failures out.old })
-        (record { program = reader P.told P.left P.failures program.new; out = writer W.told W.written W.failures out.new }) result }
+        (record {
+          program = reader P.told P.left P.failures program.old;
+          out = writer W.told W.written W.failures
+              out.old;
+        })
+        (record {
+          program = reader P.told P.left P.failures program.new;
+          out = writer W.told W.written W.failures
+              out.new;
+        }) result }
 {
     let (rope, _, _) = origin.read(alloc, program)?;
     try_feed(alloc, rope, feed, trials, steps, out)

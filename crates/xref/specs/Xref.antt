@@ -1,5 +1,6 @@
 -- The cross-reference of a source: for each name that a line defines this line, and what lines do with it.
-use Rattle.std.specs.Prelude.{ℕ, ◌+◌, ◌-◌, Bool, true, false, List, [], ◌∷◌, ◌++◌, length, map, filter, codes, decimal, Option, None, Some, option_and_then, if◌then◌else◌}
+use Rattle.std.specs.Prelude.{ℕ, ◌+◌, ◌-◌, Bool, true, false, List, [], ◌∷◌, ◌++◌, length, map, filter, codes, decimal, Option, None, Some}
+use Rattle.std.specs.Prelude.{option_and_then, if◌then◌else◌}
 use Rattle.std.specs.Option.{option_map_or}
 use Rattle.agc_text.specs.Lines.{lines}
 use Rattle.agc_text.specs.Tables.{same_name}
@@ -89,7 +90,8 @@ defined_on line parts = option_map_or (λ p. record { line = line; name = p.text
 
 -- its operand
 abbrev pub used_on : ℕ → Parts → List Told
-used_on line parts = option_map_or (λ used. option_map_or (λ p. record { line = line; name = p.text; used = used } ∷ []) parts.operand []) (use_in parts) []
+used_on line parts = option_map_or (λ used. option_map_or (λ p. record { line = line; name = p.text; used = used } ∷ []) parts.operand [])
+    (use_in parts) []
 
 -- what some lines mention, the first of them with a number
 abbrev pub mentions_from : ℕ → List Parts → List Told

@@ -20,7 +20,8 @@ pub struct Mention<'a> {
     pub used: Use,
 }
 
-/// What the lines of a source mention: their labels and their operands, in the order of the lines. An `Err` is that memory ran out.
+/// What the lines of a source mention: their labels and their operands, in the order of the lines. An `Err` is that
+/// memory ran out.
 pub fn mentions(
     alloc: Global,
     language: Language,
@@ -46,7 +47,8 @@ fn note<'a>(
     line: u64,
     reading: &Reading<'a>,
 ) -> Result<(), AllocError>
-    ensures { OnOk result (map told found.new.items ≡ map told found.old.items ++ (defined_on line (parts_in reading.now) ++ used_on line (parts_in reading.now))) }
+    ensures { OnOk result (map told found.new.items
+        ≡ map told found.old.items ++ (defined_on line (parts_in reading.now) ++ used_on line (parts_in reading.now))) }
 {
     if let Some(label) = reading.label {
         found.push(Mention {

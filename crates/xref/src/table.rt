@@ -21,7 +21,8 @@ const NAME_PLACES: usize = 8;
 /// How many places the number of a line has at least.
 const NUMBER_PLACES: usize = 5;
 
-/// Writes how many names are defined, and for each of them, in the order of the lines, a row for each line that mentions it. No memory is taken.
+/// Writes how many names are defined, and for each of them, in the order of the lines, a row for each line that
+/// mentions it. No memory is taken.
 ///
 /// After a failure a beginning of it was written.
 #[tactic(auto, unfolding(crate::specs::Xref::xref_text))]
@@ -29,7 +30,8 @@ pub fn write_cross_reference<W: Write>(
     mentions: &[Mention<'_>],
     out: &mut W,
 ) -> Result<(), WriteFailed>
-    ensures written { W.told ≡ true → Writes (W.written out.old) (W.written out.new) (xref_text (map told mentions.now)) result }
+    ensures written { W.told ≡ true → Writes (W.written out.old) (W.written out.new) (xref_text (map told mentions.now))
+        result }
     ensures failures { W.failures out.new ≡ failures_after (W.failures out.old) result }
 {
     write_all(out, head(mentions).as_slice())?;
@@ -38,7 +40,8 @@ pub fn write_cross_reference<W: Write>(
 
 // Writes the rows of all names that are defined.
 fn write_all_rows<W: Write>(mentions: &[Mention<'_>], out: &mut W) -> Result<(), WriteFailed>
-    ensures written { W.told ≡ true → Writes (W.written out.old) (W.written out.new) (rows_in (map told mentions.now) (map told mentions.now)) result }
+    ensures written { W.told ≡ true → Writes (W.written out.old) (W.written out.new)
+        (rows_in (map told mentions.now) (map told mentions.now)) result }
     ensures failures { W.failures out.new ≡ failures_after (W.failures out.old) result }
 {
     for index in 0..mentions.len() {
@@ -56,7 +59,8 @@ fn write_rows<W: Write>(
     mentions: &[Mention<'_>],
     out: &mut W,
 ) -> Result<(), WriteFailed>
-    ensures written { W.told ≡ true → Writes (W.written out.old) (W.written out.new) (rows_of name.now (map told mentions.now)) result }
+    ensures written { W.told ≡ true → Writes (W.written out.old) (W.written out.new)
+        (rows_of name.now (map told mentions.now)) result }
     ensures failures { W.failures out.new ≡ failures_after (W.failures out.old) result }
 {
     for index in 0..mentions.len() {
@@ -70,7 +74,8 @@ fn write_rows<W: Write>(
 
 // Writes the row of a line that mentions a name.
 fn write_row<W: Write>(mention: &Mention<'_>, out: &mut W) -> Result<(), WriteFailed>
-    ensures written { W.told ≡ true → Writes (W.written out.old) (W.written out.new) (mention_row (told mention.now)) result }
+    ensures written { W.told ≡ true → Writes (W.written out.old) (W.written out.new) (mention_row (told mention.now))
+        result }
     ensures failures { W.failures out.new ≡ failures_after (W.failures out.old) result }
 {
     write_all(out, number_column(mention.line).as_slice())?;
@@ -79,7 +84,8 @@ fn write_row<W: Write>(mention: &Mention<'_>, out: &mut W) -> Result<(), WriteFa
 
 // Writes a name, and what a line does with it.
 fn write_use<W: Write>(name: &[u8], used: Use, out: &mut W) -> Result<(), WriteFailed>
-    ensures written { W.told ≡ true → Writes (W.written out.old) (W.written out.new) (name.now ++ use_column name.now used) result }
+    ensures written { W.told ≡ true → Writes (W.written out.old) (W.written out.new)
+        (name.now ++ use_column name.now used) result }
     ensures failures { W.failures out.new ≡ failures_after (W.failures out.old) result }
 {
     write_all(out, name)?;

@@ -1,5 +1,6 @@
 -- Requests that wait alike among some others.
-use Rattle.std.proofs.Common.{◌≡◌, ◌≢◌, ℕ, Bool, true, false, ◌==◌, List, [], ◌∷◌, ◌++◌, replicate, cond, inl, inr, refl, ap, sym, ◌∙◌, arith}
+use Rattle.std.proofs.Common.{◌≡◌, ◌≢◌, ℕ, Bool, true, false, ◌==◌, List, [], ◌∷◌, ◌++◌, replicate, cond, inl, inr, refl, ap, sym, ◌∙◌}
+use Rattle.std.proofs.Common.{arith}
 use Rattle.std.proofs.lemmas.Bool.{cases_Bool, ne_eqb, eq-eqb}
 use Rattle.std.proofs.lemmas.Grind.{flat_map-append}
 use Rattle.std.proofs.lemmas.List.Folds.{list_any-append}
@@ -53,8 +54,11 @@ WaitAlike these those (q ∷ qs) = (is_waiting these q ≡ is_waiting those q) �
 -- one more that waits, of another line, is the same to them
 pub alike-last : (waiting : List Request) (r : Request) (qs : List Request) → AreOff r.line qs → WaitAlike (waiting ++ r ∷ []) waiting qs
 alike-last waiting r [] off = tt
-alike-last waiting r (q ∷ qs) off =
-    (list_any-append (λ w. w.line == q.line) waiting (r ∷ []) ∙ rw (ne_eqb r.line q.line (λ same. off.0 (sym same))) (or-false (is_waiting waiting q)), alike-last waiting r qs off.1)
+alike-last waiting r (q ∷ qs) off = (
+  list_any-append (λ w. w.line == q.line) waiting (r ∷ [])
+      ∙ rw (ne_eqb r.line q.line (λ same. off.0 (sym same))) (or-false (is_waiting waiting q)),
+  alike-last waiting r qs off.1,
+)
 
 pub alike-first : (waiting : List Request) (r : Request) (qs : List Request) → AreOff r.line qs → WaitAlike (r ∷ waiting) waiting qs
 alike-first waiting r [] off = tt
@@ -69,17 +73,21 @@ module _ (table : List (List ℕ × Value)) where
   abbrev pub places : List Request → Request → List Placed
   places waiting r = placed_from r.bank r.offset (standing_words table waiting r)
 
-  words-alike : (these those : List Request) (r : Request) → is_waiting these r ≡ is_waiting those r → standing_words table these r ≡ standing_words table those r
+  words-alike : (these those : List Request) (r : Request) → is_waiting these r ≡ is_waiting those r
+      → standing_words table these r ≡ standing_words table those r
   unfolding standing_words
-  words-alike these those r alike = ap (λ waits. cond waits (replicate (width r.content) 0) (result_unwrap_or (request_words table r) (replicate (width r.content) 0))) alike
+  words-alike these those r alike = ap (λ waits. cond waits (replicate (width r.content) 0)
+      (result_unwrap_or (request_words table r) (replicate (width r.content) 0))) alike
 
   -- what stands for a request that waits
-  pub words-waiting : (waiting : List Request) (r : Request) → is_waiting waiting r ≡ true → standing_words table waiting r ≡ replicate (width r.content) 0
+  pub words-waiting : (waiting : List Request) (r : Request) → is_waiting waiting r ≡ true
+      → standing_words table waiting r ≡ replicate (width r.content) 0
   unfolding standing_words
   words-waiting waiting r waits = rw waits refl
 
   -- and for one that doesn't
-  pub words-settled : (waiting : List Request) (r : Request) → is_waiting waiting r ≡ false → standing_words table waiting r ≡ result_unwrap_or (request_words table r) (replicate (width r.content) 0)
+  pub words-settled : (waiting : List Request) (r : Request) → is_waiting waiting r ≡ false
+      → standing_words table waiting r ≡ result_unwrap_or (request_words table r) (replicate (width r.content) 0)
   unfolding standing_words
   words-settled waiting r settled = rw settled refl
 
@@ -87,12 +95,14 @@ module _ (table : List (List ℕ × Value)) where
   places-alike these those [] alike = refl
   places-alike these those (q ∷ qs) alike = rw (words-alike these those q alike.0, places-alike these those qs alike.1) refl
 
-  pub faults-alike : (these those qs : List Request) → WaitAlike these those qs → standing_faults table these qs ≡ standing_faults table those qs
+  pub faults-alike : (these those qs : List Request) → WaitAlike these those qs
+      → standing_faults table these qs ≡ standing_faults table those qs
   unfolding standing_faults
   faults-alike these those [] alike = refl
   faults-alike these those (q ∷ qs) alike = rw (alike.0, faults-alike these those qs alike.1) refl
 
-  pub faults-append : (waiting qs rs : List Request) → standing_faults table waiting (qs ++ rs) ≡ standing_faults table waiting qs ++ standing_faults table waiting rs
+  pub faults-append : (waiting qs rs : List Request)
+      → standing_faults table waiting (qs ++ rs) ≡ standing_faults table waiting qs ++ standing_faults table waiting rs
   unfolding standing_faults
   faults-append waiting qs rs = flat_map-append (λ r. cond (is_waiting waiting r) [] (on_line r.line (request_faults table r))) qs rs
 
@@ -101,7 +111,8 @@ module _ (table : List (List ℕ × Value)) where
   unfolding standing_faults
   faults-settled waiting r qs settled = rw settled refl
 
-  pub faults-waiting : (waiting : List Request) (r : Request) (qs : List Request) → is_waiting waiting r ≡ true → standing_faults table waiting (r ∷ qs) ≡ standing_faults table waiting qs
+  pub faults-waiting : (waiting : List Request) (r : Request) (qs : List Request) → is_waiting waiting r ≡ true
+      → standing_faults table waiting (r ∷ qs) ≡ standing_faults table waiting qs
   unfolding standing_faults
   faults-waiting waiting r qs waits = rw waits refl
 
@@ -112,7 +123,11 @@ module _ (table : List (List ℕ × Value)) where
   off-on_line : (line here : ℕ) (kinds : List FaultKind) → here ≢ line → StandOff line (on_line here kinds)
   off-on_line line here [] other = λ f stands. absurd stands
   off-on_line line here (k ∷ kinds) other = λ f stands.
-      elim stands [ inl same ↦ (λ at. other (ap (λ (g : Fault). g.line) (sym same) ∙ at)) | inr later ↦ off-on_line line here kinds other f later ]
+      elim stands [
+        | inl same ↦ (λ at. other (ap (λ (g : Fault). g.line) (sym same) ∙ at))
+        | inr later ↦ off-on_line line here kinds other f
+            later
+      ]
 
   -- faults stand on the lines of their requests
   pub faults-off : (line : ℕ) (waiting qs : List Request) → AreOff line qs → StandOff line (standing_faults table waiting qs)
@@ -121,5 +136,6 @@ module _ (table : List (List ℕ × Value)) where
   faults-off line waiting (q ∷ qs) off =
       elim (cases_Bool (is_waiting waiting q)) [
         | inl waits ↦ rw waits (faults-off line waiting qs off.1)
-        | inr settled ↦ rw settled (off-append line (on_line q.line (request_faults table q)) (standing_faults table waiting qs) (off-on_line line q.line (request_faults table q) off.0) (faults-off line waiting qs off.1))
+        | inr settled ↦ rw settled (off-append line (on_line q.line (request_faults table q)) (standing_faults table waiting qs)
+            (off-on_line line q.line (request_faults table q) off.0) (faults-off line waiting qs off.1))
       ]

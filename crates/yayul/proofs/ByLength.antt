@@ -5,7 +5,8 @@ use Rattle.agc_text.specs.Tables.{same_name, value_in}
 use Rattle.symbols.proofs.Names.{same_length}
 
 -- a name is looked up among the rows of its own length
-pub value_in-of_length : {V : Type 0} (table : List (List ℕ × V)) (name : List ℕ) → value_in (filter (λ row. length row.0 == length name) table) name ≡ value_in table name
+pub value_in-of_length : {V : Type 0} (table : List (List ℕ × V)) (name : List ℕ)
+    → value_in (filter (λ row. length row.0 == length name) table) name ≡ value_in table name
 value_in-of_length [] name = refl
 value_in-of_length (row ∷ rows) name =
     elim (cases_Bool (length row.0 == length name)) [
@@ -24,7 +25,8 @@ abbrev fits_a_field : List ℕ → Bool
 fits_a_field name = nat_lt 0 (length name) && nat_lt (length name) 7
 
 -- no name of 1 to 6 characters has another length
-pub none_of_length : {V : Type 0} (count : ℕ) (table : List (List ℕ × V)) → list_all (λ row. fits_a_field row.0) table ≡ true → (0 < count → count < 7 → ⊥) → filter (λ row. length row.0 == count) table ≡ []
+pub none_of_length : {V : Type 0} (count : ℕ) (table : List (List ℕ × V)) → list_all (λ row. fits_a_field row.0) table ≡ true
+    → (0 < count → count < 7 → ⊥) → filter (λ row. length row.0 == count) table ≡ []
 none_of_length count [] fit outside = refl
 none_of_length count (row ∷ rows) fit outside =
     let parts = and_parts (fits_a_field row.0) (list_all (λ row. fits_a_field row.0) rows) fit in

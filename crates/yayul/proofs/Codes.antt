@@ -24,11 +24,14 @@ pub own_fits : (name : List ℕ) (own : FlightOperator) → Some own ≡ value_i
 own_fits name own e = subst (λ o. IfSome o (λ operator. flight_has_room operator ≡ true)) (sym e) (own_fit name)
 
 -- the operator of a name's own row, else that of the standard language
-pub own_or_standard : (name : List ℕ) (own : Option FlightOperator) (standard : Option Operator) → own ≡ value_in flight_operators name → standard ≡ value_in operators name
+pub own_or_standard : (name : List ℕ) (own : Option FlightOperator) (standard : Option Operator) → own ≡ value_in flight_operators name
+    → standard ≡ value_in operators name
     → option_or own (option_map FlightOperator.Standard standard) ≡ flight_operator name
-own_or_standard name own standard e f = ap (λ o. option_or o (option_map FlightOperator.Standard standard)) e ∙ ap (λ s. option_or (value_in flight_operators name) (option_map FlightOperator.Standard s)) f
+own_or_standard name own standard e f = ap (λ o. option_or o (option_map FlightOperator.Standard standard)) e
+    ∙ ap (λ s. option_or (value_in flight_operators name) (option_map FlightOperator.Standard s)) f
 
-either_fits : (own : Option FlightOperator) (standard : Option Operator) → IfSome own (λ o. flight_has_room o ≡ true) → IfSome standard (λ o. has_room o ≡ true)
+either_fits : (own : Option FlightOperator) (standard : Option Operator) → IfSome own (λ o. flight_has_room o ≡ true)
+    → IfSome standard (λ o. has_room o ≡ true)
     → IfSome (option_or own (option_map FlightOperator.Standard standard)) (λ o. flight_has_room o ≡ true)
 either_fits (Some own) standard a b = a
 either_fits None (Some standard) a b = b

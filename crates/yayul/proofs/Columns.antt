@@ -11,7 +11,8 @@ use Rattle.yayul.specs.declared.role.Role.{Role}
 use Rattle.yayul.proofs.ByLength.{none_of_length}
 
 -- a column of a table has of a name's row what stands there
-column : {V W : Type 0} (part : V → W) (table : List (List ℕ × V)) (name : List ℕ) → option_map part (value_in table name) ≡ value_in (map (λ e. (e.0, part e.1)) table) name
+column : {V W : Type 0} (part : V → W) (table : List (List ℕ × V)) (name : List ℕ)
+    → option_map part (value_in table name) ≡ value_in (map (λ e. (e.0, part e.1)) table) name
 column part [] name = refl
 column part (e ∷ es) name =
     elim (cases_Bool (same_name name e.0)) [
@@ -36,19 +37,26 @@ unfolding flight_operators flight_roles
 flight_roles_beside = refl
 
 -- the two columns of the row of a name
-pub operator_beside : (name : List ℕ) (row : Option (Operator × Role)) → row ≡ value_in operator_rows name → option_map (λ r. r.0) row ≡ value_in operators name
-operator_beside name row e = ap (option_map (λ r. r.0)) e ∙ column (λ r. r.0) operator_rows name ∙ ap (λ t. value_in t name) operators_beside
+pub operator_beside : (name : List ℕ) (row : Option (Operator × Role)) → row ≡ value_in operator_rows name
+    → option_map (λ r. r.0) row ≡ value_in operators name
+operator_beside name row e = ap (option_map (λ r. r.0)) e ∙ column (λ r. r.0) operator_rows name
+    ∙ ap (λ t. value_in t name) operators_beside
 
-pub role_beside : (name : List ℕ) (row : Option (Operator × Role)) → row ≡ value_in operator_rows name → option_map (λ r. r.1) row ≡ value_in roles name
+pub role_beside : (name : List ℕ) (row : Option (Operator × Role)) → row ≡ value_in operator_rows name
+    → option_map (λ r. r.1) row ≡ value_in roles name
 role_beside name row e = ap (option_map (λ r. r.1)) e ∙ column (λ r. r.1) operator_rows name ∙ ap (λ t. value_in t name) roles_beside
 
 pub own_operator_beside :
-    (name : List ℕ) (row : Option (FlightOperator × Role)) → row ≡ value_in flight_rows name → option_map (λ r. r.0) row ≡ value_in flight_operators name
-own_operator_beside name row e = ap (option_map (λ r. r.0)) e ∙ column (λ r. r.0) flight_rows name ∙ ap (λ t. value_in t name) flight_operators_beside
+    (name : List ℕ) (row : Option (FlightOperator × Role)) → row ≡ value_in flight_rows name
+    → option_map (λ r. r.0) row ≡ value_in flight_operators name
+own_operator_beside name row e = ap (option_map (λ r. r.0)) e ∙ column (λ r. r.0) flight_rows name
+    ∙ ap (λ t. value_in t name) flight_operators_beside
 
 pub own_role_beside :
-    (name : List ℕ) (row : Option (FlightOperator × Role)) → row ≡ value_in flight_rows name → option_map (λ r. r.1) row ≡ value_in flight_roles name
-own_role_beside name row e = ap (option_map (λ r. r.1)) e ∙ column (λ r. r.1) flight_rows name ∙ ap (λ t. value_in t name) flight_roles_beside
+    (name : List ℕ) (row : Option (FlightOperator × Role)) → row ≡ value_in flight_rows name
+    → option_map (λ r. r.1) row ≡ value_in flight_roles name
+own_role_beside name row e = ap (option_map (λ r. r.1)) e ∙ column (λ r. r.1) flight_rows name
+    ∙ ap (λ t. value_in t name) flight_roles_beside
 
 -- no operator's row has another length of name than 1 to 6
 pub no_row_of_length : (count : ℕ) → (0 < count → count < 7 → ⊥) → filter (λ row. length row.0 == count) operator_rows ≡ []

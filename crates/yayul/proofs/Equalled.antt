@@ -1,5 +1,6 @@
 -- What EQUALS comes to: a value, or a name that waits.
-use Rattle.std.proofs.Common.{◌≡◌, ℕ, Bool, true, false, List, [], ◌∷◌, ◌++◌, Option, None, Some, is_some, Result, Ok, Err, refl, ap, sym, ◌∙◌, ◌+◌, ◌-◌, arith, get_or, length, append_assoc, append-nil}
+use Rattle.std.proofs.Common.{◌≡◌, ℕ, Bool, true, false, List, [], ◌∷◌, ◌++◌, Option, None, Some, is_some, Result, Ok, Err, refl, ap, sym}
+use Rattle.std.proofs.Common.{◌∙◌, ◌+◌, ◌-◌, arith, get_or, length, append_assoc, append-nil}
 use Rattle.std.specs.Prelude.{IfErr, OnOk, if◌then◌else◌}
 use Rattle.std.specs.Result.{result_unwrap_or}
 use Rattle.std.specs.List.{slice_get}
@@ -14,7 +15,8 @@ use Rattle.yayul.specs.Inside.Answers.{LeadsTo}
 
 -- what holds of each value and of each name that waits, holds of EQUALS
 pub by_later : (P : LineEffect → Type 0) (line : ℕ) (s : Layout) (label : Label) (operand : Option Operand)
-    → ((value : Result Value FaultKind) → P (valued s label value)) → ((o : Operand) → P (promised line s label o)) → P (equals line s label operand)
+    → ((value : Result Value FaultKind) → P (valued s label value)) → ((o : Operand) → P (promised line s label o))
+    → P (equals line s label operand)
 by_later P line s label None known waits = known (Err BadOperand)
 by_later P line s label (Some operand) known waits = by_test (is_later s operand)
   where
@@ -28,20 +30,24 @@ promise_symbols line s Missing operand = refl
 promise_symbols line s Malformed operand = refl
 promise_symbols line s (Named name) operand = refl
 
-pub promise_requests : (line : ℕ) (s : Layout) (label : Label) (operand : Operand) → (with_promise line s label operand).requests ≡ s.requests
+pub promise_requests : (line : ℕ) (s : Layout) (label : Label) (operand : Operand)
+    → (with_promise line s label operand).requests ≡ s.requests
 promise_requests line s Missing operand = refl
 promise_requests line s Malformed operand = refl
 promise_requests line s (Named name) operand = refl
 
-pub promise_language : (line : ℕ) (s : Layout) (label : Label) (operand : Operand) → (with_promise line s label operand).language ≡ s.language
+pub promise_language : (line : ℕ) (s : Layout) (label : Label) (operand : Operand)
+    → (with_promise line s label operand).language ≡ s.language
 promise_language line s Missing operand = refl
 promise_language line s Malformed operand = refl
 promise_language line s (Named name) operand = refl
 
 -- a new name that is promised, and held, waits
 pub promise_leads : (line : ℕ) (s t u : Layout) (name : List ℕ) (operand : Operand) (result : Result (Unit {0}) FaultKind)
-    → is_some (value_in s.symbols name) ≡ false → is_some (value_in s.promised name) ≡ false → t ≡ record s { promised = s.promised ++ (name, Num 0) ∷ [] }
-    → OnOk result ((before : Table) (n : List ℕ) (v : Value) → t.promised ≡ before ++ (n, v) ∷ [] → u ≡ record t { promises = t.promises ++ record { line = line; name = n; operand = operand } ∷ [] })
+    → is_some (value_in s.symbols name) ≡ false → is_some (value_in s.promised name) ≡ false
+    → t ≡ record s { promised = s.promised ++ (name, Num 0) ∷ [] }
+    → OnOk result ((before : Table) (n : List ℕ) (v : Value) → t.promised ≡ before ++ (n, v) ∷ []
+    → u ≡ record t { promises = t.promises ++ record { line = line; name = n; operand = operand } ∷ [] })
     → IfErr result (λ kind. kind ≡ NoMemory) → LeadsTo (promised line s (Named name) operand) u result
 promise_leads line s t u name operand (Ok x) undefined new with_name held err = (
   rw (undefined, new) refl,
@@ -51,7 +57,8 @@ promise_leads line s t u name operand (Ok x) undefined new with_name held err = 
 promise_leads line s t u name operand (Err kind) undefined new with_name held err = λ known. absurd (known err)
 
 -- the last entry of a table
-pub last_entry : (table before : Table) (name : List ℕ) (value : Value) → table ≡ before ++ (name, value) ∷ [] → slice_get table (length table - 1) ≡ Some (name, value)
+pub last_entry : (table before : Table) (name : List ℕ) (value : Value) → table ≡ before ++ (name, value) ∷ []
+    → slice_get table (length table - 1) ≡ Some (name, value)
 last_entry table before name value is =
     let count : length table ≡ length before + 1 = ap length is ∙ length-append before ((name, value) ∷ []) in
     let at : length table - 1 ≡ length before = omega (arith, count) in
@@ -80,27 +87,33 @@ with_value_follows table name value = by_test (is_some (value_in table name))
 kept_follows : (table : Table) (p : Promise) → Follows table (kept table p)
 kept_follows table p = by_value (awaited table p.operand)
   where
-    by_value : (value : Result Value FaultKind) → Follows table (result_unwrap_or (and_then (λ v. Ok (with_value table p.name v)) value) table)
+    by_value : (value : Result Value FaultKind) → Follows table
+        (result_unwrap_or (and_then (λ v. Ok (with_value table p.name v)) value) table)
     by_value (Ok v) = with_value_follows table p.name v
     by_value (Err kind) = none_follow table
 
 round_follows : (promises : List Promise) (table : Table) → Follows table (round promises table)
 round_follows [] table = none_follow table
-round_follows (p ∷ promises) table = both_follow table (kept table p) (round promises (kept table p)) (kept_follows table p) (round_follows promises (kept table p))
+round_follows (p ∷ promises) table = both_follow table (kept table p) (round promises (kept table p)) (kept_follows table p)
+    (round_follows promises (kept table p))
 
 rounds_follow : (promises : List Promise) (table : Table) → Follows table (four_rounds promises table)
 rounds_follow promises table =
     let a : Table = round promises table in
     let b : Table = round promises a in
     let c : Table = round promises b in
-    both_follow table c (round promises c) (both_follow table b c (both_follow table a b (round_follows promises table) (round_follows promises a)) (round_follows promises b)) (round_follows promises c)
+    both_follow table c (round promises c) (both_follow table b c
+    (both_follow table a b (round_follows promises table) (round_follows promises a)) (round_follows promises b))
+    (round_follows promises c)
 
 pub settled_follows : (promises : List Promise) (table : Table) → Follows table (settled promises table)
 settled_follows promises table =
-    both_follow table (four_rounds promises table) (settled promises table) (rounds_follow promises table) (rounds_follow promises (four_rounds promises table))
+    both_follow table (four_rounds promises table) (settled promises table) (rounds_follow promises table)
+    (rounds_follow promises (four_rounds promises table))
 
 -- what holds of a table holds once names have their values, where it holds of a table with a symbol more that it did not have
-module _ (P : Table → Type 0) (next : (table : Table) (name : List ℕ) (value : Value) → is_some (value_in table name) ≡ false → P table → P (table ++ (name, value) ∷ [])) where
+module _ (P : Table → Type 0) (next : (table : Table) (name : List ℕ) (value : Value) → is_some (value_in table name) ≡ false → P table
+    → P (table ++ (name, value) ∷ [])) where
   kept_holds : (table : Table) (p : Promise) → P table → P (kept table p)
   kept_holds table p holds = by_value (awaited table p.operand)
     where
@@ -117,7 +130,8 @@ module _ (P : Table → Type 0) (next : (table : Table) (name : List ℕ) (value
   round_holds (p ∷ promises) table holds = round_holds promises (kept table p) (kept_holds table p holds)
 
   rounds_hold : (promises : List Promise) (table : Table) → P table → P (four_rounds promises table)
-  rounds_hold promises table holds = round_holds promises _ (round_holds promises _ (round_holds promises _ (round_holds promises table holds)))
+  rounds_hold promises table holds = round_holds promises _
+      (round_holds promises _ (round_holds promises _ (round_holds promises table holds)))
 
   pub settled_holds : (promises : List Promise) (table : Table) → P table → P (settled promises table)
   settled_holds promises table holds = rounds_hold promises _ (rounds_hold promises table holds)

@@ -1,5 +1,6 @@
 -- Faults among conditions.
-use Rattle.std.proofs.Common.{◌≡◌, ℕ, ◌+◌, ◌<◌, ◌==◌, Bool, true, false, not, ◌||◌, ◌&&◌, List, [], ◌∷◌, ◌++◌, length, take, get_or, map, Option, Some, None, is_some, cond, refl, ap, sym, ◌∙◌}
+use Rattle.std.proofs.Common.{◌≡◌, ℕ, ◌+◌, ◌<◌, ◌==◌, Bool, true, false, not, ◌||◌, ◌&&◌, List, [], ◌∷◌, ◌++◌, length, take, get_or, map}
+use Rattle.std.proofs.Common.{Option, Some, None, is_some, cond, refl, ap, sym, ◌∙◌}
 use Rattle.std.proofs.lemmas.List.{map-append}
 use Rattle.std.proofs.lemmas.List.Elements.{filter_more}
 use Rattle.std.specs.Prelude.{flat_map}
@@ -22,26 +23,31 @@ none-stand [] e = refl
 none-stand (kind ∷ kinds) e = absurd (cc)
 
 -- the faults of a label among conditions
-pub of_label_all : (conditions : List (Option FaultKind)) → list_all (λ c. option_map_or is_of_label c true) conditions ≡ list_all is_of_label (standing conditions)
+pub of_label_all : (conditions : List (Option FaultKind))
+    → list_all (λ c. option_map_or is_of_label c true) conditions ≡ list_all is_of_label (standing conditions)
 of_label_all [] = refl
 of_label_all (None ∷ conditions) = of_label_all conditions
 of_label_all (Some kind ∷ conditions) = ap (λ b. is_of_label kind && b) (of_label_all conditions)
 
-pub of_label_any : (conditions : List (Option FaultKind)) → list_any (λ c. option_map_or is_of_label c false) conditions ≡ list_any is_of_label (standing conditions)
+pub of_label_any : (conditions : List (Option FaultKind))
+    → list_any (λ c. option_map_or is_of_label c false) conditions ≡ list_any is_of_label (standing conditions)
 of_label_any [] = refl
 of_label_any (None ∷ conditions) = of_label_any conditions
 of_label_any (Some kind ∷ conditions) = ap (λ b. is_of_label kind || b) (of_label_any conditions)
 
 -- what is told of so many kinds and one
-pub told_next : (language : Language) (test : FaultKind → Bool) (line : ℕ) (text : List ℕ) (taken : Option ℕ) (kinds : List FaultKind) (i : ℕ) (d : FaultKind) → i < length kinds
+pub told_next : (language : Language) (test : FaultKind → Bool) (line : ℕ) (text : List ℕ) (taken : Option ℕ) (kinds : List FaultKind)
+    (i : ℕ) (d : FaultKind) → i < length kinds
     → map (finding language line text taken) (filter test (take (i + 1) kinds))
-    ≡ map (finding language line text taken) (filter test (take i kinds)) ++ cond (test (get_or kinds i d)) (finding language line text taken (get_or kinds i d) ∷ []) []
+    ≡ map (finding language line text taken) (filter test (take i kinds))
+    ++ cond (test (get_or kinds i d)) (finding language line text taken (get_or kinds i d) ∷ []) []
 told_next language test line text taken kinds i d lt =
     ap (map (finding language line text taken)) (filter_more test kinds i d lt)
     ∙ map-append (finding language line text taken) (filter test (take i kinds)) (cond (test (get_or kinds i d)) (get_or kinds i d ∷ []) [])
     ∙ ap (λ more. map (finding language line text taken) (filter test (take i kinds)) ++ more) (of_one (test (get_or kinds i d)))
   where
-    of_one : (b : Bool) → map (finding language line text taken) (cond b (get_or kinds i d ∷ []) []) ≡ cond b (finding language line text taken (get_or kinds i d) ∷ []) []
+    of_one : (b : Bool) → map (finding language line text taken) (cond b (get_or kinds i d ∷ []) [])
+        ≡ cond b (finding language line text taken (get_or kinds i d) ∷ []) []
     of_one true = refl
     of_one false = refl
 
@@ -56,8 +62,10 @@ filter_twice p q [] = refl
 filter_twice p q (kind ∷ kinds) = by_tests (filter_twice p q kinds) (p kind) (q kind) refl
   where
     by_tests : filter (λ k. p k && q k) kinds ≡ filter p (filter q kinds) → (a b : Bool) → p kind ≡ a
-        → cond (a && b) (kind ∷ filter (λ k. p k && q k) kinds) (filter (λ k. p k && q k) kinds) ≡ filter p (cond b (kind ∷ filter q kinds) (filter q kinds))
-    by_tests rest true true is = ap (λ ks. kind ∷ ks) rest ∙ sym (ap (λ b. cond b (kind ∷ filter p (filter q kinds)) (filter p (filter q kinds))) is)
+        → cond (a && b) (kind ∷ filter (λ k. p k && q k) kinds) (filter (λ k. p k && q k) kinds)
+        ≡ filter p (cond b (kind ∷ filter q kinds) (filter q kinds))
+    by_tests rest true true is = ap (λ ks. kind ∷ ks) rest
+        ∙ sym (ap (λ b. cond b (kind ∷ filter p (filter q kinds)) (filter p (filter q kinds))) is)
     by_tests rest true false is = rest
     by_tests rest false true is = rest ∙ sym (ap (λ b. cond b (kind ∷ filter p (filter q kinds)) (filter p (filter q kinds))) is)
     by_tests rest false false is = rest
@@ -66,16 +74,19 @@ filter_both : (p : FaultKind → Bool) (xs ys : List FaultKind) → filter p (xs
 filter_both p [] ys = refl
 filter_both p (kind ∷ xs) ys = by_test (filter_both p xs ys) (p kind)
   where
-    by_test : filter p (xs ++ ys) ≡ filter p xs ++ filter p ys → (b : Bool) → cond b (kind ∷ filter p (xs ++ ys)) (filter p (xs ++ ys)) ≡ cond b (kind ∷ filter p xs) (filter p xs) ++ filter p ys
+    by_test : filter p (xs ++ ys) ≡ filter p xs ++ filter p ys → (b : Bool)
+        → cond b (kind ∷ filter p (xs ++ ys)) (filter p (xs ++ ys)) ≡ cond b (kind ∷ filter p xs) (filter p xs) ++ filter p ys
     by_test rest true = ap (λ ks. kind ∷ ks) rest
     by_test rest false = rest
 
 -- what is told of the kinds that have some numbers
 abbrev told_by : Language → ℕ → List ℕ → Option ℕ → Doubt → List FaultKind → (FaultKind → Bool) → List Finding
-told_by language line text taken d kinds stands = map (finding language line text taken) (filter (λ kind. stands kind && not (follows d kind)) kinds)
+told_by language line text taken d kinds stands = map (finding language line text taken)
+    (filter (λ kind. stands kind && not (follows d kind)) kinds)
 
 -- the same of the kinds with these numbers
-told_by_numbers : (language : Language) (line : ℕ) (text : List ℕ) (taken : Option ℕ) (d : Doubt) (in_order standing : List FaultKind) (numbers : List ℕ) → numbers ≡ map fault_number standing
+told_by_numbers : (language : Language) (line : ℕ) (text : List ℕ) (taken : Option ℕ) (d : Doubt) (in_order standing : List FaultKind)
+    (numbers : List ℕ) → numbers ≡ map fault_number standing
     → told_by language line text taken d in_order (has_number numbers) ≡ told_by language line text taken d in_order (is_one_of standing)
 told_by_numbers language line text taken d in_order standing numbers same =
     ap (λ (ns : List ℕ). told_by language line text taken d in_order (has_number ns)) same
@@ -84,9 +95,11 @@ told_by_numbers language line text taken d in_order standing numbers same =
 -- first what stands within the longest line, and then what stands past it
 abbrev pub told_part : Language → ℕ → List ℕ → Option ℕ → Doubt → List ℕ → Bool → List Finding
 told_part language line text taken d numbers beyond =
-    map (finding language line text taken) (filter (λ kind. (has_number numbers kind && not (follows d kind)) && stands_beyond language text beyond kind) kinds_in_order)
+    map (finding language line text taken) (filter
+    (λ kind. (has_number numbers kind && not (follows d kind)) && stands_beyond language text beyond kind) kinds_in_order)
 
-pub told_parts : (language : Language) (line : ℕ) (text : List ℕ) (taken : Option ℕ) (d : Doubt) (standing : List FaultKind) (numbers : List ℕ) → numbers ≡ map fault_number standing
+pub told_parts : (language : Language) (line : ℕ) (text : List ℕ) (taken : Option ℕ) (d : Doubt) (standing : List FaultKind)
+    (numbers : List ℕ) → numbers ≡ map fault_number standing
     → told_part language line text taken d numbers false ++ told_part language line text taken d numbers true
     ≡ map (finding language line text taken) (filter (λ kind. is_one_of standing kind && not (follows d kind)) (kinds_on language text))
 told_parts language line text taken d standing numbers same =
@@ -94,7 +107,8 @@ told_parts language line text taken d standing numbers same =
     let tell : List FaultKind → List Finding = map (finding language line text taken) in
     let within : List FaultKind = filter (λ kind. not (is_beyond language text kind)) kinds_in_order in
     let past : List FaultKind = filter (is_beyond language text) kinds_in_order in
-    (λ i. tell (filter_twice tells (λ kind. not (is_beyond language text kind)) kinds_in_order i) ++ tell (filter_twice tells (is_beyond language text) kinds_in_order i))
+    (λ i. tell (filter_twice tells (λ kind. not (is_beyond language text kind)) kinds_in_order i)
+    ++ tell (filter_twice tells (is_beyond language text) kinds_in_order i))
     ∙ sym (map-append (finding language line text taken) (filter tells within) (filter tells past))
     ∙ ap tell (sym (filter_both tells within past))
     ∙ told_by_numbers language line text taken d (kinds_on language text) standing numbers same
@@ -111,6 +125,7 @@ pub numbers_standing : (a f b p c : List (Option FaultKind))
 numbers_standing a f b p c =
     (λ i. numbers_of a i ++ numbers_of f i ++ numbers_of b i ++ numbers_of p i ++ numbers_of c i)
     ∙ sym (map-append fault_number (standing a ++ standing f ++ standing b ++ standing p) (standing c)
-    ∙ ap (λ (front : List ℕ). front ++ map fault_number (standing c)) (map-append fault_number (standing a ++ standing f ++ standing b) (standing p)
+    ∙ ap (λ (front : List ℕ). front ++ map fault_number (standing c))
+    (map-append fault_number (standing a ++ standing f ++ standing b) (standing p)
     ∙ ap (λ (front : List ℕ). front ++ map fault_number (standing p)) (map-append fault_number (standing a ++ standing f) (standing b)
     ∙ ap (λ (front : List ℕ). front ++ map fault_number (standing b)) (map-append fault_number (standing a) (standing f)))))

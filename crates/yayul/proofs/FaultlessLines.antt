@@ -1,5 +1,6 @@
 -- Lines without a fault: nothing is told of them, and what words and names that wait come to after them.
-use Rattle.std.proofs.Common.{◌≡◌, ℕ, ◌+◌, ◌≤◌, ◌==◌, Bool, true, false, not, cond, nat_lt, length, List, [], ◌∷◌, ◌++◌, Option, Some, None, Result, Ok, Err, refl, ap, sym, ◌∙◌, arith, append_assoc, append-nil}
+use Rattle.std.proofs.Common.{◌≡◌, ℕ, ◌+◌, ◌≤◌, ◌==◌, Bool, true, false, not, cond, nat_lt, length, List, [], ◌∷◌, ◌++◌, Option, Some, None}
+use Rattle.std.proofs.Common.{Result, Ok, Err, refl, ap, sym, ◌∙◌, arith, append_assoc, append-nil}
 use Rattle.std.specs.Prelude.{if◌then◌else◌}
 use Rattle.std.specs.List.{list_all, find}
 use Rattle.std.specs.Option.{option_map, option_map_or, option_or, unwrap_or}
@@ -12,11 +13,19 @@ use Rattle.std.proofs.lemmas.List.Folds.{find_at}
 use Rattle.agc_text.specs.Bytes.{line_length, is_text_byte}
 use Rattle.yayul.specs.Flight.{measured, most_lines}
 use Rattle.yayul.specs.Later.{Table, first_fault, promise_fault, promise_kind, waiting_kind}
-use Rattle.yayul.specs.Layout.{Promise, LineEffect, equals, gives, is_later, is_taken, is_erasable, lacks_room, width, promised, valued, statement_on, Request, Layout, value_here, early_value, defined, asked, asked_here, fault_if, fault_number, standing, on_line, is_malformed, is_twice, word_place, statement_effect, text_faults, line_effect, line_faults, layout_after, layout_faults}
+use Rattle.yayul.specs.Layout.{Promise, LineEffect, equals, gives, is_later, is_taken, is_erasable, lacks_room, width, promised, valued}
+use Rattle.yayul.specs.Layout.{statement_on, Request, Layout, value_here, early_value, defined, asked, asked_here, fault_if, fault_number}
+use Rattle.yayul.specs.Layout.{standing, on_line, is_malformed, is_twice, word_place, statement_effect, text_faults, line_effect}
+use Rattle.yayul.specs.Layout.{line_faults, layout_after, layout_faults}
 use Rattle.yayul.specs.Mended.{lacks_form, lacks_operand, mended}
-use Rattle.yayul.specs.Survey.{Survey, operation_on, rests_on_known, is_done, location_known, known_after, extracode_known, some_stands, wrong_byte, laid, with_known, said_passed, layout_kinds, passed_line, passed_lines, word_kinds, content_kinds}
+use Rattle.yayul.specs.Survey.{Survey, operation_on, rests_on_known, is_done, location_known, known_after, extracode_known, some_stands}
+use Rattle.yayul.specs.Survey.{wrong_byte, laid, with_known, said_passed, layout_kinds, passed_line, passed_lines, word_kinds}
+use Rattle.yayul.specs.Survey.{content_kinds}
 use Rattle.yayul.specs.Words.{content_words, request_words, request_faults, word_faults}
-use Rattle.yayul.specs.Language.{Language, Addressed, BadLabel, BadOperand, Bank, BankFull, BankWord, CodeInErasable, Complemented, Constant, Constants, Content, Ebank, Equals, Erase, FarAddress, FarComplement, Fault, FaultKind, Gives, Label, LongLine, Malformed, Missing, Named, NotAscii, Nothing, Operand, Operation, PlaceTaken, Plain, Setloc, Location, TooManyLines, TwiceDefined, Unknown, UnknownOperator, Value}
+use Rattle.yayul.specs.Language.{Language, Addressed, BadLabel, BadOperand, Bank, BankFull, BankWord, CodeInErasable, Complemented}
+use Rattle.yayul.specs.Language.{Constant, Constants, Content, Ebank, Equals, Erase, FarAddress, FarComplement, Fault, FaultKind, Gives}
+use Rattle.yayul.specs.Language.{Label, LongLine, Malformed, Missing, Named, NotAscii, Nothing, Operand, Operation, PlaceTaken, Plain}
+use Rattle.yayul.specs.Language.{Setloc, Location, TooManyLines, TwiceDefined, Unknown, UnknownOperator, Value}
 use Rattle.yayul.specs.declared.doubt.Known.{Known}
 use Rattle.yayul.proofs.LineRequests.{defined_keeps, free_place, none_stands, no_others, head_faults}
 use Rattle.yayul.proofs.Equalled.{by_later, promise_requests}
@@ -45,7 +54,9 @@ no_front (k ∷ kinds) others e = absurd (cc)
 pub all_text : (language : Language) (line : ℕ) (text : List ℕ) → text_faults language line text ≡ [] → list_all is_text_byte text ≡ true
 all_text language line text e =
     not-false (list_all is_text_byte text)
-    (none_stands (not (list_all is_text_byte text)) NotAscii (fault_if (nat_lt line_length (length (measured language text))) LongLine ∷ fault_if (line == most_lines language + 1) TooManyLines ∷ []) e).0
+    (none_stands (not (list_all is_text_byte text)) NotAscii
+    (fault_if (nat_lt line_length (length (measured language text))) LongLine ∷ fault_if (line == most_lines language + 1) TooManyLines
+    ∷ []) e).0
 
 -- a fault of its own stands on a line
 own_fault : (a b : Bool) (j k kind : FaultKind) → standing (fault_if a j ∷ fault_if b k ∷ Some kind ∷ []) ≡ [] → ⊥
@@ -53,7 +64,8 @@ own_fault a b j k kind e =
     let bad : kind ∷ [] ≡ [] = (none_stands b k (Some kind ∷ []) (none_stands a j (fault_if b k ∷ Some kind ∷ []) e).1).1 in cc
 
 -- a line without a fault says what it says, no operand in place of another
-same_operation : (line : ℕ) (s : Layout) (text : List ℕ) (label : Label) (operation : Operation) → (statement_effect line s label operation).faults ≡ []
+same_operation : (line : ℕ) (s : Layout) (text : List ℕ) (label : Label) (operation : Operation)
+    → (statement_effect line s label operation).faults ≡ []
     → (mended s.language text operation ≡ operation) × (lacks_form operation ≡ false)
 same_operation line s text label Nothing e = (refl, refl)
 same_operation line s text label Unknown e = (refl, refl)
@@ -62,10 +74,12 @@ same_operation line s text label (Bank taken number) e = (refl, refl)
 same_operation line s text label (Erase count) e = (refl, refl)
 same_operation line s text label (Equals operand) e = (refl, refl)
 same_operation line s text label (Ebank operand) e = (refl, refl)
-same_operation line s text label (Gives None) e = absurd (own_fault (is_malformed label) (is_twice s label) BadLabel TwiceDefined BadOperand e)
+same_operation line s text label (Gives None) e = absurd
+    (own_fault (is_malformed label) (is_twice s label) BadLabel TwiceDefined BadOperand e)
 same_operation line s text label (Gives (Some content)) e = (refl, refl)
 
-still_known : (line : ℕ) (s : Layout) (label : Label) (operation : Operation) → (statement_effect line s label operation).faults ≡ [] → extracode_known true operation ≡ true
+still_known : (line : ℕ) (s : Layout) (label : Label) (operation : Operation) → (statement_effect line s label operation).faults ≡ []
+    → extracode_known true operation ≡ true
 still_known line s label Nothing e = refl
 still_known line s label Unknown e = absurd (own_fault (is_malformed label) (is_twice s label) BadLabel TwiceDefined UnknownOperator e)
 still_known line s label (Setloc operand) e = refl
@@ -86,7 +100,8 @@ location_stays (Equals operand) = refl
 location_stays (Ebank operand) = refl
 location_stays (Gives content) = refl
 
-rests_on_all : (alone : Bool) (operation : Operation) → rests_on_known (record { location = true; banks = true; extracode = true; wrong = None }) alone operation ≡ true
+rests_on_all : (alone : Bool) (operation : Operation)
+    → rests_on_known (record { location = true; banks = true; extracode = true; wrong = None }) alone operation ≡ true
 rests_on_all alone Nothing = refl
 rests_on_all alone Unknown = refl
 rests_on_all alone (Setloc operand) = refl
@@ -107,7 +122,8 @@ module _ (line : ℕ) (l : Layout) (text : List ℕ) (e : line_faults line l tex
   pub says_same : (operation_on l text ≡ (statement_on l text).operation) × (lacks_form (statement_on l text).operation ≡ false)
   says_same = same_operation line l text (statement_on l text).label (statement_on l text).operation no_layout
 
-  all_stays : known_after (record { location = true; banks = true; extracode = true; wrong = None }) text (statement_on l text).operation true
+  all_stays : known_after (record { location = true; banks = true; extracode = true; wrong = None }) text (statement_on l text).operation
+      true
       ≡ record { location = true; banks = true; extracode = true; wrong = None }
   all_stays = λ i. record {
     location = location_stays (statement_on l text).operation i;
@@ -125,39 +141,56 @@ module _ (line : ℕ) (l : Layout) (text : List ℕ) (e : line_faults line l tex
       let known : Known = record { location = true; banks = true; extracode = true; wrong = None } in
       let alone : Bool = lacks_operand l.language text in
       let after : Layout = (statement_effect line l label operation).after in
-      ap (λ o. said_passed line (clean l) text label o (is_done known alone o (layout_kinds line l label o)) (layout_kinds line l label o)) says_same.0
+      ap (λ o. said_passed line (clean l) text label o (is_done known alone o (layout_kinds line l label o)) (layout_kinds line l label o))
+      says_same.0
       ∙ ap (λ ks. said_passed line (clean l) text label operation (is_done known alone operation ks) ks) no_layout
       ∙ ap (λ d. said_passed line (clean l) text label operation d []) (rests_on_all alone operation)
       ∙ ap (λ k. with_known (laid line (clean l) label operation) k) all_stays
       ∙ ap (λ ks. clean (cond (some_stands ks) l after)) no_layout
 
 -- after faultless lines
-pub clean_after : (texts : List (List ℕ)) (line : ℕ) (l : Layout) → layout_faults line l texts ≡ [] → passed_lines line (clean l) texts ≡ clean (layout_after line l texts)
+pub clean_after : (texts : List (List ℕ)) (line : ℕ) (l : Layout) → layout_faults line l texts ≡ []
+    → passed_lines line (clean l) texts ≡ clean (layout_after line l texts)
 clean_after [] line l e = refl
 clean_after (text ∷ texts) line l e =
     let parts = head_faults line (line_faults line l text) (layout_faults (line + 1) (line_effect line l text).after texts) e in
-    ap (λ s. passed_lines (line + 1) s texts) (passed_clean line l text parts.0) ∙ clean_after texts (line + 1) (line_effect line l text).after parts.1
+    ap (λ s. passed_lines (line + 1) s texts) (passed_clean line l text parts.0)
+    ∙ clean_after texts (line + 1) (line_effect line l text).after parts.1
 
 -- ## The word faults of lines
 -- the word faults of some lines, in their order
 abbrev pub words_of : List (List ℕ × Value) → ℕ → Layout → List (List ℕ) → List Fault
 words_of table line l [] = []
 words_of table line l (text ∷ texts) =
-    on_line line (word_kinds table l false (statement_on l text).operation) ++ words_of table (line + 1) (line_effect line l text).after texts
+    on_line line (word_kinds table l false (statement_on l text).operation)
+    ++ words_of table (line + 1) (line_effect line l text).after texts
 
-asked_words : (table : List (List ℕ × Value)) (line : ℕ) (s : Layout) (content : Content) (bank offset : ℕ) → word_place s.location ≡ Some (bank, offset)
+asked_words : (table : List (List ℕ × Value)) (line : ℕ) (s : Layout) (content : Content) (bank offset : ℕ)
+    → word_place s.location ≡ Some (bank, offset)
     → word_faults table (asked_here line s content).requests ≡ word_faults table s.requests ++ on_line line (content_kinds table s content)
 unfolding request_faults request_words
 asked_words table line s content bank offset here =
     let r : Request = record { line = line; bank = bank; offset = offset; content = content; extracode = s.extracode; eb = s.eb } in
-    ap (λ (place : Option (ℕ × ℕ)). word_faults table (option_map_or (λ p. asked s (record { line = line; bank = p.0; offset = p.1; content = content; extracode = s.extracode; eb = s.eb })) place s).requests) here
+    ap (λ (place : Option (ℕ × ℕ)). word_faults table
+    (option_map_or (λ p. asked s (record {
+      line = line;
+      bank = p.0;
+      offset = p.1;
+      content = content;
+      extracode = s.extracode;
+      eb
+          = s.eb;
+    })) place s).requests) here
     ∙ flat_map-append (λ q. on_line q.line (request_faults table q)) s.requests (r ∷ [])
     ∙ ap (λ more. word_faults table s.requests ++ more) (append-nil (on_line line (request_faults table r)))
-    ∙ ap (λ (place : ℕ × ℕ). word_faults table s.requests ++ on_line line (standing (result_err (content_words table (Value.Fixed place.0 place.1) s.extracode s.eb content) ∷ Rattle.yayul.specs.Words.extracode_fault (Rattle.yayul.specs.Words.extracode_of content) s.extracode ∷ [])))
+    ∙ ap (λ (place : ℕ × ℕ). word_faults table s.requests
+    ++ on_line line (standing (result_err (content_words table (Value.Fixed place.0 place.1) s.extracode s.eb content)
+    ∷ Rattle.yayul.specs.Words.extracode_fault (Rattle.yayul.specs.Words.extracode_of content) s.extracode ∷ [])))
     (sym (ap (λ (place : Option (ℕ × ℕ)). unwrap_or place (2, 0)) here))
 
 -- a faultless line that gives words has a place for them
-given_place : (line : ℕ) (s : Layout) (label : Label) (content : Content) → (gives line s label content).faults ≡ [] → (bank : ℕ) × (offset : ℕ) × (word_place s.location ≡ Some (bank, offset))
+given_place : (line : ℕ) (s : Layout) (label : Label) (content : Content) → (gives line s label content).faults ≡ []
+    → (bank : ℕ) × (offset : ℕ) × (word_place s.location ≡ Some (bank, offset))
 given_place line s label content e = by_location s.location (free_place line s label content e).0 fixed
   where
     fixed : is_erasable s.location ≡ false
@@ -180,15 +213,18 @@ given_place line s label content e = by_location s.location (free_place line s l
     some_width (FarComplement operand) = omega arith
     some_width (BankWord operand) = omega arith
 
-    by_location : (here : Location) → lacks_room (width content) here ≡ false → is_erasable here ≡ false → (bank : ℕ) × (offset : ℕ) × (word_place here ≡ Some (bank, offset))
+    by_location : (here : Location) → lacks_room (width content) here ≡ false → is_erasable here ≡ false
+        → (bank : ℕ) × (offset : ℕ) × (word_place here ≡ Some (bank, offset))
     by_location (Location.Erasable n) room fixed_place = absurd (cc)
     by_location (Location.Fixed bank n) room fixed_place =
         let some : 1 ≤ width content = some_width content in
         let within : nat_lt n 0o2000 ≡ true = grind (arith, nat_tests) in
         (bank, n, rw within refl)
 
-statement_words : (table : List (List ℕ × Value)) (line : ℕ) (s : Layout) (label : Label) (operation : Operation) → (statement_effect line s label operation).faults ≡ []
-    → word_faults table (statement_effect line s label operation).after.requests ≡ word_faults table s.requests ++ on_line line (word_kinds table s false operation)
+statement_words : (table : List (List ℕ × Value)) (line : ℕ) (s : Layout) (label : Label) (operation : Operation)
+    → (statement_effect line s label operation).faults ≡ []
+    → word_faults table (statement_effect line s label operation).after.requests
+    ≡ word_faults table s.requests ++ on_line line (word_kinds table s false operation)
 statement_words table line s label operation none = by_operation operation none
   where
     same : (requests : List Request) → requests ≡ s.requests → word_faults table requests ≡ word_faults table s.requests ++ []
@@ -199,27 +235,34 @@ statement_words table line s label operation none = by_operation operation none
     valued_requests (Err kind) = refl
 
     gives_words : (content : Content) (l : Label) (bank offset : ℕ) → word_place s.location ≡ Some (bank, offset)
-        → word_faults table (asked_here line (defined s l (value_here s.location)) content).requests ≡ word_faults table s.requests ++ on_line line (content_kinds table s content)
+        → word_faults table (asked_here line (defined s l (value_here s.location)) content).requests
+        ≡ word_faults table s.requests ++ on_line line (content_kinds table s content)
     gives_words content Missing bank offset here = asked_words table line s content bank offset here
     gives_words content Malformed bank offset here = asked_words table line s content bank offset here
-    gives_words content (Named name) bank offset here = asked_words table line (defined s (Named name) (value_here s.location)) content bank offset here
+    gives_words content (Named name) bank offset here = asked_words table line (defined s (Named name) (value_here s.location)) content bank
+        offset here
 
     by_operation : (o : Operation) → (statement_effect line s label o).faults ≡ []
-        → word_faults table (statement_effect line s label o).after.requests ≡ word_faults table s.requests ++ on_line line (word_kinds table s false o)
+        → word_faults table (statement_effect line s label o).after.requests
+        ≡ word_faults table s.requests ++ on_line line (word_kinds table s false o)
     by_operation Nothing e = same _ (defined_keeps s label (value_here s.location)).1
     by_operation Unknown e = same s.requests refl
     by_operation (Setloc operand) e = same s.requests refl
     by_operation (Bank taken number) e = same s.requests refl
     by_operation (Erase count) e = same _ (defined_keeps s label (value_here s.location)).1
-    by_operation (Equals operand) e = same _ (by_later (λ (x : LineEffect). x.after.requests ≡ s.requests) line s label operand valued_requests (λ o. promise_requests line s label o))
+    by_operation (Equals operand) e = same _ (by_later (λ (x : LineEffect). x.after.requests ≡ s.requests) line s label operand
+        valued_requests (λ o. promise_requests line s label o))
     by_operation (Ebank operand) e = same s.requests refl
     by_operation (Gives None) e = same s.requests refl
-    by_operation (Gives (Some content)) e = let place = given_place line s label content e in gives_words content label place.0 place.1 place.2
+    by_operation (Gives (Some content)) e = let place = given_place line s label content e in gives_words content label place.0 place.1
+        place.2
 
 line_words : (table : List (List ℕ × Value)) (line : ℕ) (s : Layout) (text : List ℕ) → line_faults line s text ≡ []
-    → word_faults table (line_effect line s text).after.requests ≡ word_faults table s.requests ++ on_line line (word_kinds table s false (statement_on s text).operation)
+    → word_faults table (line_effect line s text).after.requests
+    ≡ word_faults table s.requests ++ on_line line (word_kinds table s false (statement_on s text).operation)
 unfolding line_effect
-line_words table line s text e = statement_words table line s (statement_on s text).label (statement_on s text).operation (no_layout line s text e)
+line_words table line s text e = statement_words table line s (statement_on s text).label (statement_on s text).operation
+    (no_layout line s text e)
 
 -- the word faults of what lines ask for are those of the lines
 pub words_told : (table : List (List ℕ × Value)) (texts : List (List ℕ)) (line : ℕ) (s : Layout) → layout_faults line s texts ≡ []
@@ -236,13 +279,15 @@ words_told table (text ∷ texts) line s e =
 -- ## The faults of names that wait
 -- the fault of a name that a line lets wait
 abbrev pub line_fault : Table → ℕ → Layout → Label → Operation → Option Fault
-line_fault table line s label operation = option_map (λ kind. record { line = line; number = fault_number kind }) (waiting_kind table s label operation)
+line_fault table line s label operation = option_map (λ kind. record { line = line; number = fault_number kind })
+    (waiting_kind table s label operation)
 
 -- the first of those of some lines
 abbrev pub first_of : Table → ℕ → Layout → List (List ℕ) → Option Fault
 first_of table line l [] = None
 first_of table line l (text ∷ texts) =
-    option_or (line_fault table line l (statement_on l text).label (statement_on l text).operation) (first_of table (line + 1) (line_effect line l text).after texts)
+    option_or (line_fault table line l (statement_on l text).label (statement_on l text).operation)
+    (first_of table (line + 1) (line_effect line l text).after texts)
 
 or_none : (found : Option Fault) → option_or found None ≡ found
 or_none None = refl
@@ -256,8 +301,10 @@ pub neither : (a b : Option Fault) → option_or a b ≡ None → (a ≡ None) �
 neither None b e = (refl, e)
 neither (Some fault) b e = absurd (let bad : Some fault ≡ None = e in cc)
 
-first_more : (table : Table) (promises : List Promise) (p : Promise) → first_fault table (promises ++ p ∷ []) ≡ option_or (first_fault table promises) (promise_fault table p)
-first_more table promises p = fold-append (λ (found : Option Fault) (q : Promise). option_or found (promise_fault table q)) None promises (p ∷ [])
+first_more : (table : Table) (promises : List Promise) (p : Promise)
+    → first_fault table (promises ++ p ∷ []) ≡ option_or (first_fault table promises) (promise_fault table p)
+first_more table promises p = fold-append (λ (found : Option Fault) (q : Promise). option_or found (promise_fault table q)) None promises
+    (p ∷ [])
 
 -- what EQUALS does, and its fault, where its operand is a symbol of a later line or is not
 abbrev pub effect_where : ℕ → Layout → Operand → Label → Bool → LineEffect
@@ -270,7 +317,9 @@ kind_where table operand Malformed b = None
 
 -- the first fault, where a label waits or has its value
 waits_first : (table : Table) (line : ℕ) (s : Layout) (operand : Operand) (l : Label) (b : Bool)
-    → first_fault table (effect_where line s operand l b).after.promises ≡ option_or (first_fault table s.promises) (option_map (λ k. record { line = line; number = fault_number k }) (kind_where table operand l b))
+    → first_fault table (effect_where line s operand l b).after.promises
+    ≡ option_or (first_fault table s.promises) (option_map (λ k. record { line = line; number = fault_number k })
+    (kind_where table operand l b))
 waits_first table line s operand l b = by_label l b
   where
     valued_same : (l : Label) (value : Result Value FaultKind) → (valued s l value).after.promises ≡ s.promises
@@ -283,7 +332,9 @@ waits_first table line s operand l b = by_label l b
     same promises e = ap (first_fault table) e ∙ sym (or_none (first_fault table s.promises))
 
     by_label : (l : Label) (b : Bool)
-        → first_fault table (effect_where line s operand l b).after.promises ≡ option_or (first_fault table s.promises) (option_map (λ k. record { line = line; number = fault_number k }) (kind_where table operand l b))
+        → first_fault table (effect_where line s operand l b).after.promises
+        ≡ option_or (first_fault table s.promises)
+        (option_map (λ k. record { line = line; number = fault_number k }) (kind_where table operand l b))
     by_label Missing true = same s.promises refl
     by_label Missing false = same _ (valued_same Missing (early_value s (Some operand)))
     by_label Malformed true = same s.promises refl
@@ -292,13 +343,15 @@ waits_first table line s operand l b = by_label l b
     by_label (Named name) false = same _ (valued_same (Named name) (early_value s (Some operand)))
 
 equals_first : (table : Table) (line : ℕ) (s : Layout) (label : Label) (operand : Operand)
-    → first_fault table (equals line s label (Some operand)).after.promises ≡ option_or (first_fault table s.promises) (line_fault table line s label (Equals (Some operand)))
+    → first_fault table (equals line s label (Some operand)).after.promises
+    ≡ option_or (first_fault table s.promises) (line_fault table line s label (Equals (Some operand)))
 equals_first table line s Missing operand = waits_first table line s operand Missing (is_later s operand)
 equals_first table line s Malformed operand = waits_first table line s operand Malformed (is_later s operand)
 equals_first table line s (Named name) operand = waits_first table line s operand (Named name) (is_later s operand)
 
 statement_first : (table : Table) (line : ℕ) (s : Layout) (label : Label) (operation : Operation)
-    → first_fault table (statement_effect line s label operation).after.promises ≡ option_or (first_fault table s.promises) (line_fault table line s label operation)
+    → first_fault table (statement_effect line s label operation).after.promises
+    ≡ option_or (first_fault table s.promises) (line_fault table line s label operation)
 statement_first table line s label operation = by_operation operation
   where
     same : (promises : List Promise) → promises ≡ s.promises → first_fault table promises ≡ option_or (first_fault table s.promises) None
@@ -313,11 +366,21 @@ statement_first table line s label operation = by_operation operation
     valued_same (Ok value) = labelled label value
     valued_same (Err kind) = refl
 
-    asked_same : (content : Content) (t : Layout) (place : Option (ℕ × ℕ)) → (option_map_or (λ p. asked t (record { line = line; bank = p.0; offset = p.1; content = content; extracode = t.extracode; eb = t.eb })) place t).promises ≡ t.promises
+    asked_same : (content : Content) (t : Layout) (place : Option (ℕ × ℕ))
+        → (option_map_or (λ p. asked t (record {
+          line = line;
+          bank = p.0;
+          offset = p.1;
+          content = content;
+          extracode = t.extracode;
+          eb
+              = t.eb;
+        })) place t).promises ≡ t.promises
     asked_same content t None = refl
     asked_same content t (Some p) = refl
 
-    by_operation : (o : Operation) → first_fault table (statement_effect line s label o).after.promises ≡ option_or (first_fault table s.promises) (line_fault table line s label o)
+    by_operation : (o : Operation) → first_fault table (statement_effect line s label o).after.promises
+        ≡ option_or (first_fault table s.promises) (line_fault table line s label o)
     by_operation Nothing = same _ (labelled label (value_here s.location))
     by_operation Unknown = same s.promises refl
     by_operation (Setloc operand) = same s.promises refl
@@ -327,10 +390,12 @@ statement_first table line s label operation = by_operation operation
     by_operation (Equals (Some operand)) = equals_first table line s label operand
     by_operation (Ebank operand) = same s.promises refl
     by_operation (Gives None) = same s.promises refl
-    by_operation (Gives (Some content)) = same _ (asked_same content (defined s label (value_here s.location)) (word_place (defined s label (value_here s.location)).location) ∙ labelled label (value_here s.location))
+    by_operation (Gives (Some content)) = same _ (asked_same content (defined s label (value_here s.location))
+        (word_place (defined s label (value_here s.location)).location) ∙ labelled label (value_here s.location))
 
 line_first : (table : Table) (line : ℕ) (s : Layout) (text : List ℕ)
-    → first_fault table (line_effect line s text).after.promises ≡ option_or (first_fault table s.promises) (line_fault table line s (statement_on s text).label (statement_on s text).operation)
+    → first_fault table (line_effect line s text).after.promises
+    ≡ option_or (first_fault table s.promises) (line_fault table line s (statement_on s text).label (statement_on s text).operation)
 unfolding line_effect
 line_first table line s text = statement_first table line s (statement_on s text).label (statement_on s text).operation
 

@@ -25,17 +25,22 @@ module _ (line : ℕ) (s : Layout) (l : Held) (p : Placing) (agrees : Agrees lin
   pub values_hold : Holds line (with_values s).symbols s.requests (map request_of p.waiting.items) p.rope p.fault
   values_hold =
       let more = settled_follows s.promises s.symbols in
-      subst (λ (table : Table). Holds line table s.requests (map request_of p.waiting.items) p.rope p.fault) (sym more.1) (named_keeps line s p more.0 agrees.keeps).holds
+      subst (λ (table : Table). Holds line table s.requests (map request_of p.waiting.items) p.rope p.fault) (sym more.1)
+      (named_keeps line s p more.0 agrees.keeps).holds
 
   -- a name that waits has a fault
-  pub finished_fault : (source : Source) (table : Table) (fault : Fault) → table ≡ settled (map promise_of l.promises.items) l.symbols → Some fault ≡ first_fault table (map promise_of l.promises.items)
+  pub finished_fault : (source : Source) (table : Table) (fault : Fault) → table ≡ settled (map promise_of l.promises.items) l.symbols
+      → Some fault ≡ first_fault table (map promise_of l.promises.items)
       → GivesProgram (finished s source) (Err fault)
   finished_fault source table fault is first =
-      finished_err s source fault (sym (first ∙ ap (λ t. first_fault t (map promise_of l.promises.items)) (values_same table is) ∙ ap (first_fault (with_values s).symbols) promises_same))
+      finished_err s source fault (sym (first ∙ ap (λ t. first_fault t (map promise_of l.promises.items)) (values_same table is)
+      ∙ ap (first_fault (with_values s).symbols) promises_same))
 
   -- none has
-  pub finished_words : (source : Source) (table : Table) (result : Result Program Fault) → table ≡ settled (map promise_of l.promises.items) l.symbols → None ≡ first_fault table (map promise_of l.promises.items)
+  pub finished_words : (source : Source) (table : Table) (result : Result Program Fault)
+      → table ≡ settled (map promise_of l.promises.items) l.symbols → None ≡ first_fault table (map promise_of l.promises.items)
       → GivesProgram (completed (with_values s) source) result → GivesProgram (finished s source) result
   finished_words source table result is first gives =
       answers_same (finished s source) (completed (with_values s) source) result
-      (finished_ok s source (sym (first ∙ ap (λ t. first_fault t (map promise_of l.promises.items)) (values_same table is) ∙ ap (first_fault (with_values s).symbols) promises_same))) gives
+      (finished_ok s source (sym (first ∙ ap (λ t. first_fault t (map promise_of l.promises.items)) (values_same table is)
+      ∙ ap (first_fault (with_values s).symbols) promises_same))) gives

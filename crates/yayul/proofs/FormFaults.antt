@@ -1,5 +1,6 @@
 -- Which lines the language of flight programs takes by their form.
-use Rattle.std.proofs.Common.{◌≡◌, ℕ, ◌<◌, ◌≤◌, Bool, true, false, ◌&&◌, ◌||◌, not, nat_lt, List, [], ◌∷◌, length, Option, Some, None, Result, Ok, Err, cond, refl, ap, sym, ◌∙◌}
+use Rattle.std.proofs.Common.{◌≡◌, ℕ, ◌<◌, ◌≤◌, Bool, true, false, ◌&&◌, ◌||◌, not, nat_lt, List, [], ◌∷◌, length, Option, Some, None}
+use Rattle.std.proofs.Common.{Result, Ok, Err, cond, refl, ap, sym, ◌∙◌}
 use Rattle.std.specs.Prelude.{IfErr, ok_or}
 use Rattle.std.specs.List.{list_any, list_all}
 use Rattle.std.specs.Result.{result_err}
@@ -7,8 +8,14 @@ use Rattle.std.proofs.lemmas.Bool.{le-ltb, lt-ltb}
 use Rattle.std.proofs.lemmas.List.Folds.{list_any-append}
 use Rattle.agc_text.specs.Bytes.{line_length, is_text_byte}
 use Rattle.agc_text.specs.Tables.{value_in}
-use Rattle.yayul.specs.Language.{BadBank, BadLabel, BadOperand, Bank, BankFull, BankRange, CodeInErasable, Content, Ebank, Equals, Erasable, Erase, FaultKind, Fixed, Flight, Gives, Is, Label, Location, LongLine, Malformed, Minus, Missing, Named, NoForm, NotAscii, Nothing, Num, Numeral, Operand, Operation, OutOfRange, PlaceTaken, Plus, Setloc, Shift, Statement, Term, TooLarge, TwiceDefined, Unknown, UnknownOperator, UsedTooEarly, Value}
-use Rattle.yayul.specs.Layout.{Layout, LineEffect, and_then, bank_target, early_value, erased_to, erasable_number, erasable_place, fault_if, is_erasable, is_later, is_malformed, is_missing, is_taken, is_twice, lacks_room, line_effect, location_at, moved, moved_value, promised, standing, start, statement_effect, term_value, text_faults, value_here, valued, width}
+use Rattle.yayul.specs.Language.{BadBank, BadLabel, BadOperand, Bank, BankFull, BankRange, CodeInErasable, Content, Ebank, Equals, Erasable}
+use Rattle.yayul.specs.Language.{Erase, FaultKind, Fixed, Flight, Gives, Is, Label, Location, LongLine, Malformed, Minus, Missing, Named}
+use Rattle.yayul.specs.Language.{NoForm, NotAscii, Nothing, Num, Numeral, Operand, Operation, OutOfRange, PlaceTaken, Plus, Setloc, Shift}
+use Rattle.yayul.specs.Language.{Statement, Term, TooLarge, TwiceDefined, Unknown, UnknownOperator, UsedTooEarly, Value}
+use Rattle.yayul.specs.Layout.{Layout, LineEffect, and_then, bank_target, early_value, erased_to, erasable_number, erasable_place, fault_if}
+use Rattle.yayul.specs.Layout.{is_erasable, is_later, is_malformed, is_missing, is_taken, is_twice, lacks_room, line_effect, location_at}
+use Rattle.yayul.specs.Layout.{moved, moved_value, promised, standing, start, statement_effect, term_value, text_faults, value_here, valued}
+use Rattle.yayul.specs.Layout.{width}
 use Rattle.yayul.specs.Flight.{measured, uncounted, uncounted_statement}
 use Rattle.yayul.specs.FlightForms.{has_flight_form, is_of_form, gives_too_great}
 use Rattle.yayul.specs.Inside.Forms.{has_form, takes_label}
@@ -52,7 +59,8 @@ term_fits table here (Term.Place bank offset) = tt
 term_fits table here Term.Here = tt
 
 early_fits : (s : Layout) (operand : Operand) → Fits (early_value s (Some operand))
-early_fits s operand = fits_then (moved_value operand.shift) (term_value UsedTooEarly s.symbols (value_here s.location) operand.term) (term_fits s.symbols (value_here s.location) operand.term) (value_moved operand.shift)
+early_fits s operand = fits_then (moved_value operand.shift) (term_value UsedTooEarly s.symbols (value_here s.location) operand.term)
+    (term_fits s.symbols (value_here s.location) operand.term) (value_moved operand.shift)
 
 location_fits : (value : Value) → Fits (location_at value)
 location_fits value = fits_or _
@@ -65,7 +73,8 @@ place_fits : (value : Value) → Fits (erasable_place value)
 place_fits value = fits_then erasable_number (location_at value) (location_fits value) erasable_fits
 
 -- ## The faults of a line
-any_standing : (kind : Option FaultKind) (others : List (Option FaultKind)) → list_any is_of_form (standing (kind ∷ others)) ≡ (list_any is_of_form (standing (kind ∷ [])) || list_any is_of_form (standing others))
+any_standing : (kind : Option FaultKind) (others : List (Option FaultKind))
+    → list_any is_of_form (standing (kind ∷ others)) ≡ (list_any is_of_form (standing (kind ∷ [])) || list_any is_of_form (standing others))
 any_standing None others = refl
 any_standing (Some kind) others = or_false (is_of_form kind) (list_any is_of_form (standing others))
   where
@@ -74,7 +83,8 @@ any_standing (Some kind) others = or_false (is_of_form kind) (list_any is_of_for
     or_false false b = refl
 
 -- a fault of another kind does not count
-not_of_form : (b : Bool) (kind : FaultKind) (others : List (Option FaultKind)) → is_of_form kind ≡ false → list_any is_of_form (standing (fault_if b kind ∷ others)) ≡ list_any is_of_form (standing others)
+not_of_form : (b : Bool) (kind : FaultKind) (others : List (Option FaultKind)) → is_of_form kind ≡ false
+    → list_any is_of_form (standing (fault_if b kind ∷ others)) ≡ list_any is_of_form (standing others)
 not_of_form true kind others e = ap (λ x. x || list_any is_of_form (standing others)) e
 not_of_form false kind others e = refl
 
@@ -90,7 +100,8 @@ abbrev has_fault : LineEffect → Bool
 has_fault effect = list_any is_of_form effect.faults
 
 -- what stands where a label is taken, beside another fault
-beside_label : (label : Label) (others : List (Option FaultKind)) → list_any is_of_form (standing (fault_if (is_malformed label) BadLabel ∷ fault_if (is_twice first label) TwiceDefined ∷ others))
+beside_label : (label : Label) (others : List (Option FaultKind))
+    → list_any is_of_form (standing (fault_if (is_malformed label) BadLabel ∷ fault_if (is_twice first label) TwiceDefined ∷ others))
     ≡ (is_malformed label || list_any is_of_form (standing others))
 beside_label Missing others = refl
 beside_label Malformed others = refl
@@ -99,7 +110,8 @@ beside_label (Named name) others = not_of_form (is_twice first (Named name)) Twi
 alone_form : (label : Label) → has_fault (statement_effect 1 first label Nothing) ≡ not (has_form Nothing && takes_label label Nothing)
 alone_form label =
     beside_label label (fault_if (not (is_missing label) && lacks_room 1 first.location) BankFull ∷ [])
-    ∙ ap (λ b. is_malformed label || b) (not_of_form (not (is_missing label) && lacks_room 1 first.location) BankFull [] refl) ∙ by_label label
+    ∙ ap (λ b. is_malformed label || b) (not_of_form (not (is_missing label) && lacks_room 1 first.location) BankFull [] refl)
+    ∙ by_label label
   where
     by_label : (l : Label) → (is_malformed l || false) ≡ not (true && takes_label l Nothing)
     by_label Missing = refl
@@ -111,30 +123,38 @@ or_true : (a b : Bool) → b ≡ true → (a || b) ≡ true
 or_true true b e = refl
 or_true false b e = e
 
-refused_form : (label : Label) (kind : FaultKind) → is_of_form kind ≡ true → list_any is_of_form (standing (fault_if (is_malformed label) BadLabel ∷ fault_if (is_twice first label) TwiceDefined ∷ Some kind ∷ [])) ≡ true
-refused_form label kind e = beside_label label (Some kind ∷ []) ∙ or_true (is_malformed label) (list_any is_of_form (kind ∷ [])) (ap (λ x. x || false) e)
+refused_form : (label : Label) (kind : FaultKind) → is_of_form kind ≡ true
+    → list_any is_of_form (standing (fault_if (is_malformed label) BadLabel ∷ fault_if (is_twice first label) TwiceDefined ∷ Some kind
+    ∷ [])) ≡ true
+refused_form label kind e = beside_label label (Some kind ∷ [])
+    ∙ or_true (is_malformed label) (list_any is_of_form (kind ∷ [])) (ap (λ x. x || false) e)
 
 -- a line that takes no label
-bare_form : {A : Type 0} (label : Label) (r : Result A FaultKind) → Fits r → list_any is_of_form (standing (fault_if (not (is_missing label)) BadLabel ∷ result_err r ∷ [])) ≡ not (is_missing label)
+bare_form : {A : Type 0} (label : Label) (r : Result A FaultKind) → Fits r
+    → list_any is_of_form (standing (fault_if (not (is_missing label)) BadLabel ∷ result_err r ∷ [])) ≡ not (is_missing label)
 bare_form Missing r fits = of_result r fits
 bare_form Malformed r fits = refl
 bare_form (Named name) r fits = refl
 
-bare_refused : {A : Type 0} (label : Label) (r : Result A FaultKind) → r ≡ Err BadOperand → list_any is_of_form (standing (fault_if (not (is_missing label)) BadLabel ∷ result_err r ∷ [])) ≡ true
+bare_refused : {A : Type 0} (label : Label) (r : Result A FaultKind) → r ≡ Err BadOperand
+    → list_any is_of_form (standing (fault_if (not (is_missing label)) BadLabel ∷ result_err r ∷ [])) ≡ true
 bare_refused Missing r e = rw e refl
 bare_refused Malformed r e = refl
 bare_refused (Named name) r e = refl
 
-valued_form : (label : Label) (r : Result Value FaultKind) → Fits r → has_fault (valued first label r) ≡ (is_missing label || is_malformed label)
+valued_form : (label : Label) (r : Result Value FaultKind) → Fits r
+    → has_fault (valued first label r) ≡ (is_missing label || is_malformed label)
 valued_form Missing r fits = refl
 valued_form Malformed r fits = refl
 valued_form (Named name) r fits = not_of_form (is_twice first (Named name)) TwiceDefined (result_err r ∷ []) refl ∙ of_result r fits
 
 gives_form : (label : Label) (content : Content) → has_fault (statement_effect 1 first label (Gives (Some content))) ≡ is_malformed label
 gives_form label content =
-    beside_label label (fault_if (lacks_room (width content) first.location) BankFull ∷ fault_if (is_taken first (width content)) PlaceTaken ∷ fault_if (is_erasable first.location) CodeInErasable ∷ [])
+    beside_label label (fault_if (lacks_room (width content) first.location) BankFull ∷ fault_if (is_taken first (width content)) PlaceTaken
+    ∷ fault_if (is_erasable first.location) CodeInErasable ∷ [])
     ∙ ap (λ b. is_malformed label || b)
-    (not_of_form (lacks_room (width content) first.location) BankFull (fault_if (is_taken first (width content)) PlaceTaken ∷ fault_if (is_erasable first.location) CodeInErasable ∷ []) refl
+    (not_of_form (lacks_room (width content) first.location) BankFull
+    (fault_if (is_taken first (width content)) PlaceTaken ∷ fault_if (is_erasable first.location) CodeInErasable ∷ []) refl
     ∙ not_of_form (is_taken first (width content)) PlaceTaken (fault_if (is_erasable first.location) CodeInErasable ∷ []) refl)
     ∙ or_none (is_malformed label)
   where
@@ -142,13 +162,18 @@ gives_form label content =
     or_none true = refl
     or_none false = refl
 
-erase_form : (label : Label) (count : Numeral) → has_fault (statement_effect 1 first label (Erase count)) ≡ not (has_form (Erase count) && takes_label label (Erase count))
+erase_form : (label : Label) (count : Numeral)
+    → has_fault (statement_effect 1 first label (Erase count)) ≡ not (has_form (Erase count) && takes_label label (Erase count))
 erase_form label count =
-    beside_label label (fault_if (not (is_missing label) && lacks_room 1 first.location) BankFull ∷ result_err (erased_to first.location count) ∷ [])
-    ∙ ap (λ b. is_malformed label || b) (not_of_form (not (is_missing label) && lacks_room 1 first.location) BankFull (result_err (erased_to first.location count) ∷ []) refl)
+    beside_label label (fault_if (not (is_missing label) && lacks_room 1 first.location) BankFull
+    ∷ result_err (erased_to first.location count) ∷ [])
+    ∙ ap (λ b. is_malformed label || b) (not_of_form (not (is_missing label) && lacks_room 1 first.location) BankFull
+    (result_err (erased_to first.location count) ∷ []) refl)
     ∙ by_both label count
   where
-    by_both : (l : Label) (n : Numeral) → (is_malformed l || list_any is_of_form (standing (result_err (erased_to (Location.Fixed 2 0) n) ∷ []))) ≡ not (has_form (Erase n) && takes_label l (Erase n))
+    by_both : (l : Label) (n : Numeral) → (is_malformed l
+        || list_any is_of_form (standing (result_err (erased_to (Location.Fixed 2 0) n) ∷ [])))
+        ≡ not (has_form (Erase n) && takes_label l (Erase n))
     by_both Malformed NoForm = refl
     by_both Malformed TooLarge = refl
     by_both Malformed (Is n) = refl
@@ -164,25 +189,31 @@ bank_fits true here = tt
 bank_fits false here = refl
 
 -- ## Statements
-setloc_form : (label : Label) (operand : Option Operand) → has_fault (statement_effect 1 first label (Setloc operand)) ≡ not (has_form (Setloc operand) && takes_label label (Setloc operand))
+setloc_form : (label : Label) (operand : Option Operand)
+    → has_fault (statement_effect 1 first label (Setloc operand)) ≡ not (has_form (Setloc operand) && takes_label label (Setloc operand))
 setloc_form label None = bare_refused label (and_then location_at (early_value first None)) refl
-setloc_form label (Some operand) = bare_form label (and_then location_at (early_value first (Some operand))) (fits_then location_at (early_value first (Some operand)) (early_fits first operand) location_fits) ∙ by_label label
+setloc_form label (Some operand) = bare_form label (and_then location_at (early_value first (Some operand)))
+    (fits_then location_at (early_value first (Some operand)) (early_fits first operand) location_fits) ∙ by_label label
   where
     by_label : (l : Label) → not (is_missing l) ≡ not (takes_label l (Setloc (Some operand)))
     by_label Missing = refl
     by_label Malformed = refl
     by_label (Named name) = refl
 
-ebank_form : (label : Label) (operand : Option Operand) → has_fault (statement_effect 1 first label (Ebank operand)) ≡ not (has_form (Ebank operand) && takes_label label (Ebank operand))
+ebank_form : (label : Label) (operand : Option Operand)
+    → has_fault (statement_effect 1 first label (Ebank operand)) ≡ not (has_form (Ebank operand) && takes_label label (Ebank operand))
 ebank_form label None = bare_refused label (and_then erasable_place (early_value first None)) refl
-ebank_form label (Some operand) = bare_form label (and_then erasable_place (early_value first (Some operand))) (fits_then erasable_place (early_value first (Some operand)) (early_fits first operand) place_fits) ∙ by_label label
+ebank_form label (Some operand) = bare_form label (and_then erasable_place (early_value first (Some operand)))
+    (fits_then erasable_place (early_value first (Some operand)) (early_fits first operand) place_fits) ∙ by_label label
   where
     by_label : (l : Label) → not (is_missing l) ≡ not (takes_label l (Ebank (Some operand)))
     by_label Missing = refl
     by_label Malformed = refl
     by_label (Named name) = refl
 
-bank_form : (label : Label) (taken : BankRange) (number : Numeral) → has_fault (statement_effect 1 first label (Bank taken number)) ≡ not (has_form (Bank taken number) && takes_label label (Bank taken number))
+bank_form : (label : Label) (taken : BankRange) (number : Numeral)
+    → has_fault (statement_effect 1 first label (Bank taken number))
+    ≡ not (has_form (Bank taken number) && takes_label label (Bank taken number))
 bank_form label taken number = by_number number
   where
     by_label : (n : Numeral) (l : Label) → not (is_missing l) ≡ not (takes_label l (Bank taken n))
@@ -190,18 +221,21 @@ bank_form label taken number = by_number number
     by_label n Malformed = refl
     by_label n (Named name) = refl
 
-    by_number : (n : Numeral) → has_fault (statement_effect 1 first label (Bank taken n)) ≡ not (has_form (Bank taken n) && takes_label label (Bank taken n))
+    by_number : (n : Numeral) → has_fault (statement_effect 1 first label (Bank taken n))
+        ≡ not (has_form (Bank taken n) && takes_label label (Bank taken n))
     by_number NoForm = bare_refused label (bank_target first taken NoForm) refl
     by_number TooLarge = bare_form label (bank_target first taken TooLarge) refl ∙ by_label TooLarge label
     by_number (Is n) = bare_form label (bank_target first taken (Is n)) (bank_fits _ _) ∙ by_label (Is n) label
 
-equals_form : (label : Label) (operand : Option Operand) → has_fault (statement_effect 1 first label (Equals operand)) ≡ not (has_form (Equals operand) && takes_label label (Equals operand))
+equals_form : (label : Label) (operand : Option Operand)
+    → has_fault (statement_effect 1 first label (Equals operand)) ≡ not (has_form (Equals operand) && takes_label label (Equals operand))
 equals_form Missing None = refl
 equals_form Malformed None = refl
 equals_form (Named name) None = not_of_form (is_twice first (Named name)) TwiceDefined (Some BadOperand ∷ []) refl
 equals_form label (Some operand) = by_later (is_later first operand) ∙ by_label label
   where
-    by_later : (b : Bool) → has_fault (cond b (promised 1 first label operand) (valued first label (early_value first (Some operand)))) ≡ (is_missing label || is_malformed label)
+    by_later : (b : Bool) → has_fault (cond b (promised 1 first label operand) (valued first label (early_value first (Some operand))))
+        ≡ (is_missing label || is_malformed label)
     by_later true = valued_form label (Ok (Num 0)) tt
     by_later false = valued_form label (early_value first (Some operand)) (early_fits first operand)
 
@@ -210,7 +244,8 @@ equals_form label (Some operand) = by_later (is_later first operand) ∙ by_labe
     by_label Malformed = refl
     by_label (Named name) = refl
 
-statement_form : (label : Label) (operation : Operation) → has_fault (statement_effect 1 first label operation) ≡ not (has_form operation && takes_label label operation)
+statement_form : (label : Label) (operation : Operation)
+    → has_fault (statement_effect 1 first label operation) ≡ not (has_form operation && takes_label label operation)
 statement_form label Nothing = alone_form label
 statement_form label Unknown = refused_form label UnknownOperator refl
 statement_form label (Setloc operand) = setloc_form label operand
@@ -229,7 +264,8 @@ statement_form label (Gives (Some content)) = gives_form label content ∙ by_la
 -- ## Lines
 text_form : (text : List ℕ) → list_any is_of_form (text_faults Flight 1 text) ≡ nat_lt line_length (length (measured Flight text))
 text_form text =
-    not_of_form (not (list_all is_text_byte text)) NotAscii (fault_if (nat_lt line_length (length (measured Flight text))) LongLine ∷ None ∷ []) refl
+    not_of_form (not (list_all is_text_byte text)) NotAscii
+    (fault_if (nat_lt line_length (length (measured Flight text))) LongLine ∷ None ∷ []) refl
     ∙ by_length (nat_lt line_length (length (measured Flight text)))
   where
     by_length : (b : Bool) → list_any is_of_form (standing (fault_if b LongLine ∷ None ∷ [])) ≡ b
@@ -238,20 +274,25 @@ text_form text =
 
 -- the form of a line, by its length and what it says
 module _ (text : List ℕ) (said : Statement) (is : said ≡ uncounted_statement (Location.Fixed 2 0) (uncounted text)) where
-  form_is_tested : not (nat_lt line_length (length (measured Flight text)) || not (has_form said.operation && takes_label said.label said.operation) || gives_too_great said.operation) ≡ has_flight_form text
+  form_is_tested : not (nat_lt line_length (length (measured Flight text))
+      || not (has_form said.operation && takes_label said.label said.operation) || gives_too_great said.operation) ≡ has_flight_form text
   unfolding has_flight_form line_effect
   form_is_tested =
       sym (ap (λ b. not (b || gives_too_great (uncounted_statement (Location.Fixed 2 0) (uncounted text)).operation))
       (list_any-append is_of_form (text_faults Flight 1 text) (line_effect 1 first text).faults
       ∙ ap (λ b. b || list_any is_of_form (line_effect 1 first text).faults) (text_form text)
-      ∙ ap (λ (x : Statement). nat_lt line_length (length (measured Flight text)) || list_any is_of_form (statement_effect 1 first x.label x.operation).faults) (sym is)
+      ∙ ap (λ (x : Statement). nat_lt line_length (length (measured Flight text))
+      || list_any is_of_form (statement_effect 1 first x.label x.operation).faults) (sym is)
       ∙ ap (λ b. nat_lt line_length (length (measured Flight text)) || b) (statement_form said.label said.operation))
-      ∙ ap (λ (x : Statement). not (nat_lt line_length (length (measured Flight text)) || not (has_form said.operation && takes_label said.label said.operation) || gives_too_great x.operation)) (sym is))
+      ∙ ap (λ (x : Statement). not (nat_lt line_length (length (measured Flight text))
+      || not (has_form said.operation && takes_label said.label said.operation) || gives_too_great x.operation)) (sym is))
 
-  pub short_form : length (measured Flight text) ≤ line_length → (has_form said.operation && takes_label said.label said.operation && not (gives_too_great said.operation)) ≡ has_flight_form text
+  pub short_form : length (measured Flight text) ≤ line_length
+      → (has_form said.operation && takes_label said.label said.operation && not (gives_too_great said.operation)) ≡ has_flight_form text
   short_form short =
       by_parts (has_form said.operation) (takes_label said.label said.operation) (gives_too_great said.operation)
-      ∙ ap (λ b. not (b || not (has_form said.operation && takes_label said.label said.operation) || gives_too_great said.operation)) (sym (le-ltb line_length (length (measured Flight text)) short))
+      ∙ ap (λ b. not (b || not (has_form said.operation && takes_label said.label said.operation) || gives_too_great said.operation))
+      (sym (le-ltb line_length (length (measured Flight text)) short))
       ∙ form_is_tested
     where
       by_parts : (a b c : Bool) → (a && b && not c) ≡ not (false || not (a && b) || c)
@@ -262,4 +303,5 @@ module _ (text : List ℕ) (said : Statement) (is : said ≡ uncounted_statement
 pub long_form : (text : List ℕ) → line_length < length (measured Flight text) → false ≡ has_flight_form text
 long_form text long =
     let said : Statement = uncounted_statement (Location.Fixed 2 0) (uncounted text) in
-    ap (λ b. not (b || not (has_form said.operation && takes_label said.label said.operation) || gives_too_great said.operation)) (sym (lt-ltb line_length (length (measured Flight text)) long)) ∙ form_is_tested text said refl
+    ap (λ b. not (b || not (has_form said.operation && takes_label said.label said.operation) || gives_too_great said.operation))
+    (sym (lt-ltb line_length (length (measured Flight text)) long)) ∙ form_is_tested text said refl

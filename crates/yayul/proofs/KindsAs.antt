@@ -1,5 +1,6 @@
 -- Kinds of faults that all pass a test: those that some conditions give, and those by which values and words fail.
-use Rattle.std.proofs.Common.{◌≡◌, ℕ, ◌+◌, ◌-◌, ◌%◌, ◌==◌, map, Bool, true, false, ◌&&◌, ◌||◌, not, length, List, [], ◌∷◌, ◌++◌, Option, Some, None, Result, Ok, Err, refl, ap, ◌∙◌}
+use Rattle.std.proofs.Common.{◌≡◌, ℕ, ◌+◌, ◌-◌, ◌%◌, ◌==◌, map, Bool, true, false, ◌&&◌, ◌||◌, not, length, List, [], ◌∷◌, ◌++◌, Option}
+use Rattle.std.proofs.Common.{Some, None, Result, Ok, Err, refl, ap, ◌∙◌}
 use Rattle.std.specs.Prelude.{nat_le, nat_lt, ok_or, if◌then◌else◌}
 use Rattle.std.specs.List.{list_all}
 use Rattle.std.specs.Option.{option_map}
@@ -12,10 +13,16 @@ use Rattle.yayul.specs.Flight.{measured, most_lines}
 use Rattle.yayul.specs.Forms.{greatest_number}
 use Rattle.yayul.specs.Operators.{bits_under, field_size}
 use Rattle.yayul.specs.Later.{Table}
-use Rattle.yayul.specs.Layout.{and_then, erasable_number, fault_if, fault_number, location_at, location_of, moved, moved_value, standing, term_value, text_faults, value_of}
+use Rattle.yayul.specs.Layout.{and_then, erasable_number, fault_if, fault_number, location_at, location_of, moved, moved_value, standing}
+use Rattle.yayul.specs.Layout.{term_value, text_faults, value_of}
 use Rattle.yayul.specs.Survey.{form_kinds, is_one_of}
-use Rattle.yayul.specs.Words.{accepted, address_below, address_of, addressed_word, bank_word, channel_in, complete_address, content_words, extracode_fault, far_address, field_of, fixed_offset, fixed_place, low_place}
-use Rattle.yayul.specs.Language.{Address, Addressed, AddressedCode, BadOperand, BankWord, Channel, Complemented, Constant, Constants, Content, Either, Erasable, ErasablePlace, Extracode, FarAddress, FarComplement, FaultKind, Fixed, FixedAddress, FixedPlace, Language, Location, LongLine, Minus, NeedsExtend, No, NotAscii, NotExtracode, Num, Operand, OutOfRange, Pair, Plain, Plus, Shift, Takes, Term, TooManyLines, Undefined, Value, WrongKindOfAddress, Yes}
+use Rattle.yayul.specs.Words.{accepted, address_below, address_of, addressed_word, bank_word, channel_in, complete_address, content_words}
+use Rattle.yayul.specs.Words.{extracode_fault, far_address, field_of, fixed_offset, fixed_place, low_place}
+use Rattle.yayul.specs.Language.{Address, Addressed, AddressedCode, BadOperand, BankWord, Channel, Complemented, Constant, Constants}
+use Rattle.yayul.specs.Language.{Content, Either, Erasable, ErasablePlace, Extracode, FarAddress, FarComplement, FaultKind, Fixed}
+use Rattle.yayul.specs.Language.{FixedAddress, FixedPlace, Language, Location, LongLine, Minus, NeedsExtend, No, NotAscii, NotExtracode}
+use Rattle.yayul.specs.Language.{Num, Operand, OutOfRange, Pair, Plain, Plus, Shift, Takes, Term, TooManyLines, Undefined, Value}
+use Rattle.yayul.specs.Language.{WrongKindOfAddress, Yes}
 
 abbrev pub AreAs : (FaultKind → Type 0) → List FaultKind → Type 0
 AreAs P [] = Unit {0}
@@ -35,7 +42,8 @@ module _ (P : FaultKind → Type 0) where
   stands_as None cs is are = are
   stands_as (Some k) cs is are = (is, are)
 
-  pub if_as : (b : Bool) (k : FaultKind) (cs : List (Option FaultKind)) → P k → AreAs P (standing cs) → AreAs P (standing (fault_if b k ∷ cs))
+  pub if_as : (b : Bool) (k : FaultKind) (cs : List (Option FaultKind)) → P k → AreAs P (standing cs)
+      → AreAs P (standing (fault_if b k ∷ cs))
   if_as true k cs is are = (is, are)
   if_as false k cs is are = are
 
@@ -47,7 +55,8 @@ module _ (P : FaultKind → Type 0) where
   both_as [] others are others_are = others_are
   both_as (k ∷ ks) others are others_are = (are.0, both_as ks others are.1 others_are)
 
-  pub then_as : {A B : Type 0} (f : A → Result B FaultKind) (r : Result A FaultKind) → FailsAs P r → ((x : A) → FailsAs P (f x)) → FailsAs P (and_then f r)
+  pub then_as : {A B : Type 0} (f : A → Result B FaultKind) (r : Result A FaultKind) → FailsAs P r → ((x : A) → FailsAs P (f x))
+      → FailsAs P (and_then f r)
   then_as f (Ok x) fails each = each x
   then_as f (Err k) fails each = fails
 
@@ -60,16 +69,20 @@ module _ (P : FaultKind → Type 0) where
   ok_or_as (Some x) k is = tt
 
   -- the faults of a line's bytes, its length and its number, that of a form, and those of extracode
-  pub text_as : (language : Language) (line : ℕ) (text : List ℕ) → P NotAscii → P LongLine → P TooManyLines → AreAs P (text_faults language line text)
+  pub text_as : (language : Language) (line : ℕ) (text : List ℕ) → P NotAscii → P LongLine → P TooManyLines
+      → AreAs P (text_faults language line text)
   text_as language line text ascii long many =
       let last : List (Option FaultKind) = fault_if (line == most_lines language + 1) TooManyLines ∷ [] in
-      if_as (not (list_all is_text_byte text)) NotAscii (fault_if (nat_lt line_length (length (measured language text))) LongLine ∷ last) ascii
-      (if_as (nat_lt line_length (length (measured language text))) LongLine last long (if_as (line == most_lines language + 1) TooManyLines [] many tt))
+      if_as (not (list_all is_text_byte text)) NotAscii (fault_if (nat_lt line_length (length (measured language text))) LongLine ∷ last)
+      ascii
+      (if_as (nat_lt line_length (length (measured language text))) LongLine last long
+      (if_as (line == most_lines language + 1) TooManyLines [] many tt))
 
   pub form_as : (formless : Bool) → P BadOperand → AreAs P (form_kinds formless)
   form_as formless is = if_as formless BadOperand [] is tt
 
-  pub extracode_as : (i : Extracode) (extracode : Bool) → P NeedsExtend → P NotExtracode → AreAs P (standing (extracode_fault i extracode ∷ []))
+  pub extracode_as : (i : Extracode) (extracode : Bool) → P NeedsExtend → P NotExtracode
+      → AreAs P (standing (extracode_fault i extracode ∷ []))
   extracode_as No extracode needs is_none = if_as extracode NotExtracode [] is_none tt
   extracode_as Yes extracode needs is_none = if_as (not extracode) NeedsExtend [] needs tt
   extracode_as Either extracode needs is_none = tt
@@ -80,7 +93,8 @@ module _ (P : FaultKind → Type 0) (of_range : P OutOfRange) (of_kind : P Wrong
   moved_as most n (Plus None) = of_range
   moved_as most n (Plus (Some count)) = choice_as P (nat_le (n + count) most) (Ok (n + count)) (Err OutOfRange) tt of_range
   moved_as most n (Minus None) = of_range
-  moved_as most n (Minus (Some count)) = choice_as P (nat_le count n && nat_le (n - count) most) (Ok (n - count)) (Err OutOfRange) tt of_range
+  moved_as most n (Minus (Some count)) = choice_as P (nat_le count n && nat_le (n - count) most) (Ok (n - count)) (Err OutOfRange) tt
+      of_range
 
   pub moved_value_as : (shift : Shift) (value : Value) → FailsAs P (moved_value shift value)
   moved_value_as shift (Num n) = then_as P (λ m. Ok (Num m)) (moved greatest_number n shift) (moved_as greatest_number n shift) (λ m. tt)
@@ -123,36 +137,46 @@ module _ (P : FaultKind → Type 0) (of_range : P OutOfRange) (of_kind : P Wrong
   field_as : (takes : Takes) (size : ℕ) (value : Value) → FailsAs P (field_of takes size value)
   field_as Address size value = below_as size value
   field_as Pair size value = then_as P (λ address. Ok ((address + 1) % size)) (address_below size value) (below_as size value) (λ a. tt)
-  field_as FixedAddress size value = then_as P (accepted (λ a. nat_le 0o2000 a)) (address_of value) (address_as value) (accepted_as (λ a. nat_le 0o2000 a))
+  field_as FixedAddress size value = then_as P (accepted (λ a. nat_le 0o2000 a)) (address_of value) (address_as value)
+      (accepted_as (λ a. nat_le 0o2000 a))
   field_as Channel size value = channel_as size value
   field_as ErasablePlace size value = then_as P erasable_number (location_at value) (location_as value) erasable_as
-  field_as FixedPlace size value = then_as P (λ place. Ok (complete_address place.0 place.1)) (fixed_place value) (fixed_as value) (λ place. tt)
+  field_as FixedPlace size value = then_as P (λ place. Ok (complete_address place.0 place.1)) (fixed_place value) (fixed_as value)
+      (λ place. tt)
 
   word_as : (i : AddressedCode) (extracode : Bool) (value : Value) → FailsAs P (addressed_word i extracode value)
   word_as i extracode value =
       then_as P (λ field. Ok ((i.least + field) ∷ [])) (field_of i.takes (field_size (bits_under i.extracode i.bits extracode)) value)
       (field_as i.takes (field_size (bits_under i.extracode i.bits extracode)) value) (λ field. tt)
 
-  term_as : (missing : FaultKind) → P missing → (table : Table) (here : Value) (term : Term) → FailsAs P (term_value missing table here term)
-  term_as missing is table here (Term.Number number) = then_as P (λ n. Ok (Num n)) (ok_or number OutOfRange) (ok_or_as P number OutOfRange of_range) (λ n. tt)
+  term_as : (missing : FaultKind) → P missing → (table : Table) (here : Value) (term : Term)
+      → FailsAs P (term_value missing table here term)
+  term_as missing is table here (Term.Number number) = then_as P (λ n. Ok (Num n)) (ok_or number OutOfRange)
+      (ok_or_as P number OutOfRange of_range) (λ n. tt)
   term_as missing is table here (Term.Named name) = ok_or_as P (value_in table name) missing is
   term_as missing is table here (Term.Place bank offset) = tt
   term_as missing is table here Term.Here = tt
 
-  value_as : (missing : FaultKind) → P missing → (table : Table) (here : Value) (operand : Operand) → FailsAs P (value_of missing table here operand)
-  value_as missing is table here operand = then_as P (moved_value operand.shift) (term_value missing table here operand.term) (term_as missing is table here operand.term) (moved_value_as operand.shift)
+  value_as : (missing : FaultKind) → P missing → (table : Table) (here : Value) (operand : Operand)
+      → FailsAs P (value_of missing table here operand)
+  value_as missing is table here operand = then_as P (moved_value operand.shift) (term_value missing table here operand.term)
+      (term_as missing is table here operand.term) (moved_value_as operand.shift)
 
-  low_fixed : P Undefined → (table : Table) (here : Value) (operand : Operand) → FailsAs P (and_then low_place (and_then fixed_place (value_of Undefined table here operand)))
+  low_fixed : P Undefined → (table : Table) (here : Value) (operand : Operand)
+      → FailsAs P (and_then low_place (and_then fixed_place (value_of Undefined table here operand)))
   low_fixed is table here operand =
       then_as P low_place (and_then fixed_place (value_of Undefined table here operand))
       (then_as P fixed_place (value_of Undefined table here operand) (value_as Undefined is table here operand) fixed_as) low_as
 
   -- the words of a line, where a symbol that no line defines is such a fault too
-  pub content_as : P Undefined → (table : Table) (here : Value) (extracode : Bool) (eb : ℕ) (content : Content) → FailsAs P (content_words table here extracode eb content)
-  content_as is table here extracode eb (Constant number) = then_as P (λ word. Ok (word ∷ [])) (ok_or number OutOfRange) (ok_or_as P number OutOfRange of_range) (λ word. tt)
+  pub content_as : P Undefined → (table : Table) (here : Value) (extracode : Bool) (eb : ℕ) (content : Content)
+      → FailsAs P (content_words table here extracode eb content)
+  content_as is table here extracode eb (Constant number) = then_as P (λ word. Ok (word ∷ [])) (ok_or number OutOfRange)
+      (ok_or_as P number OutOfRange of_range) (λ word. tt)
   content_as is table here extracode eb (Plain i) = tt
   content_as is table here extracode eb (Addressed i operand) =
-      then_as P (addressed_word i extracode) (value_of Undefined table here operand) (value_as Undefined is table here operand) (word_as i extracode)
+      then_as P (addressed_word i extracode) (value_of Undefined table here operand) (value_as Undefined is table here operand)
+      (word_as i extracode)
   content_as is table here extracode eb (FarAddress operand) =
       then_as P (λ place. Ok (far_address eb place.0 place.1)) (and_then fixed_place (value_of Undefined table here operand))
       (then_as P fixed_place (value_of Undefined table here operand) (value_as Undefined is table here operand) fixed_as) (λ place. tt)
@@ -160,12 +184,15 @@ module _ (P : FaultKind → Type 0) (of_range : P OutOfRange) (of_kind : P Wrong
       then_as P (λ words. Ok (words.first ∷ words.second ∷ [])) (ok_or pair OutOfRange) (ok_or_as P pair OutOfRange of_range) (λ words. tt)
   content_as is table here extracode eb (Complemented i operand) =
       then_as P (λ words. Ok (map neg words)) (and_then (addressed_word i extracode) (value_of Undefined table here operand))
-      (then_as P (addressed_word i extracode) (value_of Undefined table here operand) (value_as Undefined is table here operand) (word_as i extracode)) (λ words. tt)
+      (then_as P (addressed_word i extracode) (value_of Undefined table here operand) (value_as Undefined is table here operand)
+      (word_as i extracode)) (λ words. tt)
   content_as is table here extracode eb (FarComplement operand) =
-      then_as P (λ place. Ok (map neg (far_address eb place.0 place.1))) (and_then low_place (and_then fixed_place (value_of Undefined table here operand)))
+      then_as P (λ place. Ok (map neg (far_address eb place.0 place.1)))
+      (and_then low_place (and_then fixed_place (value_of Undefined table here operand)))
       (low_fixed is table here operand) (λ place. tt)
   content_as is table here extracode eb (BankWord operand) =
-      then_as P (λ place. Ok (bank_word eb place.0 place.1 ∷ [])) (and_then low_place (and_then fixed_place (value_of Undefined table here operand)))
+      then_as P (λ place. Ok (bank_word eb place.0 place.1 ∷ []))
+      (and_then low_place (and_then fixed_place (value_of Undefined table here operand)))
       (low_fixed is table here operand) (λ place. tt)
 
 -- ## A kind that is none of some

@@ -27,11 +27,13 @@ least-append [] js = refl
 least-append (k ∷ ks) [] = ap least_kind (append_nil (k ∷ ks))
 least-append (k ∷ ks) (j ∷ js) = ap (λ x. Some x) (fold-append lesser_kind k ks (j ∷ js) ∙ fold-from (fold lesser_kind k ks) j js)
 
-least-both : (xs ys : List (Option FaultKind)) → least_kind (standing (xs ++ ys)) ≡ lesser_if (least_kind (standing xs)) (least_kind (standing ys))
+least-both : (xs ys : List (Option FaultKind))
+    → least_kind (standing (xs ++ ys)) ≡ lesser_if (least_kind (standing xs)) (least_kind (standing ys))
 least-both xs ys = ap least_kind (standing-append xs ys) ∙ least-append (standing xs) (standing ys)
 
 -- of more conditions their least fault alone counts
-pub least_beside : (xs ys : List (Option FaultKind)) (kind : FaultKind) → least_kind (standing ys) ≡ Some kind → least_kind (standing (xs ++ ys)) ≡ least_kind (standing (xs ++ Some kind ∷ []))
+pub least_beside : (xs ys : List (Option FaultKind)) (kind : FaultKind) → least_kind (standing ys) ≡ Some kind
+    → least_kind (standing (xs ++ ys)) ≡ least_kind (standing (xs ++ Some kind ∷ []))
 least_beside xs ys kind is = least-both xs ys ∙ ap (lesser_if (least_kind (standing xs))) is ∙ sym (least-both xs (Some kind ∷ []))
 
 -- where none of them stands, the others are left

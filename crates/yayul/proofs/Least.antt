@@ -1,5 +1,6 @@
 -- The least fault of a list that grows, and of the faults of lines in order.
-use Rattle.std.proofs.Common.{◌≡◌, ℕ, ◌+◌, ◌<◌, ◌≤◌, List, [], ◌∷◌, ◌++◌, length, take, get_or, fold, Option, Some, None, refl, ap, ◌∙◌, arith}
+use Rattle.std.proofs.Common.{◌≡◌, ℕ, ◌+◌, ◌<◌, ◌≤◌, List, [], ◌∷◌, ◌++◌, length, take, get_or, fold, Option, Some, None, refl, ap, ◌∙◌}
+use Rattle.std.proofs.Common.{arith}
 use Rattle.std.specs.Prelude.{if◌then◌else◌}
 use Rattle.std.proofs.lemmas.Bool.Decides.{nat_tests}
 use Rattle.std.proofs.lemmas.List.{take_more}
@@ -33,7 +34,8 @@ least_kind-one_more (k ∷ ks) None = ap least_kind (append_nil (k ∷ ks))
     append_nil (x ∷ xs) = ap (λ r. x ∷ r) (append_nil xs)
 least_kind-one_more (k ∷ ks) (Some j) = ap (λ x. Some x) (fold-one_more lesser_kind k ks j)
 
-pub least_standing-more : (cs : List (Option FaultKind)) (i : ℕ) → i < length cs → least_kind (standing (take (i + 1) cs)) ≡ lesser_if (least_kind (standing (take i cs))) (get_or cs i None)
+pub least_standing-more : (cs : List (Option FaultKind)) (i : ℕ) → i < length cs
+    → least_kind (standing (take (i + 1) cs)) ≡ lesser_if (least_kind (standing (take i cs))) (get_or cs i None)
 least_standing-more cs i lt =
     ap (λ xs. least_kind (standing xs)) (take_more cs i None lt)
     ∙ ap least_kind (standing-one_more (take i cs) (get_or cs i None))
@@ -64,7 +66,8 @@ fold-append f x (z ∷ xs) ys = fold-append f (f x z) xs ys
 same_line : (line : ℕ) (a b : FaultKind) → lesser (told line a) (told line b) ≡ told line (lesser_kind a b)
 same_line line a b = grind (arith, nat_tests)
 
-pub fold-on_line : (line : ℕ) (k : FaultKind) (ks : List FaultKind) → fold lesser (told line k) (on_line line ks) ≡ told line (fold lesser_kind k ks)
+pub fold-on_line : (line : ℕ) (k : FaultKind) (ks : List FaultKind)
+    → fold lesser (told line k) (on_line line ks) ≡ told line (fold lesser_kind k ks)
 fold-on_line line k [] = refl
 fold-on_line line k (j ∷ ks) = ap (λ f. fold lesser f (on_line line ks)) (same_line line k j) ∙ fold-on_line line (lesser_kind k j) ks
 
@@ -75,7 +78,8 @@ least_here line [] k later e p = absurd (let bad : None ≡ Some k = e in cc)
 least_here line (j ∷ ks) k later e p =
     let same : fold lesser_kind j ks ≡ k = cc in
     let first : fold lesser (told line j) (on_line line ks) ≡ told line k = fold-on_line line j ks ∙ ap (told line) same in
-    ap (λ x. Some x) (fold-append lesser (told line j) (on_line line ks) later ∙ ap (λ f. fold lesser f later) first ∙ fold-later (told line k) later p)
+    ap (λ x. Some x) (fold-append lesser (told line j) (on_line line ks) later ∙ ap (λ f. fold lesser f later) first
+    ∙ fold-later (told line k) later p)
 
 pub StandFrom-append : (line : ℕ) (fs gs : List Fault) → StandFrom line fs → StandFrom line gs → StandFrom line (fs ++ gs)
 StandFrom-append line [] gs p q = q

@@ -30,7 +30,8 @@ second_too : (a b m : Fault) → is_before (lesser a b) m ≡ false → is_befor
 second_too a b m e = grind (arith, nat_tests)
 
 lesser_is : (a b : Fault) → (lesser a b ≡ a) ⊎ (lesser a b ≡ b)
-lesser_is a b = elim (is_before b a) as (λ x. ((if x then b else a) ≡ a) ⊎ ((if x then b else a) ≡ b)) [ true ↦ inr refl | false ↦ inl refl ]
+lesser_is a b = elim (is_before b a) as (λ x. ((if x then b else a) ≡ a) ⊎ ((if x then b else a) ≡ b))
+    [ true ↦ inr refl | false ↦ inl refl ]
 
 pub fold_is_least : (f : Fault) (fs : List Fault) → IsLeast (f ∷ fs) (fold lesser f fs)
 fold_is_least f [] = (inl refl, one)
@@ -74,4 +75,5 @@ least_of_set [] [] in_gs in_fs = refl
 least_of_set [] (g ∷ gs) in_gs in_fs = absurd (in_fs g (inl refl))
 least_of_set (f ∷ fs) [] in_gs in_fs = absurd (in_gs f (inl refl))
 least_of_set (f ∷ fs) (g ∷ gs) in_gs in_fs =
-    ap (λ m. Some m) (one_least (f ∷ fs) (g ∷ gs) (fold lesser f fs) (fold lesser g gs) in_gs in_fs (fold_is_least f fs) (fold_is_least g gs))
+    ap (λ m. Some m) (one_least (f ∷ fs) (g ∷ gs) (fold lesser f fs) (fold lesser g gs) in_gs in_fs (fold_is_least f fs)
+    (fold_is_least g gs))

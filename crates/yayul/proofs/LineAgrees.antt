@@ -1,15 +1,19 @@
 -- What stands after a line agrees with the layout after it.
-use Rattle.std.proofs.Common.{◌≡◌, ◌≢◌, ℕ, ◌+◌, ◌≤◌, true, false, cond, List, [], ◌∷◌, ◌++◌, map, replicate, Option, Some, None, Result, Ok, Err, refl, ap, sym, subst, ◌∙◌, inl, inr}
+use Rattle.std.proofs.Common.{◌≡◌, ◌≢◌, ℕ, ◌+◌, ◌≤◌, true, false, cond, List, [], ◌∷◌, ◌++◌, map, replicate, Option, Some, None, Result, Ok}
+use Rattle.std.proofs.Common.{Err, refl, ap, sym, subst, ◌∙◌, inl, inr}
 use Rattle.std.proofs.lemmas.Bool.{cases_Bool}
 use Rattle.std.specs.Prelude.{OnOk, IfErr}
 use Rattle.std.specs.List.{list_any}
 use Rattle.std.specs.Option.{option_map_or}
 use Rattle.std.specs.Result.{result_err, result_unwrap_or}
 use Rattle.rope.specs.Places.{Words, bank_words, stands, with_words}
-use Rattle.yayul.specs.Layout.{Request, Layout, LineEffect, width, stands_at, word_place, after_words, lacks_room, extends, is_taken, is_taken_at, is_erasable, fault_if, standing, label_faults, defined, asked, asked_here, gives, label_alone, relocated, bank_target, equals, erase, ebank, and_then, location_at, early_value}
+use Rattle.yayul.specs.Layout.{Request, Layout, LineEffect, width, stands_at, word_place, after_words, lacks_room, extends, is_taken}
+use Rattle.yayul.specs.Layout.{is_taken_at, is_erasable, fault_if, standing, label_faults, defined, asked, asked_here, gives, label_alone}
+use Rattle.yayul.specs.Layout.{relocated, bank_target, equals, erase, ebank, and_then, location_at, early_value}
 use Rattle.yayul.specs.Words.{request_words, request_faults, extracode_of, extracode_fault}
 use Rattle.yayul.specs.Program.{placed_from}
-use Rattle.yayul.specs.Language.{BankFull, BankRange, CodeInErasable, Content, FaultKind, Fixed, Label, Location, Malformed, Missing, Named, NoMemory, Numeral, Operand, PlaceTaken, Undefined, Value}
+use Rattle.yayul.specs.Language.{BankFull, BankRange, CodeInErasable, Content, FaultKind, Fixed, Label, Location, Malformed, Missing, Named}
+use Rattle.yayul.specs.Language.{NoMemory, Numeral, Operand, PlaceTaken, Undefined, Value}
 use Rattle.yayul.specs.declared.layout.Layout.{Layout as Held}
 use Rattle.yayul.specs.declared.layout.Placing.{Placing}
 use Rattle.yayul.specs.Inside.Answers.{tested_faults, least_kind, with_requests, layout_of, Keeps, Agrees, LeadsTo, LeadsOn, TakesWords}
@@ -20,12 +24,14 @@ use Rattle.yayul.proofs.LineRequests.{defined_keeps, free_place, here_value, mee
 use Rattle.yayul.proofs.NameAdded.{holds-named, known-named}
 use Rattle.yayul.proofs.HoldsByLine.{holds-next, holds-settled, holds-put_aside, known-settled, known-put_aside}
 use Rattle.yayul.proofs.Least.{none_least}
-use Rattle.yayul.proofs.PlainLines.{Lifts, defined_after, defined_more, defined_requests, alone_lifts, relocated_lifts, ebank_lifts, erase_lifts, equals_lifts, target_by_ends}
+use Rattle.yayul.proofs.PlainLines.{Lifts, defined_after, defined_more, defined_requests, alone_lifts, relocated_lifts, ebank_lifts}
+use Rattle.yayul.proofs.PlainLines.{erase_lifts, equals_lifts, target_by_ends}
 use Rattle.yayul.proofs.WordsWhileWaiting.{stands-held}
 
 -- ## Lines that ask for no words
 -- names more leave what is held as it is
-pub named_keeps : (line : ℕ) (s : Layout) (p : Placing) (names : List (List ℕ × Value)) → Keeps line s p → Keeps line (record s { symbols = s.symbols ++ names }) p
+pub named_keeps : (line : ℕ) (s : Layout) (p : Placing) (names : List (List ℕ × Value)) → Keeps line s p
+    → Keeps line (record s { symbols = s.symbols ++ names }) p
 named_keeps line s p names keeps =
     record {
       holds = holds-named s.symbols names (map request_of p.waiting.items) line s.requests p.rope p.fault keeps.holds keeps.known;
@@ -35,7 +41,11 @@ named_keeps line s p names keeps =
 
 pub next_keeps : (line : ℕ) (s : Layout) (p : Placing) → Keeps line s p → Keeps (line + 1) s p
 next_keeps line s p keeps =
-    record { holds = holds-next line s.symbols s.requests (map request_of p.waiting.items) p.rope p.fault keeps.holds; known = keeps.known; ends = keeps.ends }
+    record {
+      holds = holds-next line s.symbols s.requests (map request_of p.waiting.items) p.rope p.fault keeps.holds;
+      known = keeps.known;
+      ends = keeps.ends;
+    }
 
 -- only the symbols and the requests of a layout count
 same_keeps : (line : ℕ) (s t : Layout) (p : Placing) → t.symbols ≡ s.symbols → t.requests ≡ s.requests → Keeps line s p → Keeps line t p
@@ -47,7 +57,8 @@ same_keeps line s t p symbols requests keeps =
     }
 
 -- a line that asks for no words, where what it does is known without the requests before it
-agreed : (line : ℕ) (s : Layout) (l after : Held) (p : Placing) (bare e : LineEffect) (result : Result (Unit {0}) FaultKind) → Agrees line s l p → Lifts s bare e
+agreed : (line : ℕ) (s : Layout) (l after : Held) (p : Placing) (bare e : LineEffect) (result : Result (Unit {0}) FaultKind)
+    → Agrees line s l p → Lifts s bare e
     → LeadsTo bare (layout_of after) result → LeadsOn line e after p result
 agreed line s l after p bare e (Ok x) agrees lifts leads = (
   sym lifts.faults ∙ leads.0,
@@ -60,7 +71,8 @@ agreed line s l after p bare e (Ok x) agrees lifts leads = (
 agreed line s l after p bare e (Err kind) agrees lifts leads = λ known. ap least_kind (sym lifts.faults) ∙ leads known
 
 module _ (line : ℕ) (s : Layout) (l after : Held) (p : Placing) (label : Label) (agrees : Agrees line s l p) where
-  pub agreed_alone : (result : Result (Unit {0}) FaultKind) → LeadsTo (label_alone (layout_of l) label) (layout_of after) result → LeadsOn line (label_alone s label) after p result
+  pub agreed_alone : (result : Result (Unit {0}) FaultKind) → LeadsTo (label_alone (layout_of l) label) (layout_of after) result
+      → LeadsOn line (label_alone s label) after p result
   agreed_alone result leads =
       agreed line s l after p (label_alone (with_requests [] s) label) (label_alone s label) result agrees (alone_lifts s label)
       (subst (λ t. LeadsTo (label_alone t label) (layout_of after) result) agrees.same leads)
@@ -70,28 +82,37 @@ module _ (line : ℕ) (s : Layout) (l after : Held) (p : Placing) (label : Label
       → LeadsOn line (relocated s label (and_then location_at (early_value s operand))) after p result
   agreed_setloc operand result leads =
       let target : Result Location FaultKind = and_then location_at (early_value s operand) in
-      agreed line s l after p (relocated (with_requests [] s) label target) (relocated s label target) result agrees (relocated_lifts s label target)
+      agreed line s l after p (relocated (with_requests [] s) label target) (relocated s label target) result agrees
+      (relocated_lifts s label target)
       (subst (λ t. LeadsTo (relocated t label (and_then location_at (early_value t operand))) (layout_of after) result) agrees.same leads)
 
-  pub agreed_bank : (taken : BankRange) (number : Numeral) (target : Result Location FaultKind) (result : Result (Unit {0}) FaultKind) → target ≡ bank_target_by p.ends taken number
-      → LeadsTo (relocated (layout_of l) label target) (layout_of after) result → LeadsOn line (relocated s label (bank_target s taken number)) after p result
+  pub agreed_bank : (taken : BankRange) (number : Numeral) (target : Result Location FaultKind) (result : Result (Unit {0}) FaultKind)
+      → target ≡ bank_target_by p.ends taken number
+      → LeadsTo (relocated (layout_of l) label target) (layout_of after) result
+      → LeadsOn line (relocated s label (bank_target s taken number)) after p result
   agreed_bank taken number target result is leads =
       let same : target ≡ bank_target s taken number = is ∙ target_by_ends s p.ends taken number agrees.keeps.ends in
-      agreed line s l after p (relocated (with_requests [] s) label (bank_target s taken number)) (relocated s label (bank_target s taken number)) result agrees (relocated_lifts s label (bank_target s taken number))
-      (subst (λ to. LeadsTo (relocated (with_requests [] s) label to) (layout_of after) result) same (subst (λ t. LeadsTo (relocated t label target) (layout_of after) result) agrees.same leads))
+      agreed line s l after p (relocated (with_requests [] s) label (bank_target s taken number))
+      (relocated s label (bank_target s taken number)) result agrees (relocated_lifts s label (bank_target s taken number))
+      (subst (λ to. LeadsTo (relocated (with_requests [] s) label to) (layout_of after) result) same
+      (subst (λ t. LeadsTo (relocated t label target) (layout_of after) result) agrees.same leads))
 
-  pub agreed_erase : (count : Numeral) (result : Result (Unit {0}) FaultKind) → LeadsTo (erase (layout_of l) label count) (layout_of after) result → LeadsOn line (erase s label count) after p result
+  pub agreed_erase : (count : Numeral) (result : Result (Unit {0}) FaultKind)
+      → LeadsTo (erase (layout_of l) label count) (layout_of after) result → LeadsOn line (erase s label count) after p result
   agreed_erase count result leads =
       agreed line s l after p (erase (with_requests [] s) label count) (erase s label count) result agrees (erase_lifts s label count)
       (subst (λ t. LeadsTo (erase t label count) (layout_of after) result) agrees.same leads)
 
-  pub agreed_equals : (operand : Option Operand) (result : Result (Unit {0}) FaultKind) → LeadsTo (equals line (layout_of l) label operand) (layout_of after) result
+  pub agreed_equals : (operand : Option Operand) (result : Result (Unit {0}) FaultKind)
+      → LeadsTo (equals line (layout_of l) label operand) (layout_of after) result
       → LeadsOn line (equals line s label operand) after p result
   agreed_equals operand result leads =
-      agreed line s l after p (equals line (with_requests [] s) label operand) (equals line s label operand) result agrees (equals_lifts s line label operand)
+      agreed line s l after p (equals line (with_requests [] s) label operand) (equals line s label operand) result agrees
+      (equals_lifts s line label operand)
       (subst (λ t. LeadsTo (equals line t label operand) (layout_of after) result) agrees.same leads)
 
-  pub agreed_ebank : (operand : Option Operand) (result : Result (Unit {0}) FaultKind) → LeadsTo (ebank (layout_of l) label operand) (layout_of after) result → LeadsOn line (ebank s label operand) after p result
+  pub agreed_ebank : (operand : Option Operand) (result : Result (Unit {0}) FaultKind)
+      → LeadsTo (ebank (layout_of l) label operand) (layout_of after) result → LeadsOn line (ebank s label operand) after p result
   agreed_ebank operand result leads =
       agreed line s l after p (ebank (with_requests [] s) label operand) (ebank s label operand) result agrees (ebank_lifts s label operand)
       (subst (λ t. LeadsTo (ebank t label operand) (layout_of after) result) agrees.same leads)
@@ -101,7 +122,8 @@ undefined_is : (words : Result (List ℕ) FaultKind) → is_undefined words ≡ 
 undefined_is (Err Undefined) e = refl
 undefined_is _ e = absurd (cc)
 
-faults_are : (table : List (List ℕ × Value)) (r : Request) → standing (result_err (request_words table r) ∷ extracode_fault (extracode_of r.content) r.extracode ∷ []) ≡ request_faults table r
+faults_are : (table : List (List ℕ × Value)) (r : Request)
+    → standing (result_err (request_words table r) ∷ extracode_fault (extracode_of r.content) r.extracode ∷ []) ≡ request_faults table r
 unfolding request_faults
 faults_are table r = refl
 
@@ -110,29 +132,36 @@ abbrev with_request : Layout → Request → Layout
 with_request s r = record s { requests = s.requests ++ r ∷ [] }
 
 -- what is held, where the words of a request have been taken
-takes_keeps : (line : ℕ) (s : Layout) (p q : Placing) (r : Request) → Keeps line s p → r.line ≡ line → meets s.requests r ≡ false → r.offset + width r.content ≤ bank_words
+takes_keeps : (line : ℕ) (s : Layout) (p q : Placing) (r : Request) → Keeps line s p → r.line ≡ line → meets s.requests r ≡ false
+    → r.offset + width r.content ≤ bank_words
     → TakesWords s.symbols r p q → Keeps (line + 1) (with_request s r) q
 takes_keeps line s p q r keeps on apart room takes =
     elim (cases_Bool (is_undefined (request_words s.symbols r))) [
       | inl missing ↦
           let none : request_words s.symbols r ≡ Err Undefined = undefined_is (request_words s.symbols r) missing in
           let words : Words = with_words p.rope (placed_from r.bank r.offset (replicate (width r.content) 0)) in
-          let rope : q.rope ≡ words = takes.rope ∙ ap (λ ws. with_words p.rope (placed_from r.bank r.offset (result_unwrap_or ws (replicate (width r.content) 0)))) none in
-          let later : map request_of q.waiting.items ≡ waiting ++ r ∷ [] = takes.settles.waits ∙ ap (λ b. cond b (waiting ++ r ∷ []) waiting) missing in
+          let rope : q.rope ≡ words = takes.rope ∙ ap
+          (λ ws. with_words p.rope (placed_from r.bank r.offset (result_unwrap_or ws (replicate (width r.content) 0)))) none in
+          let later : map request_of q.waiting.items ≡ waiting ++ r ∷ [] = takes.settles.waits
+          ∙ ap (λ b. cond b (waiting ++ r ∷ []) waiting) missing in
           let fault : q.fault ≡ p.fault = takes.settles.holds ∙ ap (λ b. cond b p.fault (lesser_on p.fault r.line kind)) missing in
           record {
-            holds = rw (rope, later, fault) (holds-put_aside line s.symbols s.requests waiting p.rope p.fault r keeps.holds on apart takes.in_banks room);
+            holds = rw (rope, later, fault) (holds-put_aside line s.symbols s.requests waiting p.rope p.fault r keeps.holds on apart
+                takes.in_banks room);
             known = rw later (known-put_aside line s.symbols s.requests waiting p.rope p.fault r keeps.holds on keeps.known);
             ends = takes.ends s.requests keeps.ends;
           }
       | inr defined_all ↦
-          let known : request_words s.symbols r ≢ Err Undefined = λ e. (let bad : is_undefined (request_words s.symbols r) ≡ true = ap is_undefined e in cc) in
-          let later : map request_of q.waiting.items ≡ waiting = takes.settles.waits ∙ ap (λ b. cond b (waiting ++ r ∷ []) waiting) defined_all in
+          let known : request_words s.symbols r ≢ Err Undefined = λ e.
+          (let bad : is_undefined (request_words s.symbols r) ≡ true = ap is_undefined e in cc) in
+          let later : map request_of q.waiting.items ≡ waiting = takes.settles.waits
+          ∙ ap (λ b. cond b (waiting ++ r ∷ []) waiting) defined_all in
           let fault : q.fault ≡ lesser_on p.fault line (least_kind (request_faults s.symbols r)) =
           takes.settles.holds ∙ ap (λ b. cond b p.fault (lesser_on p.fault r.line kind)) defined_all
           ∙ ap (λ n. lesser_on p.fault n kind) on ∙ ap (λ ks. lesser_on p.fault line (least_kind ks)) (faults_are s.symbols r) in
           record {
-            holds = rw (takes.rope, later, fault) (holds-settled line s.symbols s.requests waiting p.rope p.fault r keeps.holds on apart takes.in_banks room);
+            holds = rw (takes.rope, later, fault) (holds-settled line s.symbols s.requests waiting p.rope p.fault r keeps.holds on apart
+                takes.in_banks room);
             known = rw later (known-settled line s.symbols s.requests waiting p.rope p.fault r keeps.holds on keeps.known known);
             ends = takes.ends s.requests keeps.ends;
           }
@@ -148,7 +177,8 @@ takes_keeps line s p q r keeps on apart room takes =
 word_taken : (line : ℕ) (s : Layout) (p : Placing) (here : Location) → Keeps line s p → holds_word_at p.rope here ≡ is_taken_at s here
 word_taken line s p here keeps = by_place (word_place here)
   where
-    by_place : (place : Option (ℕ × ℕ)) → option_map_or (λ at. stands p.rope at.0 at.1) place false ≡ option_map_or (λ at. list_any (stands_at at.0 at.1) s.requests) place false
+    by_place : (place : Option (ℕ × ℕ)) → option_map_or (λ at. stands p.rope at.0 at.1) place false
+        ≡ option_map_or (λ at. list_any (stands_at at.0 at.1) s.requests) place false
     by_place None = refl
     by_place (Some at) = stands-held line s.symbols s.requests (map request_of p.waiting.items) p.rope p.fault at.0 at.1 keeps.holds
 
@@ -160,54 +190,77 @@ module _ (line : ℕ) (s : Layout) (l : Held) (p : Placing) (label : Label) (con
   pub tested : tested_faults (layout_of l) p.rope label (width content) ≡ (gives line s label content).faults
   tested =
       ap (λ t. tested_faults t p.rope label (width content)) agrees.same ∙ by_label label
-      ∙ ap (λ taken. standing (label_faults s label ++ fault_if (lacks_room (width content) s.location) BankFull ∷ fault_if taken PlaceTaken ∷ fault_if (is_erasable s.location) CodeInErasable ∷ [])) (words_taken line s p (width content) agrees.keeps)
+      ∙ ap (λ taken. standing (label_faults s label ++ fault_if (lacks_room (width content) s.location) BankFull ∷ fault_if taken PlaceTaken
+      ∷ fault_if (is_erasable s.location) CodeInErasable ∷ [])) (words_taken line s p (width content) agrees.keeps)
     where
-      by_label : (given : Label) → tested_faults (with_requests [] s) p.rope given (width content) ≡ tested_faults s p.rope given (width content)
+      by_label : (given : Label) → tested_faults (with_requests [] s) p.rope given (width content)
+          ≡ tested_faults s p.rope given (width content)
       by_label Missing = refl
       by_label Malformed = refl
       by_label (Named name) = refl
 
   -- the fault of a line that gives words
-  pub agreed_gives_fault : (after : Held) (q : Placing) (kind : FaultKind) → Some kind ≡ least_kind (tested_faults (layout_of l) p.rope label (width content)) → LeadsOn line (gives line s label content) after q (Err kind)
+  pub agreed_gives_fault : (after : Held) (q : Placing) (kind : FaultKind)
+      → Some kind ≡ least_kind (tested_faults (layout_of l) p.rope label (width content))
+      → LeadsOn line (gives line s label content) after q (Err kind)
   agreed_gives_fault after q kind is = λ known. ap least_kind (sym tested) ∙ sym is
 
   -- what stands after a line that gives words
-  agreed_gives : (d after : Held) (q : Placing) (bank offset : ℕ) (r : Request) → None ≡ least_kind (tested_faults (layout_of l) p.rope label (width content))
+  agreed_gives : (d after : Held) (q : Placing) (bank offset : ℕ) (r : Request)
+      → None ≡ least_kind (tested_faults (layout_of l) p.rope label (width content))
       → word_place l.location ≡ Some (bank, offset) → layout_of d ≡ defined (layout_of l) label (Fixed bank offset)
       → r ≡ record { line = line; bank = bank; offset = offset; content = content; extracode = d.extracode; eb = d.eb }
-      → layout_of after ≡ record (layout_of d) { location = after_words (width content) d.location; extracode = extends content d.extracode }
+      → layout_of after ≡ record (layout_of d) {
+        location = after_words (width content) d.location;
+        extracode = extends content
+            d.extracode;
+      }
       → TakesWords d.symbols r p q → LeadsOn line (gives line s label content) after q (Ok tt)
   agreed_gives d after q bank offset r none here names is moved takes =
       let all : Layout = defined s label (Fixed bank offset) in
-      let bare : layout_of d ≡ with_requests [] all = names ∙ ap (λ t. defined t label (Fixed bank offset)) agrees.same ∙ defined_after s label (Fixed bank offset) in
-      let faults : (gives line s label content).faults ≡ [] = sym tested ∙ none_least (tested_faults (layout_of l) p.rope label (width content)) (sym none) in
+      let bare : layout_of d ≡ with_requests [] all = names ∙ ap (λ t. defined t label (Fixed bank offset)) agrees.same
+      ∙ defined_after s label (Fixed bank offset) in
+      let faults : (gives line s label content).faults
+      ≡ [] = sym tested ∙ none_least (tested_faults (layout_of l) p.rope label (width content)) (sym none) in
       let place : word_place s.location ≡ Some (bank, offset) = ap (λ (t : Layout). word_place t.location) (sym agrees.same) ∙ here in
       let free = free_place line s label content faults in
       let asks : r ≡ request_for line all content (bank, offset) =
       is ∙ ap (λ (t : Layout). request_for line t content (bank, offset)) bare in
-      let apart : meets s.requests (request_for line all content (bank, offset)) ≡ false = meets_none s (request_for line all content (bank, offset)) place free.0 free.1 in
+      let apart : meets s.requests (request_for line all content (bank, offset))
+      ≡ false = meets_none s (request_for line all content (bank, offset)) place free.0 free.1 in
       let room : offset + width content ≤ bank_words = room_left s.location (width content) bank offset place free.0 in
       let more = defined_more s label (Fixed bank offset) in
-      let named : Keeps line all p = same_keeps line (record s { symbols = s.symbols ++ more.0 }) all p more.1 (defined_requests s label (Fixed bank offset)) (named_keeps line s p more.0 agrees.keeps) in
+      let named : Keeps line all p = same_keeps line (record s { symbols = s.symbols ++ more.0 }) all p more.1
+      (defined_requests s label (Fixed bank offset)) (named_keeps line s p more.0 agrees.keeps) in
       let taken : TakesWords all.symbols (request_for line all content (bank, offset)) p q =
       subst (λ (t : Request). TakesWords all.symbols t p q) asks (subst (λ (t : Layout). TakesWords t.symbols r p q) bare takes) in
       let kept : Keeps (line + 1) (with_request all (request_for line all content (bank, offset))) q =
-      takes_keeps line all p q (request_for line all content (bank, offset)) named refl (ap (λ rs. meets rs (request_for line all content (bank, offset))) (defined_requests s label (Fixed bank offset)) ∙ apart) room taken in
+      takes_keeps line all p q (request_for line all content (bank, offset)) named refl
+      (ap (λ rs. meets rs (request_for line all content (bank, offset))) (defined_requests s label (Fixed bank offset)) ∙ apart) room
+      taken in
       let next : (gives line s label content).after ≡ asked all (request_for line all content (bank, offset)) =
       ap (λ v. asked_here line (defined s label v) content) (here_value s.location bank offset place)
-      ∙ ap (λ at. option_map_or (λ q. asked all (request_for line all content q)) at all) (ap word_place (defined_keeps s label (Fixed bank offset)).0 ∙ place) in (
+      ∙ ap (λ at. option_map_or (λ q. asked all (request_for line all content q)) at all)
+      (ap word_place (defined_keeps s label (Fixed bank offset)).0 ∙ place) in (
         faults,
         record {
-          same = moved ∙ ap (λ (t : Layout). record t { location = after_words (width content) t.location; extracode = extends content t.extracode }) bare ∙ ap (with_requests []) (sym next);
-          keeps = rw next (same_keeps (line + 1) (with_request all (request_for line all content (bank, offset))) (asked all (request_for line all content (bank, offset))) q refl refl kept);
+          same = moved ∙ ap (λ (t : Layout). record t
+              { location = after_words (width content) t.location; extracode = extends content t.extracode }) bare
+              ∙ ap (with_requests []) (sym next);
+          keeps = rw next (same_keeps (line + 1) (with_request all (request_for line all content (bank, offset)))
+              (asked all (request_for line all content (bank, offset))) q refl refl kept);
         },
       )
 
   -- the same, whatever asking for the words answers
-  pub agreed_asks : (d after : Held) (q : Placing) (bank offset : ℕ) (r : Request) (result : Result (Unit {0}) FaultKind) → None ≡ least_kind (tested_faults (layout_of l) p.rope label (width content))
+  pub agreed_asks : (d after : Held) (q : Placing) (bank offset : ℕ) (r : Request) (result : Result (Unit {0}) FaultKind)
+      → None ≡ least_kind (tested_faults (layout_of l) p.rope label (width content))
       → word_place l.location ≡ Some (bank, offset) → layout_of d ≡ defined (layout_of l) label (Fixed bank offset)
       → r ≡ record { line = line; bank = bank; offset = offset; content = content; extracode = d.extracode; eb = d.eb }
-      → OnOk result (layout_of after ≡ record (layout_of d) { location = after_words (width content) d.location; extracode = extends content d.extracode })
-      → OnOk result (TakesWords d.symbols r p q) → IfErr result (λ kind. kind ≡ NoMemory) → LeadsOn line (gives line s label content) after q result
-  agreed_asks d after q bank offset r (Ok x) none here names is moved takes failed = agreed_gives d after q bank offset r none here names is moved takes
+      → OnOk result (layout_of after ≡ record (layout_of d)
+      { location = after_words (width content) d.location; extracode = extends content d.extracode })
+      → OnOk result (TakesWords d.symbols r p q) → IfErr result (λ kind. kind ≡ NoMemory)
+      → LeadsOn line (gives line s label content) after q result
+  agreed_asks d after q bank offset r (Ok x) none here names is moved takes failed = agreed_gives d after q bank offset r none here names is
+      moved takes
   agreed_asks d after q bank offset r (Err kind) none here names is moved takes failed = λ known. absurd (known failed)

@@ -1,5 +1,6 @@
 -- What a name more in the table leaves as it is.
-use Rattle.std.proofs.Common.{◌≡◌, ◌≢◌, ℕ, Bool, false, List, [], ◌∷◌, ◌++◌, map, Option, Some, None, Result, Ok, Err, ◌⊎◌, inl, inr, refl, ap, sym, ◌∙◌}
+use Rattle.std.proofs.Common.{◌≡◌, ◌≢◌, ℕ, Bool, false, List, [], ◌∷◌, ◌++◌, map, Option, Some, None, Result, Ok, Err, ◌⊎◌, inl, inr, refl}
+use Rattle.std.proofs.Common.{ap, sym, ◌∙◌}
 use Rattle.std.proofs.lemmas.Bool.{cases_Bool}
 use Rattle.std.proofs.lemmas.List.Elements.{All-head, All-tail, All-weaker}
 use Rattle.std.specs.List.{flat_map}
@@ -9,12 +10,14 @@ use Rattle.rope.specs.Places.{Words, Placed, no_words, with_words}
 use Rattle.yayul.specs.Layout.{Request, and_then, moved_value, term_value, value_of}
 use Rattle.yayul.specs.Words.{addressed_word, bank_word, far_address, fixed_place, low_place, content_words, request_words, request_faults}
 use Rattle.yayul.specs.Program.{placed_from, least}
-use Rattle.yayul.specs.Language.{Addressed, BankWord, Complemented, Constant, Constants, Content, FarAddress, FarComplement, Fault, FaultKind, Fixed, Operand, Plain, Term, Undefined, Value}
+use Rattle.yayul.specs.Language.{Addressed, BankWord, Complemented, Constant, Constants, Content, FarAddress, FarComplement, Fault}
+use Rattle.yayul.specs.Language.{FaultKind, Fixed, Operand, Plain, Term, Undefined, Value}
 use Rattle.yayul.specs.declared.language.Term.TheVariants as term
 use Rattle.yayul.specs.Inside.Waiting.{is_waiting, standing_words, standing_rope, standing_faults, Holds, AreKnown}
 
 -- a name keeps its value
-value_in-grown : (table more : List (List ℕ × Value)) (name : List ℕ) (v : Value) → value_in table name ≡ Some v → value_in (table ++ more) name ≡ Some v
+value_in-grown : (table more : List (List ℕ × Value)) (name : List ℕ) (v : Value) → value_in table name ≡ Some v
+    → value_in (table ++ more) name ≡ Some v
 value_in-grown [] more name v e = absurd (cc)
 value_in-grown (t ∷ table) more name v e =
     elim (cases_Bool (same_name name t.0)) [
@@ -27,7 +30,8 @@ module _ (table more : List (List ℕ × Value)) where
   abbrev Stays : {A : Type 0} → Result A FaultKind → Result A FaultKind → Type 0
   Stays before after = (before ≡ Err Undefined) ⊎ (after ≡ before)
 
-  bind-stays : {A B : Type 0} (f : A → Result B FaultKind) (before after : Result A FaultKind) → Stays before after → Stays (and_then f before) (and_then f after)
+  bind-stays : {A B : Type 0} (f : A → Result B FaultKind) (before after : Result A FaultKind) → Stays before after
+      → Stays (and_then f before) (and_then f after)
   bind-stays f before after (inl missing) = inl (ap (and_then f) missing)
   bind-stays f before after (inr same) = inr (ap (and_then f) same)
 
@@ -37,25 +41,31 @@ module _ (table more : List (List ℕ × Value)) where
   term-stays here term.Here = inr refl
   term-stays here (term.Named name) = by_value (value_in table name) refl
     where
-      by_value : (found : Option Value) → value_in table name ≡ found → Stays (term_value Undefined table here (term.Named name)) (term_value Undefined (table ++ more) here (term.Named name))
+      by_value : (found : Option Value) → value_in table name ≡ found
+          → Stays (term_value Undefined table here (term.Named name)) (term_value Undefined (table ++ more) here (term.Named name))
       by_value None none = inl (rw none refl)
       by_value (Some v) some = inr (rw (some, value_in-grown table more name v some) refl)
 
-  value-stays : (here : Value) (operand : Operand) → Stays (value_of Undefined table here operand) (value_of Undefined (table ++ more) here operand)
+  value-stays : (here : Value) (operand : Operand)
+      → Stays (value_of Undefined table here operand) (value_of Undefined (table ++ more) here operand)
   value-stays here operand = bind-stays (moved_value operand.shift) _ _ (term-stays here operand.term)
 
-  content-stays : (here : Value) (extracode : Bool) (eb : ℕ) (content : Content) → Stays (content_words table here extracode eb content) (content_words (table ++ more) here extracode eb content)
+  content-stays : (here : Value) (extracode : Bool) (eb : ℕ) (content : Content)
+      → Stays (content_words table here extracode eb content) (content_words (table ++ more) here extracode eb content)
   content-stays here extracode eb (Constant number) = inr refl
   content-stays here extracode eb (Plain i) = inr refl
   content-stays here extracode eb (Addressed i operand) = bind-stays (addressed_word i extracode) _ _ (value-stays here operand)
   content-stays here extracode eb (FarAddress operand) =
       bind-stays (λ place. Ok (far_address eb place.0 place.1)) _ _ (bind-stays fixed_place _ _ (value-stays here operand))
   content-stays here extracode eb (Constants pair) = inr refl
-  content-stays here extracode eb (Complemented i operand) = bind-stays (λ words. Ok (map neg words)) _ _ (bind-stays (addressed_word i extracode) _ _ (value-stays here operand))
+  content-stays here extracode eb (Complemented i operand) = bind-stays (λ words. Ok (map neg words)) _ _
+      (bind-stays (addressed_word i extracode) _ _ (value-stays here operand))
   content-stays here extracode eb (FarComplement operand) =
-      bind-stays (λ place. Ok (map neg (far_address eb place.0 place.1))) _ _ (bind-stays low_place _ _ (bind-stays fixed_place _ _ (value-stays here operand)))
+      bind-stays (λ place. Ok (map neg (far_address eb place.0 place.1))) _ _
+      (bind-stays low_place _ _ (bind-stays fixed_place _ _ (value-stays here operand)))
   content-stays here extracode eb (BankWord operand) =
-      bind-stays (λ place. Ok (bank_word eb place.0 place.1 ∷ [])) _ _ (bind-stays low_place _ _ (bind-stays fixed_place _ _ (value-stays here operand)))
+      bind-stays (λ place. Ok (bank_word eb place.0 place.1 ∷ [])) _ _
+      (bind-stays low_place _ _ (bind-stays fixed_place _ _ (value-stays here operand)))
 
   request-stays : (r : Request) → Stays (request_words table r) (request_words (table ++ more) r)
   unfolding request_words
@@ -70,7 +80,8 @@ module _ (table more : List (List ℕ × Value)) where
   faults-grown r known = rw (words-grown r known) refl
 
   module _ (waiting : List Request) where
-    standing_words-grown : (r : Request) → (is_waiting waiting r ≡ false → request_words table r ≢ Err Undefined) → standing_words (table ++ more) waiting r ≡ standing_words table waiting r
+    standing_words-grown : (r : Request) → (is_waiting waiting r ≡ false → request_words table r ≢ Err Undefined)
+        → standing_words (table ++ more) waiting r ≡ standing_words table waiting r
     unfolding standing_words
     standing_words-grown r known =
         elim (cases_Bool (is_waiting waiting r)) [
@@ -85,20 +96,25 @@ module _ (table more : List (List ℕ × Value)) where
     places-grown : (rs : List Request) → AreKnown table waiting rs → flat_map (places (table ++ more)) rs ≡ flat_map (places table) rs
     places-grown [] known = refl
     places-grown (r ∷ rs) known =
-        let head : is_waiting waiting r ≡ false → request_words table r ≢ Err Undefined = All-head (λ q. is_waiting waiting q ≡ false → request_words table q ≢ Err Undefined) r rs known in
-        let tail : AreKnown table waiting rs = All-tail (λ q. is_waiting waiting q ≡ false → request_words table q ≢ Err Undefined) r rs known in
+        let head : is_waiting waiting r ≡ false → request_words table r ≢ Err Undefined = All-head
+        (λ q. is_waiting waiting q ≡ false → request_words table q ≢ Err Undefined) r rs known in
+        let tail : AreKnown table waiting rs = All-tail (λ q. is_waiting waiting q ≡ false → request_words table q ≢ Err Undefined) r rs
+        known in
         rw (standing_words-grown r head, places-grown rs tail) refl
 
     rope-grown : (rs : List Request) → AreKnown table waiting rs → standing_rope (table ++ more) waiting rs ≡ standing_rope table waiting rs
     unfolding standing_rope
     rope-grown rs known = ap (with_words no_words) (places-grown rs known)
 
-    standing_faults-grown : (rs : List Request) → AreKnown table waiting rs → standing_faults (table ++ more) waiting rs ≡ standing_faults table waiting rs
+    standing_faults-grown : (rs : List Request) → AreKnown table waiting rs
+        → standing_faults (table ++ more) waiting rs ≡ standing_faults table waiting rs
     unfolding standing_faults
     standing_faults-grown [] known = refl
     standing_faults-grown (r ∷ rs) known =
-        let head : is_waiting waiting r ≡ false → request_words table r ≢ Err Undefined = All-head (λ q. is_waiting waiting q ≡ false → request_words table q ≢ Err Undefined) r rs known in
-        let tail : AreKnown table waiting rs = All-tail (λ q. is_waiting waiting q ≡ false → request_words table q ≢ Err Undefined) r rs known in
+        let head : is_waiting waiting r ≡ false → request_words table r ≢ Err Undefined = All-head
+        (λ q. is_waiting waiting q ≡ false → request_words table q ≢ Err Undefined) r rs known in
+        let tail : AreKnown table waiting rs = All-tail (λ q. is_waiting waiting q ≡ false → request_words table q ≢ Err Undefined) r rs
+        known in
         elim (cases_Bool (is_waiting waiting r)) [
           | inl waits ↦ rw waits (standing_faults-grown rs tail)
           | inr settled ↦ rw (settled, faults-grown r (head settled), standing_faults-grown rs tail) refl
@@ -107,11 +123,13 @@ module _ (table more : List (List ℕ × Value)) where
     -- what is known stays so
     pub known-named : (rs : List Request) → AreKnown table waiting rs → AreKnown (table ++ more) waiting rs
     known-named rs known =
-        All-weaker (λ q. is_waiting waiting q ≡ false → request_words table q ≢ Err Undefined) (λ q. is_waiting waiting q ≡ false → request_words (table ++ more) q ≢ Err Undefined)
+        All-weaker (λ q. is_waiting waiting q ≡ false → request_words table q ≢ Err Undefined)
+        (λ q. is_waiting waiting q ≡ false → request_words (table ++ more) q ≢ Err Undefined)
         (λ q before settled missing. before settled (sym (words-grown q (before settled)) ∙ missing)) rs known
 
     -- names more leave words and faults as they are
-    pub holds-named : (line : ℕ) (rs : List Request) (rope : Words) (told : Option Fault) → Holds line table rs waiting rope told → AreKnown table waiting rs
+    pub holds-named : (line : ℕ) (rs : List Request) (rope : Words) (told : Option Fault) → Holds line table rs waiting rope told
+        → AreKnown table waiting rs
         → Holds line (table ++ more) rs waiting rope told
     holds-named line rs rope told h known =
         record {

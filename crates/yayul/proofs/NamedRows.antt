@@ -58,10 +58,12 @@ of_a_whole_word = refl
 abbrev word : ℕ → ℕ → Shown
 word bank offset = record { place = None; words = (bank, offset) ∷ [] }
 
-at_its_word : line_named table (None ∷ None ∷ None ∷ []) (word 0 1) (statement_of (codes " CA TABLE +3")).operation ≡ None ∷ Some 0o1403 ∷ None ∷ []
+at_its_word : line_named table (None ∷ None ∷ None ∷ []) (word 0 1) (statement_of (codes " CA TABLE +3")).operation
+    ≡ None ∷ Some 0o1403 ∷ None ∷ []
 unfolding runs operators statement_of
 at_its_word = refl
 
-at_no_word : line_named table (None ∷ None ∷ None ∷ []) nothing (statement_of (codes "HERE EQUALS TABLE")).operation ≡ None ∷ None ∷ None ∷ []
+at_no_word : line_named table (None ∷ None ∷ None ∷ []) nothing (statement_of (codes "HERE EQUALS TABLE")).operation
+    ≡ None ∷ None ∷ None ∷ []
 unfolding runs operators statement_of
 at_no_word = refl

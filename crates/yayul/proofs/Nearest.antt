@@ -13,5 +13,6 @@ scales_to_nearest d (suc (suc (suc (suc (suc zero))))) = λ low high. record { a
 scales_to_nearest d (suc (suc (suc (suc (suc (suc zero)))))) = λ low high. record { above = omega arith; below = omega arith }
 scales_to_nearest d (suc (suc (suc (suc (suc (suc (suc zero))))))) = λ low high. record { above = omega arith; below = omega arith }
 scales_to_nearest d (suc (suc (suc (suc (suc (suc (suc (suc zero)))))))) = λ low high. record { above = omega arith; below = omega arith }
-scales_to_nearest d (suc (suc (suc (suc (suc (suc (suc (suc (suc zero))))))))) = λ low high. record { above = omega arith; below = omega arith }
+scales_to_nearest d (suc (suc (suc (suc (suc (suc (suc (suc (suc zero))))))))) = λ low high. record
+    { above = omega arith; below = omega arith }
 scales_to_nearest d (suc (suc (suc (suc (suc (suc (suc (suc (suc (suc n)))))))))) = λ low high. absurd (omega arith)

@@ -22,11 +22,13 @@ module _ (table : List (List ℕ × Value)) where
   all_faults rs = refl
 
   -- the words of a request without a fault
-  faultless-words : (r : Request) → request_faults table r ≡ [] → result_unwrap_or (request_words table r) (replicate (width r.content) 0) ≡ result_unwrap_or (request_words table r) []
+  faultless-words : (r : Request) → request_faults table r ≡ []
+      → result_unwrap_or (request_words table r) (replicate (width r.content) 0) ≡ result_unwrap_or (request_words table r) []
   unfolding request_faults
   faultless-words r none = by_words (request_words table r) none
     where
-      by_words : (words : Result (List ℕ) FaultKind) → standing (result_err words ∷ extracode_fault (extracode_of r.content) r.extracode ∷ []) ≡ []
+      by_words : (words : Result (List ℕ) FaultKind)
+          → standing (result_err words ∷ extracode_fault (extracode_of r.content) r.extracode ∷ []) ≡ []
           → result_unwrap_or words (replicate (width r.content) 0) ≡ result_unwrap_or words []
       by_words (Ok ws) none = refl
       by_words (Err kind) none = absurd (cc)

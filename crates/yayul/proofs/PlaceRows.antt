@@ -42,7 +42,8 @@ unfolding runs operators statement_of line_effect lines
 no_row_past_the_last words = refl
 
 -- a word of fixed memory has the row of the listing: not that of the label before it
-row_of_the_first_word : (words : Words) → word_at words 2 0 ≡ 0o30100 → row words 0o30100 (Fixed 2 0) ≡ codes "LIST     7 02,4000 30100   CA SUM\n"
+row_of_the_first_word : (words : Words) → word_at words 2 0 ≡ 0o30100
+    → row words 0o30100 (Fixed 2 0) ≡ codes "LIST     7 02,4000 30100   CA SUM\n"
 unfolding runs operators statement_of line_effect lines number_column word_columns place_text window octal_text digits
 row_of_the_first_word words e = rw e refl
 
@@ -61,11 +62,13 @@ line_of_the_second : line (Fixed 2 2) ≡ Some pair
 unfolding runs operators statement_of line_effect lines
 line_of_the_second = refl
 
-row_of_the_pair : (words : Words) → word_at words 2 1 ≡ 0o02000 → place_row words 0o02000 (Fixed 2 1) pair ≡ codes "    8 02,4001 02000   2CADR FAR\n"
+row_of_the_pair : (words : Words) → word_at words 2 1 ≡ 0o02000
+    → place_row words 0o02000 (Fixed 2 1) pair ≡ codes "    8 02,4001 02000   2CADR FAR\n"
 unfolding number_column word_columns place_text window octal_text digits
 row_of_the_pair words e = rw e refl
 
-row_of_its_second_word : (words : Words) → word_at words 2 2 ≡ 0o04000 → place_row words 0o04000 (Fixed 2 2) pair ≡ codes "    8 02,4002 04000\n"
+row_of_its_second_word : (words : Words) → word_at words 2 2 ≡ 0o04000
+    → place_row words 0o04000 (Fixed 2 2) pair ≡ codes "    8 02,4002 04000\n"
 unfolding number_column word_columns place_text window octal_text digits
 row_of_its_second_word words e = rw e refl
 

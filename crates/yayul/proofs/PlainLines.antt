@@ -1,12 +1,15 @@
 -- What a line does that asks for no words is the same, whatever requests stand before it.
-use Rattle.std.proofs.Common.{◌≡◌, ℕ, Bool, true, false, List, [], ◌∷◌, ◌++◌, Option, None, Some, Result, Ok, Err, refl, ap, sym, inl, inr, append-nil, ◌<◌, arith}
+use Rattle.std.proofs.Common.{◌≡◌, ℕ, Bool, true, false, List, [], ◌∷◌, ◌++◌, Option, None, Some, Result, Ok, Err, refl, ap, sym, inl, inr}
+use Rattle.std.proofs.Common.{append-nil, ◌<◌, arith}
 use Rattle.std.proofs.lemmas.Bool.{cases_Bool}
 use Rattle.std.proofs.lemmas.Bool.Decides.{nat_tests}
 use Rattle.std.specs.Prelude.{if◌then◌else◌}
 use Rattle.rope.specs.Places.{banks}
 use Rattle.yayul.specs.Operators.{is_bank}
-use Rattle.yayul.specs.Layout.{Layout, LineEffect, defined, value_here, label_alone, relocated, bank_target, early_value, equals, erase, is_later, promised, valued, ebank}
-use Rattle.yayul.specs.Language.{All, BadOperand, BankRange, TwoOrThree, Label, Malformed, Missing, Named, FaultKind, Operand, Numeral, NoForm, TooLarge, Is, Value, Location}
+use Rattle.yayul.specs.Layout.{Layout, LineEffect, defined, value_here, label_alone, relocated, bank_target, early_value, equals, erase}
+use Rattle.yayul.specs.Layout.{is_later, promised, valued, ebank}
+use Rattle.yayul.specs.Language.{All, BadOperand, BankRange, TwoOrThree, Label, Malformed, Missing, Named, FaultKind, Operand, Numeral}
+use Rattle.yayul.specs.Language.{NoForm, TooLarge, Is, Value, Location}
 use Rattle.yayul.specs.Inside.Answers.{with_requests}
 use Rattle.yayul.specs.Inside.Representation.{bank_target_by}
 use Rattle.yayul.specs.Inside.Sound.{AreEnds}
@@ -59,7 +62,8 @@ module _ (s : Layout) where
         symbols = defined_more s label (value_here s.location);
       }
 
-  pub relocated_lifts : (label : Label) (target : Result Location FaultKind) → Lifts s (relocated bare label target) (relocated s label target)
+  pub relocated_lifts : (label : Label) (target : Result Location FaultKind)
+      → Lifts s (relocated bare label target) (relocated s label target)
   relocated_lifts label target = record { faults = refl; after = refl; requests = refl; symbols = none_more s.symbols }
 
   pub ebank_lifts : (label : Label) (operand : Option Operand) → Lifts s (ebank bare label operand) (ebank s label operand)
@@ -74,7 +78,8 @@ module _ (s : Layout) where
   erase_lifts label count =
       record {
         faults = erase_faults label count;
-        after = ap (λ (t : Layout). record t { location = (erase s label count).after.location }) (defined_after label (value_here s.location));
+        after = ap (λ (t : Layout). record t { location = (erase s label count).after.location })
+            (defined_after label (value_here s.location));
         requests = defined_requests label (value_here s.location);
         symbols = defined_more s label (value_here s.location);
       }
@@ -86,21 +91,30 @@ module _ (s : Layout) where
 
   pub valued_lifts : (label : Label) (value : Result Value FaultKind) → Lifts s (valued bare label value) (valued s label value)
   valued_lifts label (Ok value) =
-      record { faults = valued_faults label (Ok value); after = defined_after label value; requests = defined_requests label value; symbols = defined_more s label value }
+      record {
+        faults = valued_faults label (Ok value);
+        after = defined_after label value;
+        requests = defined_requests label value;
+        symbols
+            = defined_more s label value;
+      }
   valued_lifts label (Err kind) =
       record { faults = valued_faults label (Err kind); after = refl; requests = refl; symbols = none_more s.symbols }
 
-  promised_lifts : (line : ℕ) (label : Label) (operand : Operand) → Lifts s (promised line bare label operand) (promised line s label operand)
+  promised_lifts : (line : ℕ) (label : Label) (operand : Operand)
+      → Lifts s (promised line bare label operand) (promised line s label operand)
   promised_lifts line Missing operand = record { faults = refl; after = refl; requests = refl; symbols = none_more s.symbols }
   promised_lifts line Malformed operand = record { faults = refl; after = refl; requests = refl; symbols = none_more s.symbols }
   promised_lifts line (Named name) operand = record { faults = refl; after = refl; requests = refl; symbols = none_more s.symbols }
 
-  pub equals_lifts : (line : ℕ) (label : Label) (operand : Option Operand) → Lifts s (equals line bare label operand) (equals line s label operand)
+  pub equals_lifts : (line : ℕ) (label : Label) (operand : Option Operand)
+      → Lifts s (equals line bare label operand) (equals line s label operand)
   equals_lifts line label None = valued_lifts label (Err BadOperand)
   equals_lifts line label (Some operand) = by_test (is_later s operand)
     where
       by_test : (b : Bool)
-          → Lifts s (if b then promised line bare label operand else valued bare label (early_value s (Some operand))) (if b then promised line s label operand else valued s label (early_value s (Some operand)))
+          → Lifts s (if b then promised line bare label operand else valued bare label (early_value s (Some operand)))
+          (if b then promised line s label operand else valued s label (early_value s (Some operand)))
       by_test true = promised_lifts line label operand
       by_test false = valued_lifts label (early_value s (Some operand))
 
@@ -110,7 +124,8 @@ taken_bank All n taken = grind (arith, nat_tests)
 taken_bank TwoOrThree n taken = grind (arith, nat_tests)
 
 -- the ends of the banks tell what the requests do
-pub target_by_ends : (s : Layout) (ends : List ℕ) (taken : BankRange) (number : Numeral) → AreEnds ends s.requests → bank_target_by ends taken number ≡ bank_target s taken number
+pub target_by_ends : (s : Layout) (ends : List ℕ) (taken : BankRange) (number : Numeral) → AreEnds ends s.requests
+    → bank_target_by ends taken number ≡ bank_target s taken number
 target_by_ends s ends taken NoForm are = refl
 target_by_ends s ends taken TooLarge are = refl
 target_by_ends s ends taken (Is n) are =

@@ -37,7 +37,11 @@ last_too : (fs ks gs : List Fault) → AreAmong (fs ++ (ks ++ gs)) ((fs ++ gs) +
 last_too fs ks gs f stands =
     elim (parts (fs ++ gs) ks f stands) [
       | inl others ↦
-          elim (parts fs gs f others) [ inl first ↦ in_first fs (ks ++ gs) f first | inr last ↦ in_second fs (ks ++ gs) f (in_second ks gs f last) ]
+          elim (parts fs gs f others) [
+            | inl first ↦ in_first fs (ks ++ gs) f first
+            | inr last ↦ in_second fs (ks ++ gs) f
+                (in_second ks gs f last)
+          ]
       | inr here ↦ in_second fs (ks ++ gs) f (in_first ks gs f here)
     ]
 
@@ -46,7 +50,11 @@ middle_too fs ks gs f stands =
     elim (parts fs (ks ++ gs) f stands) [
       | inl first ↦ in_first (fs ++ gs) ks f (in_first fs gs f first)
       | inr others ↦
-          elim (parts ks gs f others) [ inl here ↦ in_second (fs ++ gs) ks f here | inr last ↦ in_first (fs ++ gs) ks f (in_second fs gs f last) ]
+          elim (parts ks gs f others) [
+            | inl here ↦ in_second (fs ++ gs) ks f here
+            | inr last ↦ in_first (fs ++ gs) ks f
+                (in_second fs gs f last)
+          ]
     ]
 
 -- a fault of a lesser line stays the least
@@ -61,7 +69,8 @@ gives_way : (line : ℕ) (m : Fault) (k : FaultKind) → line + 1 ≤ m.line →
 gives_way line m k lt = grind (arith, nat_tests)
 
 -- the faults of a line after others of other lines
-pub told_last : (line : ℕ) (fs : List Fault) (ks : List FaultKind) → StandOff line fs → least (fs ++ on_line line ks) ≡ lesser_on (least fs) line (least_kind ks)
+pub told_last : (line : ℕ) (fs : List Fault) (ks : List FaultKind) → StandOff line fs
+    → least (fs ++ on_line line ks) ≡ lesser_on (least fs) line (least_kind ks)
 told_last line [] [] off = refl
 told_last line [] (k ∷ ks) off = ap (λ f. Some f) (fold-on_line line k ks)
 told_last line (f ∷ fs) [] off = ap least (append-nil (f ∷ fs))
@@ -82,5 +91,6 @@ told_last line (f ∷ fs) (k ∷ ks) off =
 pub told_among : (line : ℕ) (fs gs : List Fault) (ks : List FaultKind) → StandOff line fs → StandOff line gs
     → least (fs ++ (on_line line ks ++ gs)) ≡ lesser_on (least (fs ++ gs)) line (least_kind ks)
 told_among line fs gs ks before after =
-    least_of_set (fs ++ (on_line line ks ++ gs)) ((fs ++ gs) ++ on_line line ks) (middle_too fs (on_line line ks) gs) (last_too fs (on_line line ks) gs)
+    least_of_set (fs ++ (on_line line ks ++ gs)) ((fs ++ gs) ++ on_line line ks) (middle_too fs (on_line line ks) gs)
+    (last_too fs (on_line line ks) gs)
     ∙ told_last line (fs ++ gs) ks (off-append line fs gs before after)

@@ -48,8 +48,10 @@ told_rows =
     ∷ (codes " SETLOC 100; CA NONE", (2, 2, 2, 22) ∷ (2, 5, 4, 17) ∷ [])
     ∷ []
 
-each_told : map {B = List (ℕ × ℕ × ℕ × ℕ)} (λ r. map row (told Standard (source r.0))) told_rows ≡ map {B = List (ℕ × ℕ × ℕ × ℕ)} (λ r. r.1) told_rows
-unfolding told span_in span_at runs operators statement_of passed_line given_by line_effect request_words request_faults lines window fb_of sup_of
+each_told : map {B = List (ℕ × ℕ × ℕ × ℕ)} (λ r. map row (told Standard (source r.0))) told_rows
+    ≡ map {B = List (ℕ × ℕ × ℕ × ℕ)} (λ r. r.1) told_rows
+unfolding told span_in span_at runs operators statement_of passed_line given_by line_effect request_words request_faults lines window fb_of
+    sup_of
 each_told = refl
 
 -- so it is in the language of flight programs: on a line with a count the fields after it are marked
@@ -69,11 +71,14 @@ flight_rows =
     ∷ (replicate 121 0o40 ++ codes "# one byte and its sign too many", (1, 121, 2, 11) ∷ [])
     ∷ []
 
-each_flight : map {B = List (ℕ × ℕ × ℕ × ℕ)} (λ r. map row (told Flight (source r.0))) flight_rows ≡ map {B = List (ℕ × ℕ × ℕ × ℕ)} (λ r. r.1) flight_rows
-unfolding told span_in span_at runs operators flight_operators statement_of uncounted_statement passed_line given_by line_effect request_words request_faults lines window fb_of sup_of
+each_flight : map {B = List (ℕ × ℕ × ℕ × ℕ)} (λ r. map row (told Flight (source r.0))) flight_rows
+    ≡ map {B = List (ℕ × ℕ × ℕ × ℕ)} (λ r. r.1) flight_rows
+unfolding told span_in span_at runs operators flight_operators statement_of uncounted_statement passed_line given_by line_effect
+    request_words request_faults lines window fb_of sup_of
 each_flight = refl
 
--- of places that are taken, the line and that whose word stands there: the first word's, else the second's; an operand without a form takes nothing from its words
+-- of places that are taken, the line and that whose word stands there: the first word's, else the second's; an operand without a form takes
+-- nothing from its words
 abbrev taken_row : Finding → ℕ × ℕ × Option ℕ
 taken_row f = (f.line, fault_number f.kind, f.taken_by)
 
@@ -89,8 +94,10 @@ taken_rows =
     ∷ (codes " BANK 5;X OCT 1; SETLOC 4000; OCT 2; SETLOC X; OCT 3", (6, 21, Some 2) ∷ [])
     ∷ []
 
-each_taken : map {B = List (ℕ × ℕ × Option ℕ)} (λ r. map taken_row (told Standard (source r.0))) taken_rows ≡ map {B = List (ℕ × ℕ × Option ℕ)} (λ r. r.1) taken_rows
-unfolding told span_in span_at runs operators statement_of passed_line given_by line_effect request_words request_faults lines window fb_of sup_of
+each_taken : map {B = List (ℕ × ℕ × Option ℕ)} (λ r. map taken_row (told Standard (source r.0))) taken_rows
+    ≡ map {B = List (ℕ × ℕ × Option ℕ)} (λ r. r.1) taken_rows
+unfolding told span_in span_at runs operators statement_of passed_line given_by line_effect request_words request_faults lines window fb_of
+    sup_of
 each_taken = refl
 
 -- and in the language of flight programs, where 2DEC gives two words
@@ -99,6 +106,8 @@ flight_taken =
     (codes "+1 OCT 1; 2DEC .5; SETLOC 4002; OCT 1; SETLOC 4000; 2OCT 0000000001", (4, 21, Some 2) ∷ (6, 21, Some 1) ∷ [])
     ∷ []
 
-each_flight_taken : map {B = List (ℕ × ℕ × Option ℕ)} (λ r. map taken_row (told Flight (source r.0))) flight_taken ≡ map {B = List (ℕ × ℕ × Option ℕ)} (λ r. r.1) flight_taken
-unfolding told span_in span_at runs operators flight_operators statement_of uncounted_statement passed_line given_by line_effect request_words request_faults lines window fb_of sup_of
+each_flight_taken : map {B = List (ℕ × ℕ × Option ℕ)} (λ r. map taken_row (told Flight (source r.0))) flight_taken
+    ≡ map {B = List (ℕ × ℕ × Option ℕ)} (λ r. r.1) flight_taken
+unfolding told span_in span_at runs operators flight_operators statement_of uncounted_statement passed_line given_by line_effect
+    request_words request_faults lines window fb_of sup_of
 each_flight_taken = refl

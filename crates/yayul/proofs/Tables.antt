@@ -4,7 +4,8 @@ use Rattle.std.specs.List.{list_all}
 use Rattle.agc_text.specs.Tables.{same_name, value_in}
 
 -- what holds of each value of a table holds of the value of a name
-pub value_in-all : {V : Type 0} (test : V → Bool) (table : List (List ℕ × V)) (name : List ℕ) → list_all (λ e. test e.1) table ≡ true → IfSome (value_in table name) (λ v. test v ≡ true)
+pub value_in-all : {V : Type 0} (test : V → Bool) (table : List (List ℕ × V)) (name : List ℕ) → list_all (λ e. test e.1) table ≡ true
+    → IfSome (value_in table name) (λ v. test v ≡ true)
 value_in-all test [] name all = tt
 value_in-all test (e ∷ es) name all =
     let parts = and_parts (test e.1) (list_all (λ e. test e.1) es) all in

@@ -8,22 +8,29 @@ use Rattle.yayul.specs.Language.{Fault, Language}
 use Rattle.yayul.specs.Inside.Answers.{Tells}
 
 -- what a source without a layout fault comes to
-pub program_ok : (language : Language) (source : List ℕ) → layout_faults 1 (start language) (lines source) ≡ [] → program language source ≡ finished (layout_after 1 (start language) (lines source)) (record { language = language; text = source })
+pub program_ok : (language : Language) (source : List ℕ) → layout_faults 1 (start language) (lines source) ≡ []
+    → program language source ≡ finished (layout_after 1 (start language) (lines source)) (record { language = language; text = source })
 unfolding program
-program_ok language source none = ap (λ fs. unless_fault (least fs) (finished (layout_after 1 (start language) (lines source)) (record { language = language; text = source }))) none
+program_ok language source none = ap (λ fs. unless_fault (least fs)
+    (finished (layout_after 1 (start language) (lines source)) (record { language = language; text = source }))) none
 
 -- the fault of a source that has one in its layout
-pub program_err : (language : Language) (source : List ℕ) (fault : Fault) → Tells (least (layout_faults 1 (start language) (lines source))) fault → GivesProgram (program language source) (Err fault)
+pub program_err : (language : Language) (source : List ℕ) (fault : Fault)
+    → Tells (least (layout_faults 1 (start language) (lines source))) fault → GivesProgram (program language source) (Err fault)
 unfolding program
 program_err language source fault (inl none) = inl none
-program_err language source fault (inr some) = inr (ap (λ f. unless_fault f (finished (layout_after 1 (start language) (lines source)) (record { language = language; text = source }))) some)
+program_err language source fault (inr some) = inr
+    (ap (λ f. unless_fault f (finished (layout_after 1 (start language) (lines source)) (record { language = language; text = source })))
+    some)
 
 -- what a layout comes to, where a name that waits has a fault
-pub finished_err : (s : Layout) (source : Source) (fault : Fault) → first_fault (with_values s).symbols s.promises ≡ Some fault → GivesProgram (finished s source) (Err fault)
+pub finished_err : (s : Layout) (source : Source) (fault : Fault) → first_fault (with_values s).symbols s.promises ≡ Some fault
+    → GivesProgram (finished s source) (Err fault)
 finished_err s source fault some = inr (ap (λ f. unless_fault f (completed (with_values s) source)) some)
 
 -- where none has
-pub finished_ok : (s : Layout) (source : Source) → first_fault (with_values s).symbols s.promises ≡ None → finished s source ≡ completed (with_values s) source
+pub finished_ok : (s : Layout) (source : Source) → first_fault (with_values s).symbols s.promises ≡ None
+    → finished s source ≡ completed (with_values s) source
 finished_ok s source none = ap (λ f. unless_fault f (completed (with_values s) source)) none
 
 -- an answer to what is expected is one to what that equals

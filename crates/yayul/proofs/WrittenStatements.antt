@@ -1,5 +1,6 @@
 -- What the lines of such a source say.
-use Rattle.std.proofs.Common.{◌≡◌, ◌<◌, ◌≤◌, ◌+◌, ◌/◌, ◌%◌, ◌^◌, not, eqb, nat_le, ℕ, List, [], ◌∷◌, ◌++◌, length, take, drop, get_or, Some, None, Bool, true, false, refl, arith, ◌∙◌, ap, sym, inl, inr}
+use Rattle.std.proofs.Common.{◌≡◌, ◌<◌, ◌≤◌, ◌+◌, ◌/◌, ◌%◌, ◌^◌, not, eqb, nat_le, ℕ, List, [], ◌∷◌, ◌++◌, length, take, drop, get_or, Some}
+use Rattle.std.proofs.Common.{None, Bool, true, false, refl, arith, ◌∙◌, ap, sym, inl, inr}
 use Rattle.std.specs.Prelude.{codes}
 use Rattle.std.specs.List.{list_all, position_or_len}
 use Rattle.std.proofs.lemmas.Bool.{cases_Bool}
@@ -20,7 +21,8 @@ use Rattle.yayul.specs.Language.{All, Bank, Constant, Gives, Is, Missing, Statem
 use Rattle.yayul.proofs.Octals.{octal_all, octal_number}
 
 -- where the first byte that passes a test stands, after bytes that do not
-past : (p : ℕ → Bool) (xs ys : List ℕ) → list_all (λ b. not (p b)) xs ≡ true → position_or_len p (xs ++ ys) ≡ length xs + position_or_len p ys
+past : (p : ℕ → Bool) (xs ys : List ℕ) → list_all (λ b. not (p b)) xs ≡ true
+    → position_or_len p (xs ++ ys) ≡ length xs + position_or_len p ys
 past p [] ys all = omega arith
 past p (x ∷ xs) ys all =
     elim (cases_Bool (p x)) [
@@ -34,7 +36,8 @@ past p (x ∷ xs) ys all =
 -- ## The fields
 before_hash : (xs rest : List ℕ) → list_all (λ b. not (eqb b 0o43)) xs ≡ true → before_comment (xs ++ 0o43 ∷ rest) ≡ xs
 before_hash xs rest all =
-    let at : position_or_len (λ b. eqb b 0o43) (xs ++ 0o43 ∷ rest) ≡ length xs = past (λ b. eqb b 0o43) xs (0o43 ∷ rest) all ∙ omega arith in
+    let at : position_or_len (λ b. eqb b 0o43) (xs ++ 0o43 ∷ rest)
+    ≡ length xs = past (λ b. eqb b 0o43) xs (0o43 ∷ rest) all ∙ omega arith in
     ap (λ n. take n (xs ++ 0o43 ∷ rest)) at ∙ take-append_seam xs (0o43 ∷ rest)
 
 no_hash : (xs : List ℕ) → list_all (λ b. not (eqb b 0o43)) xs ≡ true → before_comment xs ≡ xs
@@ -44,7 +47,8 @@ no_hash xs all =
     ap (λ n. take n xs) at ∙ take-length xs
 
 -- a field alone, and what follows it
-field_then : (xs t : List ℕ) → 0 < length xs → is_blank (get_or xs 0 0) ≡ false → list_all (λ b. not (is_blank b)) xs ≡ true → position_or_len is_blank t ≡ 0 → texts (runs t) ≡ [] → texts (runs (xs ++ t)) ≡ xs ∷ []
+field_then : (xs t : List ℕ) → 0 < length xs → is_blank (get_or xs 0 0) ≡ false → list_all (λ b. not (is_blank b)) xs ≡ true
+    → position_or_len is_blank t ≡ 0 → texts (runs t) ≡ [] → texts (runs (xs ++ t)) ≡ xs ∷ []
 field_then xs t some first all blank none =
     let at : position_or_len is_blank (xs ++ t) ≡ length xs = past is_blank xs t all ∙ omega (arith, blank) in
     let long = length-append xs t in
@@ -53,7 +57,8 @@ field_then xs t some first all blank none =
     ∙ rw (take-append_seam xs t, drop-append_seam xs t, none) refl
 
 -- what some fields say
-by_texts : (pieces : List Piece) (o : List ℕ) (rest : List (List ℕ)) → texts pieces ≡ o ∷ rest → operation_in pieces ≡ operation_of (value_in operators o) rest
+by_texts : (pieces : List Piece) (o : List ℕ) (rest : List (List ℕ)) → texts pieces ≡ o ∷ rest
+    → operation_in pieces ≡ operation_of (value_in operators o) rest
 by_texts [] o rest same = absurd (cc)
 by_texts (p ∷ ps) o rest same = let first : p.text ≡ o = cc in let others : texts ps ≡ rest = cc in rw (first, others) refl
 
@@ -122,8 +127,10 @@ word_fields word =
     let first : is_blank (48 + word / 8 / 8 / 8 / 8 % 8) ≡ false = digit_stands (word / 8 / 8 / 8 / 8 % 8) (omega arith) in
     texts-skip (word_front word) 8 refl
     ∙ texts-take (drop 8 (word_front word)) 3 (omega arith) refl refl
-    ∙ ap (λ ts. codes "OCT" ∷ ts) (texts-skip (drop 11 (word_front word)) 5 (five_blanks (48 + word / 8 / 8 / 8 / 8 % 8) (drop 1 (octal_text 5 word ++ codes "   ")) first)
-    ∙ field_then (octal_text 5 word) (codes "   ") (omega arith) first (octal_all (λ b. not (is_blank b)) blank_digit 5 word) refl blanks_alone)
+    ∙ ap (λ ts. codes "OCT" ∷ ts) (texts-skip (drop 11 (word_front word)) 5
+    (five_blanks (48 + word / 8 / 8 / 8 / 8 % 8) (drop 1 (octal_text 5 word ++ codes "   ")) first)
+    ∙ field_then (octal_text 5 word) (codes "   ") (omega arith) first (octal_all (λ b. not (is_blank b)) blank_digit 5 word) refl
+    blanks_alone)
 
 bank_fields : (bank : ℕ) → texts (runs (bank_text bank)) ≡ codes "BANK" ∷ octal_text 2 bank ∷ []
 unfolding octal_text
@@ -131,7 +138,8 @@ bank_fields bank =
     let first : is_blank (48 + bank / 8 % 8) ≡ false = digit_stands (bank / 8 % 8) (omega arith) in
     texts-skip (bank_text bank) 8 refl
     ∙ texts-take (drop 8 (bank_text bank)) 4 (omega arith) refl refl
-    ∙ ap (λ ts. codes "BANK" ∷ ts) (texts-skip (drop 12 (bank_text bank)) 4 (four_blanks (48 + bank / 8 % 8) (drop 1 (octal_text 2 bank)) first)
+    ∙ ap (λ ts. codes "BANK" ∷ ts) (texts-skip (drop 12 (bank_text bank)) 4
+    (four_blanks (48 + bank / 8 % 8) (drop 1 (octal_text 2 bank)) first)
     ∙ field_then (octal_text 2 bank) [] (omega arith) first (octal_all (λ b. not (is_blank b)) blank_digit 2 bank) refl no_bytes)
 
 all_append : (p : ℕ → Bool) (xs ys : List ℕ) → list_all p xs ≡ true → list_all p ys ≡ true → list_all p (xs ++ ys) ≡ true
@@ -143,11 +151,16 @@ word_front_plain word =
     (all_append (λ b. not (eqb b 0o43)) (octal_text 5 word) (codes "   ") (octal_all (λ b. not (eqb b 0o43)) hash_digit 5 word) refl)
 
 bank_plain : (bank : ℕ) → list_all (λ b. not (eqb b 0o43)) (bank_text bank) ≡ true
-bank_plain bank = all_append (λ b. not (eqb b 0o43)) (codes "        BANK    ") (octal_text 2 bank) refl (octal_all (λ b. not (eqb b 0o43)) hash_digit 2 bank)
+bank_plain bank = all_append (λ b. not (eqb b 0o43)) (codes "        BANK    ") (octal_text 2 bank) refl
+    (octal_all (λ b. not (eqb b 0o43)) hash_digit 2 bank)
 
 -- what some fields say as a line
 abbrev said_by : List Piece → Statement
-said_by pieces = record { label = label_in (option_map (λ piece. piece.text) (label_of pieces)); operation = operation_in (others_of pieces) }
+said_by pieces = record {
+  label = label_in (option_map (λ piece. piece.text) (label_of pieces));
+  operation = operation_in
+      (others_of pieces);
+}
 
 word_without_label : (word : ℕ) → label_of (runs (word_front word)) ≡ None
 unfolding runs octal_text
@@ -165,15 +178,18 @@ bank_others : (bank : ℕ) → others_of (runs (bank_text bank)) ≡ runs (bank_
 unfolding runs octal_text
 bank_others bank = refl
 
-octal_says : (text : List ℕ) (word : ℕ) → octal_in text ≡ Is word → operation_of (value_in operators (codes "OCT")) (text ∷ []) ≡ Gives (Some (Constant (Some word)))
+octal_says : (text : List ℕ) (word : ℕ) → octal_in text ≡ Is word
+    → operation_of (value_in operators (codes "OCT")) (text ∷ []) ≡ Gives (Some (Constant (Some word)))
 unfolding operators
 octal_says text word is = rw is refl
 
-bank_says : (text : List ℕ) (bank : ℕ) → number_in text ≡ Is bank → operation_of (value_in operators (codes "BANK")) (text ∷ []) ≡ Bank All (Is bank)
+bank_says : (text : List ℕ) (bank : ℕ) → number_in text ≡ Is bank
+    → operation_of (value_in operators (codes "BANK")) (text ∷ []) ≡ Bank All (Is bank)
 unfolding operators
 bank_says text bank is = ap (Bank All) is
 
-pub word_said : (word : ℕ) (comment : List ℕ) → word < 8 ^ 5 → statement_of (word_text word comment) ≡ record { label = Missing; operation = Gives (Some (Constant (Some word))) }
+pub word_said : (word : ℕ) (comment : List ℕ) → word < 8 ^ 5
+    → statement_of (word_text word comment) ≡ record { label = Missing; operation = Gives (Some (Constant (Some word))) }
 unfolding statement_of
 word_said word comment lt =
     let operation : operation_in (others_of (runs (word_front word))) ≡ Gives (Some (Constant (Some word))) =

@@ -1,14 +1,20 @@
 -- The language of flight programs: what it has beyond the standard one, and what a line says in either.
-use Rattle.std.specs.Prelude.{ℕ, ◌+◌, ◌-◌, ◌*◌, ◌/◌, ◌%◌, ◌==◌, ◌&&◌, ◌||◌, not, nat_le, nat_lt, Bool, true, false, List, [], ◌∷◌, length, take, drop, slice_get, codes, Option, None, Some, option_map, if◌then◌else◌}
+use Rattle.std.specs.Prelude.{ℕ, ◌+◌, ◌-◌, ◌*◌, ◌/◌, ◌%◌, ◌==◌, ◌&&◌, ◌||◌, not, nat_le, nat_lt, Bool, true, false, List, [], ◌∷◌, length}
+use Rattle.std.specs.Prelude.{take, drop, slice_get, codes, Option, None, Some, option_map, if◌then◌else◌}
 use Rattle.std.specs.List.{list_any}
 use Rattle.std.specs.Option.{option_map_or, option_or}
 use Rattle.agc_text.specs.Digits.{number_of}
 use Rattle.agc_text.specs.Fields.{Piece, texts, before_comment, fields, label_of, others_of}
 use Rattle.agc_text.specs.Tables.{value_in}
 use Rattle.yayul.specs.Operators.{operators, addressed, code}
-use Rattle.yayul.specs.Forms.{is_sign, first_is, is_digits, greatest_number, alone, complemented, number_in, octal_in, with_form, shift_in, moved_by, operand_in, operation_of, label_in, statement_of}
+use Rattle.yayul.specs.Forms.{is_sign, first_is, is_digits, greatest_number, alone, complemented, number_in, octal_in, with_form, shift_in}
+use Rattle.yayul.specs.Forms.{moved_by, operand_in, operation_of, label_in, statement_of}
 use Rattle.yayul.specs.Scales.{decimal_content}
-use Rattle.yayul.specs.Language.{Address, Addressed, All, Bank, BankRange, BankWord, Channel, Complemented, Constant, Constants, Content, Ebank, Equals, ErasablePlace, FarAddress, FarComplement, FixedPlace, Flight, FlightOperator, Gives, Is, Label, Language, Location, Minus, Missing, Named, Nine, No, NoForm, Nothing, Numeral, Octals, One, Operand, Operation, Operator, PassedOver, Plus, Setloc, Shift, Standard, Statement, Ten, Term, Twelve, Two, TwoOrThree, Unknown, VerbNoun}
+use Rattle.yayul.specs.Language.{Address, Addressed, All, Bank, BankRange, BankWord, Channel, Complemented, Constant, Constants, Content}
+use Rattle.yayul.specs.Language.{Ebank, Equals, ErasablePlace, FarAddress, FarComplement, FixedPlace, Flight, FlightOperator, Gives, Is}
+use Rattle.yayul.specs.Language.{Label, Language, Location, Minus, Missing, Named, Nine, No, NoForm, Nothing, Numeral, Octals, One, Operand}
+use Rattle.yayul.specs.Language.{Operation, Operator, PassedOver, Plus, Setloc, Shift, Standard, Statement, Ten, Term, Twelve, Two}
+use Rattle.yayul.specs.Language.{TwoOrThree, Unknown, VerbNoun}
 
 abbrev pub is_flight : Language → Bool
 is_flight Standard = false
@@ -206,7 +212,8 @@ flight_operation_of here scales (Some (FlightOperator.Standard operator)) rest =
 -- what the fields besides the label say
 abbrev pub flight_operation_in : Location → List ℕ → List Piece → Operation
 flight_operation_in here line [] = Nothing
-flight_operation_in here line (operator ∷ rest) = flight_operation_of here (scales_after line (slice_get rest 0)) (flight_operator operator.text) (texts rest)
+flight_operation_in here line (operator ∷ rest) = flight_operation_of here (scales_after line (slice_get rest 0))
+    (flight_operator operator.text) (texts rest)
 
 -- what a line says that has no count
 unfoldable pub uncounted_statement : Location → List ℕ → Statement

@@ -1,5 +1,6 @@
 -- From the fields of a line to what it says: names, numbers, decimal constants, operands, statements, whatever stands before the line.
-use Rattle.std.specs.Prelude.{ℕ, ◌+◌, ◌-◌, ◌*◌, ◌/◌, ◌^◌, ◌==◌, ◌&&◌, ◌||◌, not, Bool, false, nat_le, List, [], ◌∷◌, length, take, drop, slice_get, Option, None, Some, is_some, option_map, option_and_then, if◌then◌else◌}
+use Rattle.std.specs.Prelude.{ℕ, ◌+◌, ◌-◌, ◌*◌, ◌/◌, ◌^◌, ◌==◌, ◌&&◌, ◌||◌, not, Bool, false, nat_le, List, [], ◌∷◌, length, take, drop}
+use Rattle.std.specs.Prelude.{slice_get, Option, None, Some, is_some, option_map, option_and_then, if◌then◌else◌}
 use Rattle.std.specs.List.{list_any, before_first}
 use Rattle.std.specs.Option.{option_map_or}
 use Rattle.words.specs.Numbers.{neg}
@@ -7,7 +8,9 @@ use Rattle.agc_text.specs.Digits.{digits_value, number_of}
 use Rattle.agc_text.specs.Fields.{Piece, texts, fields, label_of, others_of}
 use Rattle.agc_text.specs.Tables.{value_in}
 use Rattle.yayul.specs.Operators.{operators}
-use Rattle.yayul.specs.Language.{Addressed, Bank, Constant, Ebank, Equals, Erase, FarAddress, Gives, Is, Label, Malformed, Minus, Missing, Named, NoForm, Nothing, Numeral, Operand, Operation, Operator, Plain, Plus, Setloc, Shift, Statement, Term, TooLarge, Unknown}
+use Rattle.yayul.specs.Language.{Addressed, Bank, Constant, Ebank, Equals, Erase, FarAddress, Gives, Is, Label, Malformed, Minus, Missing}
+use Rattle.yayul.specs.Language.{Named, NoForm, Nothing, Numeral, Operand, Operation, Operator, Plain, Plus, Setloc, Shift, Statement, Term}
+use Rattle.yayul.specs.Language.{TooLarge, Unknown}
 
 -- a `+` or a `-`
 abbrev pub is_sign : ℕ → Bool
@@ -75,7 +78,8 @@ whole_in text = if length text == 0 then Some 0 else digits_value 10 text
 -- a fraction, of its digits before and after its point; it is below 1
 abbrev pub fraction_in : List ℕ → List ℕ → Numeral
 fraction_in whole decimals =
-    option_map_or (λ w. option_map_or (λ d. if w == 0 then at_most greatest_magnitude (scaled d (10 ^ length decimals)) else TooLarge) (number_of 10 9 decimals) NoForm) (whole_in whole) NoForm
+    option_map_or (λ w. option_map_or (λ d. if w == 0 then at_most greatest_magnitude (scaled d (10 ^ length decimals)) else TooLarge)
+    (number_of 10 9 decimals) NoForm) (whole_in whole) NoForm
 
 -- digits; or a fraction: digits or none, a point and 1 to 9 digits
 abbrev pub magnitude_in : List ℕ → Numeral

@@ -1,11 +1,13 @@
--- The kinds of things that the definitions tell apart: the types of src/language.rt, with the faults of src/faults.rt and the values of `symbols`.
+-- The kinds of things that the definitions tell apart: the types of src/language.rt, with the faults of src/faults.rt and the values of
+-- `symbols`.
 pub use Rattle.yayul.specs.declared.language.AddressedCode.{AddressedCode}
 pub use Rattle.yayul.specs.declared.language.BankRange.{BankRange}
 pub use Rattle.yayul.specs.declared.language.BankRange.TheVariants.{All, TwoOrThree}
 pub use Rattle.yayul.specs.declared.language.Bits.{Bits}
 pub use Rattle.yayul.specs.declared.language.Bits.TheVariants.{Nine, Ten, Twelve}
 pub use Rattle.yayul.specs.declared.language.Content.{Content}
-pub use Rattle.yayul.specs.declared.language.Content.TheVariants.{Constant, Plain, Addressed, FarAddress, Constants, Complemented, FarComplement, BankWord}
+pub use Rattle.yayul.specs.declared.language.Content.TheVariants.{Constant, Plain, Addressed, FarAddress, Constants, Complemented}
+pub use Rattle.yayul.specs.declared.language.Content.TheVariants.{FarComplement, BankWord}
 pub use Rattle.yayul.specs.declared.language.Extracode.{Extracode}
 pub use Rattle.yayul.specs.declared.language.Extracode.TheVariants.{No, Yes, Either}
 pub use Rattle.yayul.specs.declared.language.FlightOperator.{FlightOperator}
@@ -31,6 +33,9 @@ pub use Rattle.yayul.specs.declared.language.Takes.TheVariants.{Address, Pair, F
 pub use Rattle.yayul.specs.declared.language.Term.{Term}
 pub use Rattle.yayul.specs.declared.faults.Fault.{Fault}
 pub use Rattle.yayul.specs.declared.faults.FaultKind.{FaultKind}
-pub use Rattle.yayul.specs.declared.faults.FaultKind.TheVariants.{NoMemory, NotAscii, LongLine, TooManyLines, BadLabel, TwiceDefined, UnknownOperator, BadOperand, Undefined, UsedTooEarly, BadBank, BankFull, PlaceTaken, CodeInErasable, NeedsExtend, NotExtracode, WrongKindOfAddress, OutOfRange}
+pub use Rattle.yayul.specs.declared.faults.FaultKind.TheVariants.{NoMemory, NotAscii, LongLine, TooManyLines, BadLabel, TwiceDefined}
+pub use Rattle.yayul.specs.declared.faults.FaultKind.TheVariants.{UnknownOperator, BadOperand, Undefined, UsedTooEarly, BadBank, BankFull}
+pub use Rattle.yayul.specs.declared.faults.FaultKind.TheVariants.{PlaceTaken, CodeInErasable, NeedsExtend, NotExtracode, WrongKindOfAddress}
+pub use Rattle.yayul.specs.declared.faults.FaultKind.TheVariants.{OutOfRange}
 pub use Rattle.symbols.specs.declared.values.Value.{Value}
 pub use Rattle.symbols.specs.declared.values.Value.TheVariants.{Num, Erasable, Fixed}

@@ -1,16 +1,22 @@
 -- What the definitions of the source language come to.
-use Rattle.std.specs.Prelude.{◌≡◌, ◌≢◌, ℕ, ◌+◌, ◌-◌, ◌*◌, ◌^◌, ◌<◌, ◌≤◌, ◌==◌, ◌&&◌, ◌||◌, not, Bool, true, false, List, [], ◌∷◌, All, AllPairs, length, filter, slice_get, take, codes, Option, Some, None, option_and_then, unwrap_or, Result, Ok, Err, IfOk, IfSome}
+use Rattle.std.specs.Prelude.{◌≡◌, ◌≢◌, ℕ, ◌+◌, ◌-◌, ◌*◌, ◌^◌, ◌<◌, ◌≤◌, ◌==◌, ◌&&◌, ◌||◌, not, Bool, true, false, List, [], ◌∷◌, All}
+use Rattle.std.specs.Prelude.{AllPairs, length, filter, slice_get, take, codes, Option, Some, None, option_and_then, unwrap_or, Result, Ok}
+use Rattle.std.specs.Prelude.{Err, IfOk, IfSome}
 use Rattle.std.specs.List.{list_any}
 use Rattle.agc_text.specs.Lines.{lines}
 use Rattle.agc_text.specs.Tables.{same_name}
 use Rattle.yayul.specs.Forms.{scaled}
-use Rattle.yayul.specs.Layout.{Layout, Request, start, extends, stands_at, fault_number, is_later, layout_after, layout_faults, statement_on}
+use Rattle.yayul.specs.Layout.{Layout, Request, start, extends, stands_at, fault_number, is_later, layout_after, layout_faults}
+use Rattle.yayul.specs.Layout.{statement_on}
 use Rattle.yayul.specs.Mended.{lacks_operand}
 use Rattle.yayul.specs.Operators.{operators}
 use Rattle.yayul.specs.Program.{Program, program}
-use Rattle.yayul.specs.Survey.{Survey, counts_from_here, erases, layout_kinds, looked_at, operand_of, operation_on, passed_lines, rests_on_known, told, unmarked}
+use Rattle.yayul.specs.Survey.{Survey, counts_from_here, erases, layout_kinds, looked_at, operand_of, operation_on, passed_lines}
+use Rattle.yayul.specs.Survey.{rests_on_known, told, unmarked}
 use Rattle.yayul.specs.Words.{addressed_word}
-use Rattle.yayul.specs.Language.{AddressedCode, BankFull, Channel, CodeInErasable, Content, Either, Equals, Extracode, Fault, FaultKind, Label, Language, Named, No, Num, Operand, Operation, Operator, OutOfRange, PlaceTaken, Takes, Term, Undefined, UsedTooEarly, Value, WrongKindOfAddress, Yes}
+use Rattle.yayul.specs.Language.{AddressedCode, BankFull, Channel, CodeInErasable, Content, Either, Equals, Extracode, Fault, FaultKind}
+use Rattle.yayul.specs.Language.{Label, Language, Named, No, Num, Operand, Operation, Operator, OutOfRange, PlaceTaken, Takes, Term}
+use Rattle.yayul.specs.Language.{Undefined, UsedTooEarly, Value, WrongKindOfAddress, Yes}
 use Rattle.yayul.specs.declared.finding.Finding.{Finding}
 
 -- ## The words of instructions
@@ -43,7 +49,8 @@ GivesWith (Operator.Addressed i) extracode n word = CodeGives i extracode n word
 GivesWith (Operator.ToNext i) extracode n word = CodeGives i extracode n word
 GivesWith _ extracode n word = ⊥
 
--- after a line with an operator, whatever its operand, extracode is in force on the next line that gives words, or is not, as the layout has it
+-- after a line with an operator, whatever its operand, extracode is in force on the next line that gives words, or is not, as the layout
+-- has it
 abbrev pub LeavesExtracode : Operator → Bool → Bool → Type 0
 LeavesExtracode (Operator.Plain i) extracode after = extends (Content.Plain i) extracode ≡ after
 LeavesExtracode (Operator.Addressed i) extracode after = (operand : Operand) → extends (Content.Addressed i operand) extracode ≡ after
@@ -61,7 +68,8 @@ operand_digits (Operator.Addressed i) = digits_shown i.takes
 operand_digits _ = 4
 
 -- ## Fractions
--- so many multiples of 2 ^ -14 are nearer to a fraction of decimals and their unit than any other: less than half of one away, on either side
+-- so many multiples of 2 ^ -14 are nearer to a fraction of decimals and their unit than any other: less than half of one away, on either
+-- side
 pub record IsNearest (word decimals unit : ℕ) : Type 0 where
   pub above : 2 * (word * unit) < decimals * 2 ^ 15 + unit
   pub below : decimals * 2 ^ 15 < 2 * (word * unit) + unit
@@ -79,7 +87,8 @@ ShareNoPlace requests =
 
 -- no two words of a source without a layout fault share a place
 abbrev pub WordsShareNoPlace : Language → List ℕ → Type 0
-WordsShareNoPlace language source = layout_faults 1 (start language) (lines source) ≡ [] → ShareNoPlace (layout_after 1 (start language) (lines source)).requests
+WordsShareNoPlace language source = layout_faults 1 (start language) (lines source) ≡ []
+    → ShareNoPlace (layout_after 1 (start language) (lines source)).requests
 
 -- ## Names
 -- no two symbols have one name
@@ -141,11 +150,14 @@ is_of_place number = number == fault_number BankFull || (number == fault_number 
 -- a fault is one of an address that its line itself gives: of what ERASE passes, or of an operand that counts from its own line
 abbrev pub is_of_own_address : ℕ → Operation → Bool
 is_of_own_address number operation =
-    (number == fault_number WrongKindOfAddress && (erases operation || counts_from_here operation)) || (number == fault_number OutOfRange && counts_from_here operation)
+    (number == fault_number WrongKindOfAddress && (erases operation || counts_from_here operation))
+    || (number == fault_number OutOfRange && counts_from_here operation)
 
--- a fault that rests on where its line stands is told where that is known; and a line that a fault names stands above, where it is known too
+-- a fault that rests on where its line stands is told where that is known; and a line that a fault names stands above, where it is known
+-- too
 pub record IsSure (language : Language) (source : List ℕ) (f : Finding) : Type 0 where
-  pub own : (is_of_place (fault_number f.kind) || is_of_own_address (fault_number f.kind) (said_on language source f.line)) ≡ true → IsPlaced language source f.line
+  pub own : (is_of_place (fault_number f.kind) || is_of_own_address (fault_number f.kind) (said_on language source f.line)) ≡ true
+      → IsPlaced language source f.line
   pub named : IfSome f.taken_by (λ line. (line < f.line) × IsPlaced language source line)
 
 -- each fault that is told of a source is sure
@@ -167,15 +179,18 @@ symbol_of operation = option_and_then (λ operand. symbol_in operand.term) (oper
 
 -- a name is the label of no line of a source, a refused one among them
 abbrev pub IsNoLabel : Language → List ℕ → List ℕ → Type 0
-IsNoLabel language source name = (line : ℕ) → 1 ≤ line → line ≤ length (looked_at language source) → label_on language source line ≢ Named name
+IsNoLabel language source name = (line : ℕ) → 1 ≤ line → line ≤ length (looked_at language source)
+    → label_on language source line ≢ Named name
 
 -- the operand of a line is a symbol, and that is the label of no line
 abbrev pub NamesNoLabel : Language → List ℕ → ℕ → Type 0
-NamesNoLabel language source line = (name : List ℕ) × ((symbol_of (said_on language source line) ≡ Some name) × IsNoLabel language source name)
+NamesNoLabel language source line = (name : List ℕ)
+    × ((symbol_of (said_on language source line) ≡ Some name) × IsNoLabel language source name)
 
 -- that no line defines a symbol is told only where none has it as its label
 abbrev pub UndefinedIsSure : Language → List ℕ → Type 0
-UndefinedIsSure language source = All (λ f. fault_number f.kind ≡ fault_number Undefined → NamesNoLabel language source f.line) (told language source)
+UndefinedIsSure language source = All (λ f. fault_number f.kind ≡ fault_number Undefined → NamesNoLabel language source f.line)
+    (told language source)
 
 -- a line lets its label wait for a symbol of a later line
 abbrev pub is_waiting : Layout → Operation → Bool
@@ -187,24 +202,30 @@ IsWaiting language source line = is_waiting (before_line language source line).l
 
 -- no line above another has a name as its label, a refused one neither, but one that lets it wait
 abbrev pub IsNotAbove : Language → List ℕ → ℕ → List ℕ → Type 0
-IsNotAbove language source last name = (line : ℕ) → 1 ≤ line → line < last → label_on language source line ≡ Named name → IsWaiting language source line
+IsNotAbove language source last name = (line : ℕ) → 1 ≤ line → line < last → label_on language source line ≡ Named name
+    → IsWaiting language source line
 
 -- the operand of a line is a symbol, and no line above gives it a value
 abbrev pub NamesNoneAbove : Language → List ℕ → ℕ → Type 0
-NamesNoneAbove language source line = (name : List ℕ) × ((symbol_of (said_on language source line) ≡ Some name) × IsNotAbove language source line name)
+NamesNoneAbove language source line = (name : List ℕ)
+    × ((symbol_of (said_on language source line) ≡ Some name) × IsNotAbove language source line name)
 
 -- that the value of a symbol is needed too early is told only where no line above gives it one
 abbrev pub EarlyIsSure : Language → List ℕ → Type 0
-EarlyIsSure language source = All (λ f. fault_number f.kind ≡ fault_number UsedTooEarly → NamesNoneAbove language source f.line) (told language source)
+EarlyIsSure language source = All (λ f. fault_number f.kind ≡ fault_number UsedTooEarly → NamesNoneAbove language source f.line)
+    (told language source)
 
 -- the layout faults of what a line says
 abbrev pub faults_on : Language → List ℕ → ℕ → List FaultKind
-faults_on language source line = layout_kinds line (before_line language source line).layout (label_on language source line) (said_on language source line)
+faults_on language source line = layout_kinds line (before_line language source line).layout (label_on language source line)
+    (said_on language source line)
 
 -- all is known that a line rests on
 abbrev pub RestsOnKnown : Language → List ℕ → ℕ → Type 0
 RestsOnKnown language source line =
-    rests_on_known (before_line language source line).known (lacks_operand (before_line language source line).layout.language (text_of_line language source line)) (said_on language source line) ≡ true
+    rests_on_known (before_line language source line).known
+    (lacks_operand (before_line language source line).layout.language (text_of_line language source line))
+    (said_on language source line) ≡ true
 
 -- a line gives a name its value: it has the name as its label, no layout fault stands on it, and all is known that it rests on
 pub record GivesValue (language : Language) (source : List ℕ) (name : List ℕ) (line : ℕ) : Type 0 where
@@ -223,4 +244,5 @@ is_of_value number = number == fault_number WrongKindOfAddress || number == faul
 -- that the value of a symbol is of the wrong kind or out of range is told only where a line without a layout fault gives it
 abbrev pub ValueIsSure : Language → List ℕ → Type 0
 ValueIsSure language source =
-    All (λ f. is_of_value (fault_number f.kind) ≡ true → (name : List ℕ) → symbol_of (said_on language source f.line) ≡ Some name → IsGiven language source name) (told language source)
+    All (λ f. is_of_value (fault_number f.kind) ≡ true → (name : List ℕ) → symbol_of (said_on language source f.line) ≡ Some name
+    → IsGiven language source name) (told language source)

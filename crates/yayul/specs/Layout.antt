@@ -1,5 +1,6 @@
 -- Layout: what each line does where a location, symbols and words stand before it, and its faults of the kind layout.
-use Rattle.std.specs.Prelude.{ℕ, ◌+◌, ◌-◌, ◌/◌, ◌==◌, ◌&&◌, ◌||◌, not, Bool, true, false, nat_lt, nat_le, List, [], ◌∷◌, ◌++◌, length, map, filter_map, fold, max, Option, None, Some, is_some, Result, Ok, Err, ok_or, if◌then◌else◌}
+use Rattle.std.specs.Prelude.{ℕ, ◌+◌, ◌-◌, ◌/◌, ◌==◌, ◌&&◌, ◌||◌, not, Bool, true, false, nat_lt, nat_le, List, [], ◌∷◌, ◌++◌, length, map}
+use Rattle.std.specs.Prelude.{filter_map, fold, max, Option, None, Some, is_some, Result, Ok, Err, ok_or, if◌then◌else◌}
 use Rattle.std.specs.List.{list_any, list_all}
 use Rattle.std.specs.Option.{option_map, option_map_or}
 use Rattle.std.specs.Result.{result_err, result_unwrap_or}
@@ -11,7 +12,12 @@ use Rattle.symbols.specs.Values.{place_of}
 use Rattle.yayul.specs.Operators.{is_bank, stays_extended}
 use Rattle.yayul.specs.Forms.{greatest_number}
 use Rattle.yayul.specs.Flight.{is_flight, most_lines, measured, statement_in}
-use Rattle.yayul.specs.Language.{Addressed, BadBank, BadLabel, BadOperand, Bank, BankFull, BankRange, BankWord, CodeInErasable, Complemented, Constant, Constants, Content, Ebank, Equals, Erasable, Erase, FarAddress, FarComplement, Fault, FaultKind, Fixed, Gives, Is, Label, Language, Location, LongLine, Malformed, Minus, Missing, Named, NeedsExtend, NoForm, NoMemory, NotAscii, NotExtracode, Nothing, Num, Numeral, Operand, Operation, OutOfRange, PlaceTaken, Plain, Plus, Setloc, Shift, Statement, Term, TooLarge, TooManyLines, TwiceDefined, Undefined, Unknown, UnknownOperator, UsedTooEarly, Value, WrongKindOfAddress}
+use Rattle.yayul.specs.Language.{Addressed, BadBank, BadLabel, BadOperand, Bank, BankFull, BankRange, BankWord, CodeInErasable}
+use Rattle.yayul.specs.Language.{Complemented, Constant, Constants, Content, Ebank, Equals, Erasable, Erase, FarAddress, FarComplement}
+use Rattle.yayul.specs.Language.{Fault, FaultKind, Fixed, Gives, Is, Label, Language, Location, LongLine, Malformed, Minus, Missing, Named}
+use Rattle.yayul.specs.Language.{NeedsExtend, NoForm, NoMemory, NotAscii, NotExtracode, Nothing, Num, Numeral, Operand, Operation}
+use Rattle.yayul.specs.Language.{OutOfRange, PlaceTaken, Plain, Plus, Setloc, Shift, Statement, Term, TooLarge, TooManyLines, TwiceDefined}
+use Rattle.yayul.specs.Language.{Undefined, Unknown, UnknownOperator, UsedTooEarly, Value, WrongKindOfAddress}
 
 -- ## Faults
 -- the number that a kind of fault is told by
@@ -121,7 +127,8 @@ word_place (Location.Erasable n) = None
 word_place (Location.Fixed bank n) = if nat_lt n 0o2000 then Some (bank, n) else None
 
 -- ## What the lines before give
--- the words that a line asks for, from a place on: what they are made of, whether extracode is in force, and the erasable bank of a far address
+-- the words that a line asks for, from a place on: what they are made of, whether extracode is in force, and the erasable bank of a far
+-- address
 pub record Request : Type 0 where
   pub line : ℕ
   pub bank : ℕ
@@ -136,7 +143,8 @@ pub record Promise : Type 0 where
   pub name : List ℕ
   pub operand : Operand
 
--- what stands before a line: the language of the source, the location, and what earlier lines gave, the names that wait for a value among it, with values of no account
+-- what stands before a line: the language of the source, the location, and what earlier lines gave, the names that wait for a value among
+-- it, with values of no account
 pub record Layout : Type 0 where
   pub language : Language
   pub location : Location
@@ -149,7 +157,16 @@ pub record Layout : Type 0 where
 
 -- before the first line: bank 2, offset 0, erasable bank 0
 abbrev pub start : Language → Layout
-start language = record { language = language; location = Location.Fixed 2 0; symbols = []; promised = []; promises = []; requests = []; extracode = false; eb = 0 }
+start language = record {
+  language = language;
+  location = Location.Fixed 2 0;
+  symbols = [];
+  promised = [];
+  promises = [];
+  requests = [];
+  extracode = false;
+  eb = 0;
+}
 
 -- how many words a content gives
 abbrev pub width : Content → ℕ
@@ -241,12 +258,17 @@ bank_target s taken (Is n) = if is_bank taken n then Ok (Location.Fixed n (bank_
 abbrev pub ebank : Layout → Label → Option Operand → LineEffect
 ebank s label operand =
     let place : Result ℕ FaultKind = and_then erasable_place (early_value s operand) in
-    record { faults = standing (bare_faults label place); after = record s { eb = result_unwrap_or (and_then (λ n. Ok (n / 0o400)) place) s.eb } }
+    record {
+      faults = standing (bare_faults label place);
+      after = record s
+          { eb = result_unwrap_or (and_then (λ n. Ok (n / 0o400)) place) s.eb };
+    }
 
 -- a line that gives its label a value, and needs a label
 abbrev pub valued : Layout → Label → Result Value FaultKind → LineEffect
 valued s label value = record {
-  faults = standing (fault_if (is_missing label || is_malformed label) BadLabel ∷ fault_if (is_twice s label) TwiceDefined ∷ result_err value ∷ []);
+  faults = standing (fault_if (is_missing label || is_malformed label) BadLabel ∷ fault_if (is_twice s label) TwiceDefined
+      ∷ result_err value ∷ []);
   after = result_unwrap_or (and_then (λ v. Ok (defined s label v)) value) s;
 }
 
@@ -274,7 +296,8 @@ promised line s label operand = record { faults = (valued s label (Ok (Num 0))).
 -- EQUALS: the label has the value of the operand, or waits for it
 abbrev pub equals : ℕ → Layout → Label → Option Operand → LineEffect
 equals line s label None = valued s label (Err BadOperand)
-equals line s label (Some operand) = if is_later s operand then promised line s label operand else valued s label (early_value s (Some operand))
+equals line s label (Some operand) = if is_later s operand then promised line s label operand else valued s label
+    (early_value s (Some operand))
 
 -- the location after so many erasable words and one
 abbrev pub erased_to : Location → Numeral → Result Location FaultKind
@@ -288,11 +311,13 @@ abbrev pub erase : Layout → Label → Numeral → LineEffect
 erase s label count =
     let end : Result Location FaultKind = erased_to s.location count in
     record {
-      faults = standing (label_faults s label ++ fault_if (not (is_missing label) && lacks_room 1 s.location) BankFull ∷ result_err end ∷ []);
+      faults = standing (label_faults s label ++ fault_if (not (is_missing label) && lacks_room 1 s.location) BankFull ∷ result_err end
+          ∷ []);
       after = record (defined s label (value_here s.location)) { location = result_unwrap_or end s.location };
     }
 
--- extracode is in force on the next line that gives words, where it is or is not on this one: after an operator that puts it in force, or one of both tables under extracode
+-- extracode is in force on the next line that gives words, where it is or is not on this one: after an operator that puts it in force, or
+-- one of both tables under extracode
 abbrev pub extends : Content → Bool → Bool
 extends (Constant number) extracode = false
 extends (Plain i) extracode = i.extends
@@ -302,12 +327,18 @@ extends _ extracode = false
 -- a layout with the words of one request more
 abbrev pub asked : Layout → Request → Layout
 asked s r =
-    record s { requests = s.requests ++ r ∷ []; location = after_words (width r.content) s.location; extracode = extends r.content s.extracode }
+    record s {
+      requests = s.requests ++ r ∷ [];
+      location = after_words (width r.content) s.location;
+      extracode = extends r.content
+          s.extracode;
+    }
 
 -- the words of a content from the location on, where they may stand
 abbrev pub asked_here : ℕ → Layout → Content → Layout
 asked_here line s content =
-    option_map_or (λ p. asked s (record { line = line; bank = p.0; offset = p.1; content = content; extracode = s.extracode; eb = s.eb })) (word_place s.location) s
+    option_map_or (λ p. asked s (record { line = line; bank = p.0; offset = p.1; content = content; extracode = s.extracode; eb = s.eb }))
+    (word_place s.location) s
 
 -- a line that gives words
 abbrev pub gives : ℕ → Layout → Label → Content → LineEffect
@@ -340,7 +371,8 @@ line_effect line s text = statement_effect line s (statement_on s text).label (s
 -- the faults of a line's bytes, its length and its number
 abbrev pub text_faults : Language → ℕ → List ℕ → List FaultKind
 text_faults language line text =
-    standing (fault_if (not (list_all is_text_byte text)) NotAscii ∷ fault_if (nat_lt line_length (length (measured language text))) LongLine
+    standing (fault_if (not (list_all is_text_byte text)) NotAscii
+    ∷ fault_if (nat_lt line_length (length (measured language text))) LongLine
     ∷ fault_if (line == most_lines language + 1) TooManyLines ∷ [])
 
 -- the layout faults of a line

@@ -1,5 +1,6 @@
 -- The listing of a program: a row for each line of its source, and its symbols.
-use Rattle.std.specs.Prelude.{ℕ, ◌+◌, ◌-◌, ◌/◌, ◌==◌, nat_lt, List, [], ◌∷◌, ◌++◌, length, flat_map, replicate, drop, slice_get, codes, decimal, Option, None, Some, if◌then◌else◌}
+use Rattle.std.specs.Prelude.{ℕ, ◌+◌, ◌-◌, ◌/◌, ◌==◌, nat_lt, List, [], ◌∷◌, ◌++◌, length, flat_map, replicate, drop, slice_get, codes}
+use Rattle.std.specs.Prelude.{decimal, Option, None, Some, if◌then◌else◌}
 use Rattle.std.specs.Option.{option_map_or}
 use Rattle.agc_text.specs.Lines.{lines}
 use Rattle.rope.specs.Places.{Words, word_at}
@@ -118,4 +119,5 @@ symbols_head symbols = codes "SYMBOLS " ++ decimal (length symbols) ++ codes "\n
 
 -- the listing of a program: its lines, and its symbols in order of definition
 unfoldable pub listing : Program → List ℕ
-listing p = rows (line_rows no_margin) 1 (start p.source.language) p.rope (lines p.source.text) ++ (symbols_head p.symbols ++ flat_map symbol_row p.symbols)
+listing p = rows (line_rows no_margin) 1 (start p.source.language) p.rope (lines p.source.text)
+    ++ (symbols_head p.symbols ++ flat_map symbol_row p.symbols)

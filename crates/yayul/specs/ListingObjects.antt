@@ -22,7 +22,8 @@ place_members place = codes ",\"place\":" ++ (place_or_null place ++ codes ",\"w
 -- those of a place of fixed memory and of the word that stands there
 unfoldable pub word_members : Words → ℕ → ℕ → List ℕ
 word_members words bank offset =
-    codes ",\"place\":\"" ++ (place_text (linear.Fixed bank offset) ++ (codes "\",\"word\":\"" ++ (octal_text 5 (word_at words bank offset) ++ codes "\"")))
+    codes ",\"place\":\"" ++ (place_text (linear.Fixed bank offset)
+    ++ (codes "\",\"word\":\"" ++ (octal_text 5 (word_at words bank offset) ++ codes "\"")))
 
 -- those of what a line shows: of its first word, else of a place, if any
 abbrev pub shown_members : Words → Shown → List ℕ

@@ -5,7 +5,9 @@ use Rattle.agc_text.specs.Tables.{value_in}
 use Rattle.yayul.specs.Operators.{operators}
 use Rattle.yayul.specs.Forms.{moved_by, next_location}
 use Rattle.yayul.specs.Flight.{flight_operator, uncounted}
-use Rattle.yayul.specs.Language.{Addressed, BankWord, Complemented, Constant, Constants, Content, FarAddress, FarComplement, Flight, FlightOperator, Gives, Language, Octals, One, Operand, Operation, Operator, Plain, Plus, Precision, Standard, Term, Two, VerbNoun}
+use Rattle.yayul.specs.Language.{Addressed, BankWord, Complemented, Constant, Constants, Content, FarAddress, FarComplement, Flight}
+use Rattle.yayul.specs.Language.{FlightOperator, Gives, Language, Octals, One, Operand, Operation, Operator, Plain, Plus, Precision}
+use Rattle.yayul.specs.Language.{Standard, Term, Two, VerbNoun}
 
 -- ## Fields
 -- the fields of a line, without a count that a language passes over

@@ -1,5 +1,6 @@
 -- The erasable places that the words of a program name: those of the operands whose addresses stand in their fields.
-use Rattle.std.specs.Prelude.{ℕ, ◌+◌, ◌*◌, Bool, true, false, List, [], ◌∷◌, replicate, get_or, set, slice_get, Option, None, Some, Result, Ok, Err, if◌then◌else◌}
+use Rattle.std.specs.Prelude.{ℕ, ◌+◌, ◌*◌, Bool, true, false, List, [], ◌∷◌, replicate, get_or, set, slice_get, Option, None, Some, Result}
+use Rattle.std.specs.Prelude.{Ok, Err, if◌then◌else◌}
 use Rattle.std.specs.Option.{option_map_or}
 use Rattle.agc_text.specs.Lines.{lines}
 use Rattle.rope.specs.Places.{bank_words, place_number}
@@ -7,7 +8,8 @@ use Rattle.yayul.specs.Flight.{statement_in}
 use Rattle.yayul.specs.Layout.{Layout, start, line_effect, statement_on, value_of}
 use Rattle.yayul.specs.Listing.{Shown, shown}
 use Rattle.yayul.specs.Program.{Program}
-use Rattle.yayul.specs.Language.{Address, Addressed, Channel, Content, Erasable, ErasablePlace, FaultKind, Fixed, FixedAddress, FixedPlace, Gives, Language, Location, Num, Operand, Operation, Pair, Takes, Undefined, Value}
+use Rattle.yayul.specs.Language.{Address, Addressed, Channel, Content, Erasable, ErasablePlace, FaultKind, Fixed, FixedAddress, FixedPlace}
+use Rattle.yayul.specs.Language.{Gives, Language, Location, Num, Operand, Operation, Pair, Takes, Undefined, Value}
 
 -- for each place of fixed memory by its number the erasable place that its word names, if any
 abbrev pub Named : Type 0
@@ -71,7 +73,8 @@ given_in language text = (statement_in language (Location.Fixed 2 0) text).opera
 abbrev pub lines_named : Language → List (List ℕ × Value) → Named → ℕ → Layout → List (List ℕ) → Named
 lines_named language table named line s [] = named
 lines_named language table named line s (text ∷ texts) =
-    lines_named language table (line_named table named (shown s.location (statement_on s text)) (given_in language text)) (line + 1) (line_effect line s text).after texts
+    lines_named language table (line_named table named (shown s.location (statement_on s text)) (given_in language text)) (line + 1)
+    (line_effect line s text).after texts
 
 -- the erasable places that the words of a program name, its symbols those of the whole source
 unfoldable pub named_places : Program → Named

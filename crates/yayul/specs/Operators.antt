@@ -1,7 +1,8 @@
 -- The operators of the source language: a row for each.
 use Rattle.std.specs.Prelude.{ℕ, ◌==◌, ◌||◌, Bool, true, false, nat_lt, List, [], ◌∷◌, codes, if◌then◌else◌}
 use Rattle.rope.specs.Places.{banks}
-use Rattle.yayul.specs.Language.{Address, AddressedCode, All, BankRange, Bits, Channel, Either, ErasablePlace, Extracode, FixedAddress, FixedPlace, Nine, No, Operator, Pair, Takes, Ten, Twelve, TwoOrThree, Yes}
+use Rattle.yayul.specs.Language.{Address, AddressedCode, All, BankRange, Bits, Channel, Either, ErasablePlace, Extracode, FixedAddress}
+use Rattle.yayul.specs.Language.{FixedPlace, Nine, No, Operator, Pair, Takes, Ten, Twelve, TwoOrThree, Yes}
 
 -- an instruction without an operand: its code, and whether it is an extracode
 abbrev pub plain : ℕ → Extracode → Operator

@@ -24,7 +24,8 @@ pub record ListedLine : Type 0 where
 abbrev pub listed_lines : ℕ → Layout → List (List ℕ) → List ListedLine
 listed_lines line s [] = []
 listed_lines line s (text ∷ texts) =
-    record { number = line; text = text; shown = shown s.location (statement_on s text) } ∷ listed_lines (line + 1) (line_effect line s text).after texts
+    record { number = line; text = text; shown = shown s.location (statement_on s text) }
+    ∷ listed_lines (line + 1) (line_effect line s text).after texts
 
 -- a word stands at a place
 abbrev pub stands_at : Linear → ℕ × ℕ → Bool
@@ -49,7 +50,8 @@ abbrev pub place_row : Words → ℕ → Linear → ListedLine → List ℕ
 place_row words word (linear.Erasable p) l =
     front_with l.number (place_text (linear.Erasable p) ++ codes " " ++ octal_text 5 word) l.text ++ l.text ++ codes "\n"
 place_row words word (linear.Fixed bank offset) l =
-    if option_map_or (stands_at (linear.Fixed bank offset)) (slice_get l.shown.words 0) false then row_front l.number words l.shown l.text ++ l.text ++ codes "\n"
+    if option_map_or (stands_at (linear.Fixed bank offset)) (slice_get l.shown.words 0) false then row_front l.number words l.shown l.text
+    ++ l.text ++ codes "\n"
     else further_row l.number words (bank, offset)
 
 -- the row of a place after some bytes, where a line of a source shows the place

@@ -1,5 +1,6 @@
 -- The program of a source, or its least fault.
-use Rattle.std.specs.Prelude.{◌≡◌, ℕ, ◌+◌, ◌==◌, ◌&&◌, ◌||◌, ◌⊎◌, Bool, nat_lt, List, [], ◌∷◌, flat_map, fold, Option, None, Some, Result, Ok, Err, if◌then◌else◌}
+use Rattle.std.specs.Prelude.{◌≡◌, ℕ, ◌+◌, ◌==◌, ◌&&◌, ◌||◌, ◌⊎◌, Bool, nat_lt, List, [], ◌∷◌, flat_map, fold, Option, None, Some, Result}
+use Rattle.std.specs.Prelude.{Ok, Err, if◌then◌else◌}
 use Rattle.std.specs.Result.{result_unwrap_or}
 use Rattle.agc_text.specs.Lines.{lines}
 use Rattle.rope.specs.Places.{Words, Placed, no_words, with_words}
@@ -49,7 +50,8 @@ image_of s = flat_map (placed s.symbols) s.requests
 -- what the layout of a source comes to: its least word fault, else its program
 abbrev pub completed : Layout → Source → Result Program Fault
 completed s source =
-    unless_fault (least (word_faults s.symbols s.requests)) (Ok (record { rope = with_words no_words (image_of s); symbols = s.symbols; source = source }))
+    unless_fault (least (word_faults s.symbols s.requests))
+    (Ok (record { rope = with_words no_words (image_of s); symbols = s.symbols; source = source }))
 
 -- what the layout of a source comes to, with the values of the names that wait, where each has one
 abbrev pub finished : Layout → Source → Result Program Fault

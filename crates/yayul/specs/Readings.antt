@@ -10,7 +10,8 @@ use Rattle.yayul.specs.Survey.{field_at}
 use Rattle.yayul.specs.declared.reading.Reading.{Reading}
 use Rattle.yayul.specs.declared.role.Role.{Role}
 
--- the fields of a line: its label, its operator, its operand and its offset, where they stand, and whether more follow; and what its operator is
+-- the fields of a line: its label, its operator, its operand and its offset, where they stand, and whether more follow; and what its
+-- operator is
 pub record Parts : Type 0 where
   pub label : Option Piece
   pub operator : Option Piece

@@ -1,5 +1,6 @@
 -- Decimal constants of flight programs: with a point and powers of ten and of two, in one word or two.
-use Rattle.std.specs.Prelude.{ℕ, ◌+◌, ◌*◌, ◌/◌, ◌%◌, ◌^◌, ◌==◌, ◌||◌, Bool, true, false, nat_le, nat_lt, List, [], ◌∷◌, length, drop, Option, None, Some, is_some, option_map, option_and_then, if◌then◌else◌}
+use Rattle.std.specs.Prelude.{ℕ, ◌+◌, ◌*◌, ◌/◌, ◌%◌, ◌^◌, ◌==◌, ◌||◌, Bool, true, false, nat_le, nat_lt, List, [], ◌∷◌, length, drop}
+use Rattle.std.specs.Prelude.{Option, None, Some, is_some, option_map, option_and_then, if◌then◌else◌}
 use Rattle.std.specs.Option.{option_or}
 use Rattle.words.specs.Numbers.{neg}
 use Rattle.agc_text.specs.Digits.{number_of}
@@ -42,14 +43,17 @@ scaled_by ten two = record { ten = ten; two = two }
 abbrev pub scales_of : List (List ℕ) → Option Scales
 scales_of [] = Some (scaled_by (raised 0) None)
 scales_of (text ∷ []) =
-    option_or (option_map (λ ten. scaled_by ten None) (power_of_ten_in text)) (option_map (λ two. scaled_by (raised 0) (Some two)) (power_of_two_in text))
-scales_of (first ∷ second ∷ []) = option_and_then (λ ten. option_map (λ two. scaled_by ten (Some two)) (power_of_two_in second)) (power_of_ten_in first)
+    option_or (option_map (λ ten. scaled_by ten None) (power_of_ten_in text))
+    (option_map (λ two. scaled_by (raised 0) (Some two)) (power_of_two_in text))
+scales_of (first ∷ second ∷ []) = option_and_then (λ ten. option_map (λ two. scaled_by ten (Some two)) (power_of_two_in second))
+    (power_of_ten_in first)
 scales_of _ = None
 
 -- ## Quantities
 -- some digits in all, the last of which are decimals: below 10 ^ 11
 abbrev pub quantity_of : ℕ → ℕ → Bool → Option Quantity
-quantity_of digits decimals pointed = if nat_lt digits (10 ^ 11) then Some (record { digits = digits; decimals = decimals; pointed = pointed }) else None
+quantity_of digits decimals pointed = if nat_lt digits (10 ^ 11) then Some
+    (record { digits = digits; decimals = decimals; pointed = pointed }) else None
 
 -- up to ten digits, or none
 abbrev pub whole_digits : List ℕ → Option ℕ
@@ -58,7 +62,8 @@ whole_digits text = if length text == 0 then Some 0 else number_of 10 10 text
 -- digits, a point between them where they have decimals
 abbrev pub pointed_in : List ℕ → List ℕ → Option Quantity
 pointed_in whole decimals =
-    option_and_then (λ w. option_and_then (λ d. quantity_of (w * 10 ^ length decimals + d) (length decimals) true) (number_of 10 10 decimals)) (whole_digits whole)
+    option_and_then (λ w. option_and_then (λ d. quantity_of (w * 10 ^ length decimals + d) (length decimals) true)
+    (number_of 10 10 decimals)) (whole_digits whole)
 
 -- digits; or digits or none, a point and 1 to 10 digits
 abbrev pub quantity_in : List ℕ → Option Quantity
@@ -90,7 +95,8 @@ one_word minus m = Constant (if nat_le m greatest_magnitude then Some (signed_wo
 
 -- two words of a magnitude of 28 bits, each with the sign
 abbrev pub two_words : Bool → ℕ → Content
-two_words minus m = Constants (if nat_lt m (2 ^ 28) then Some (record { first = signed_word minus (m / 2 ^ 14); second = signed_word minus (m % 2 ^ 14) }) else None)
+two_words minus m = Constants (if nat_lt m (2 ^ 28) then Some
+    (record { first = signed_word minus (m / 2 ^ 14); second = signed_word minus (m % 2 ^ 14) }) else None)
 
 -- the words of a quantity in as many bits as they have
 abbrev pub words_of : Precision → Bool → Quantity → Scales → Content

@@ -1,5 +1,6 @@
 -- All faults of a source: what each line is refused for, where on the line, and what is left out since it follows from an earlier fault.
-use Rattle.std.specs.Prelude.{ℕ, ◌+◌, ◌-◌, ◌==◌, ◌&&◌, ◌||◌, not, nat_le, nat_lt, Bool, true, false, List, [], ◌∷◌, ◌++◌, length, map, filter, take, Option, None, Some, is_some, slice_get, if◌then◌else◌}
+use Rattle.std.specs.Prelude.{ℕ, ◌+◌, ◌-◌, ◌==◌, ◌&&◌, ◌||◌, not, nat_le, nat_lt, Bool, true, false, List, [], ◌∷◌, ◌++◌, length, map}
+use Rattle.std.specs.Prelude.{filter, take, Option, None, Some, is_some, slice_get, if◌then◌else◌}
 use Rattle.std.specs.List.{find, list_any, list_all, position_or_len}
 use Rattle.std.specs.Option.{option_map, option_map_or, option_or, unwrap_or}
 use Rattle.agc_text.specs.Bytes.{line_length, is_text_byte}
@@ -7,12 +8,17 @@ use Rattle.agc_text.specs.Fields.{Piece, fields, label_of, others_of}
 use Rattle.agc_text.specs.Lines.{lines}
 use Rattle.agc_text.specs.Tables.{value_in}
 use Rattle.yayul.specs.Flight.{most_lines, measured, uncounted}
-use Rattle.yayul.specs.Layout.{Request, Layout, start, width, stands_at, word_place, after_words, fault_if, standing, text_faults, fault_number, statement_on, statement_effect, extends}
+use Rattle.yayul.specs.Layout.{Request, Layout, start, width, stands_at, word_place, after_words, fault_if, standing, text_faults}
+use Rattle.yayul.specs.Layout.{fault_number, statement_on, statement_effect, extends}
 use Rattle.yayul.specs.Later.{waiting_kind, with_values}
 use Rattle.yayul.specs.Mended.{lacks_form, lacks_operand, mended}
 use Rattle.yayul.specs.Words.{content_words, extracode_of, extracode_fault}
 use Rattle.std.specs.Result.{result_err}
-use Rattle.yayul.specs.Language.{Addressed, BadBank, BadLabel, BadOperand, Bank, BankFull, BankWord, CodeInErasable, Complemented, Content, Ebank, Equals, Erase, FarAddress, FarComplement, FaultKind, Fixed, Flight, Gives, Label, Language, Location, LongLine, Malformed, Missing, Named, NeedsExtend, NotAscii, NoMemory, NotExtracode, Num, Operand, Operation, OutOfRange, PlaceTaken, Setloc, Standard, Term, TooManyLines, TwiceDefined, Undefined, Unknown, UnknownOperator, UsedTooEarly, Value, WrongKindOfAddress}
+use Rattle.yayul.specs.Language.{Addressed, BadBank, BadLabel, BadOperand, Bank, BankFull, BankWord, CodeInErasable, Complemented, Content}
+use Rattle.yayul.specs.Language.{Ebank, Equals, Erase, FarAddress, FarComplement, FaultKind, Fixed, Flight, Gives, Label, Language}
+use Rattle.yayul.specs.Language.{Location, LongLine, Malformed, Missing, Named, NeedsExtend, NotAscii, NoMemory, NotExtracode, Num, Operand}
+use Rattle.yayul.specs.Language.{Operation, OutOfRange, PlaceTaken, Setloc, Standard, Term, TooManyLines, TwiceDefined, Undefined, Unknown}
+use Rattle.yayul.specs.Language.{UnknownOperator, UsedTooEarly, Value, WrongKindOfAddress}
 use Rattle.yayul.specs.declared.finding.Span.{Span}
 use Rattle.yayul.specs.declared.finding.Finding.{Finding}
 use Rattle.yayul.specs.declared.doubt.Known.{Known}
@@ -45,8 +51,8 @@ operand_span text operator operand offset = first_of text operand operator
 abbrev pub field_at : List ℕ → ℕ → Option Piece
 field_at text n = slice_get (others_of (fields text)) n
 
--- the bytes of a line that are to blame for a fault: the label for its own, the operand, with its offset where this may be to blame, for those of an operand, the operator for all others; and
--- for a field that is missing the one that asks for it
+-- the bytes of a line that are to blame for a fault: the label for its own, the operand, with its offset where this may be to blame, for
+-- those of an operand, the operator for all others; and for a field that is missing the one that asks for it
 unfoldable pub span_at : List ℕ → FaultKind → Span
 span_at text NotAscii = record { start = wrong_place text; width = 1 }
 span_at text LongLine = record { start = line_length; width = length text - line_length }
@@ -76,7 +82,8 @@ some_stands [] = false
 some_stands (kind ∷ kinds) = true
 
 -- ## What stands before a line
--- what stands before a line: the layout, in which a line with a fault does what is sure of it; the names that lines with a fault have as labels, with values of no account; and what is known
+-- what stands before a line: the layout, in which a line with a fault does what is sure of it; the names that lines with a fault have as
+-- labels, with values of no account; and what is known
 pub record Survey : Type 0 where
   pub layout : Layout
   pub lost : List (List ℕ × Value)
@@ -84,7 +91,12 @@ pub record Survey : Type 0 where
 
 -- before the first line all is known
 abbrev pub unmarked : Language → Survey
-unmarked language = record { layout = start language; lost = []; known = record { location = true; banks = true; extracode = true; wrong = None } }
+unmarked language = record {
+  layout = start language;
+  lost = [];
+  known = record
+      { location = true; banks = true; extracode = true; wrong = None };
+}
 
 -- a name stands in a table
 abbrev pub stands_in : List (List ℕ × Value) → List ℕ → Bool
@@ -219,7 +231,8 @@ kept_label kept label = if kept then label else Missing
 -- what a line says is done, where it has no fault
 abbrev pub laid : ℕ → Survey → Label → Operation → Survey
 laid line s label operation = record s {
-  layout = if some_stands (statement_effect line s.layout label operation).faults then s.layout else (statement_effect line s.layout label operation).after;
+  layout = if some_stands (statement_effect line s.layout label operation).faults then s.layout else
+      (statement_effect line s.layout label operation).after;
 }
 
 -- extracode after words that stand nowhere
@@ -233,7 +246,8 @@ passed_over s operation = record s { layout = record s.layout { extracode = extr
 -- after a line that is done, or is not, with its label kept or not
 abbrev pub done_line : ℕ → Survey → Label → Operation → Bool → Bool → Survey
 done_line line s label operation done kept =
-    if done then laid line (label_passed kept s label operation) (kept_label kept label) operation else passed_over (label_passed kept s label operation) operation
+    if done then laid line (label_passed kept s label operation) (kept_label kept label) operation else passed_over
+    (label_passed kept s label operation) operation
 
 -- with what is known; the location, where it is not, is of no account
 abbrev pub with_known : Survey → Known → Survey
@@ -249,7 +263,8 @@ layout_kinds line s label operation = (statement_effect line s label operation).
 
 -- what stands after a line that says this, and has these layout faults
 abbrev pub said_passed : ℕ → Survey → List ℕ → Label → Operation → Bool → List FaultKind → Survey
-said_passed line s text label operation done kinds = with_known (done_line line s label operation done (is_kept done kinds)) (known_after s.known text operation done)
+said_passed line s text label operation done kinds = with_known (done_line line s label operation done (is_kept done kinds))
+    (known_after s.known text operation done)
 
 -- what stands after a line
 unfoldable pub passed_line : ℕ → Survey → List ℕ → Survey
@@ -276,7 +291,8 @@ place_of_words here = unwrap_or (word_place here) (2, 0)
 -- the word faults of a line: of the words that it gives where a layout stands, by the symbols of the whole source
 abbrev pub content_kinds : List (List ℕ × Value) → Layout → Content → List FaultKind
 content_kinds table s content =
-    standing (result_err (content_words table (Fixed (place_of_words s.location).0 (place_of_words s.location).1) s.extracode s.eb content) ∷ extracode_fault (extracode_of content) s.extracode ∷ [])
+    standing (result_err (content_words table (Fixed (place_of_words s.location).0 (place_of_words s.location).1) s.extracode s.eb content)
+    ∷ extracode_fault (extracode_of content) s.extracode ∷ [])
 
 -- the same of words whose operand has no form
 abbrev pub formless_kinds : Layout → Content → List FaultKind
@@ -329,8 +345,9 @@ doubt whole s text operation = record {
   extracode = not s.known.extracode;
 }
 
--- a fault of a line that holds text alone follows from another: of where words stand, and of an operand that counts from its line, once that is not known; of a symbol whose own line has a
--- fault or comes to no value, for E18 an earlier one with a fault; of extracode, once that is not known
+-- a fault of a line that holds text alone follows from another: of where words stand, and of an operand that counts from its line, once
+-- that is not known; of a symbol whose own line has a fault or comes to no value, for E18 an earlier one with a fault; of extracode, once
+-- that is not known
 abbrev pub follows_other : Doubt → FaultKind → Bool
 follows_other d BankFull = d.location
 follows_other d PlaceTaken = d.location
@@ -348,10 +365,12 @@ abbrev pub follows : Doubt → FaultKind → Bool
 follows d NotAscii = d.repeated
 follows d kind = d.bytes || follows_other d kind
 
--- the kinds of faults in the order in which those of a line are told: at the label, the operator and the operand, and beyond them; want of memory stands on no line
+-- the kinds of faults in the order in which those of a line are told: at the label, the operator and the operand, and beyond them; want of
+-- memory stands on no line
 abbrev pub kinds_in_order : List FaultKind
 kinds_in_order =
-    BadLabel ∷ TwiceDefined ∷ NotAscii ∷ TooManyLines ∷ UnknownOperator ∷ BankFull ∷ PlaceTaken ∷ CodeInErasable ∷ NeedsExtend ∷ NotExtracode
+    BadLabel ∷ TwiceDefined ∷ NotAscii ∷ TooManyLines ∷ UnknownOperator ∷ BankFull ∷ PlaceTaken ∷ CodeInErasable ∷ NeedsExtend
+    ∷ NotExtracode
     ∷ BadOperand ∷ Undefined ∷ UsedTooEarly ∷ BadBank ∷ WrongKindOfAddress ∷ OutOfRange ∷ LongLine ∷ NoMemory ∷ []
 
 -- a fault stands past the longest line
@@ -360,7 +379,8 @@ is_beyond language text kind = nat_lt line_length (span_in language text kind).s
 
 -- the kinds in the order of their columns on a line: those that stand past its longest are told last
 abbrev pub kinds_on : Language → List ℕ → List FaultKind
-kinds_on language text = filter (λ kind. not (is_beyond language text kind)) kinds_in_order ++ filter (is_beyond language text) kinds_in_order
+kinds_on language text = filter (λ kind. not (is_beyond language text kind)) kinds_in_order
+    ++ filter (is_beyond language text) kinds_in_order
 
 -- a kind is one of some
 abbrev pub is_one_of : List FaultKind → FaultKind → Bool
@@ -373,23 +393,27 @@ named_line taken _ = None
 
 -- a fault with its place, on a line whose place another may have taken
 abbrev pub finding : Language → ℕ → List ℕ → Option ℕ → FaultKind → Finding
-finding language line text taken kind = record { line = line; kind = kind; span = span_in language text kind; taken_by = named_line taken kind }
+finding language line text taken kind = record
+    { line = line; kind = kind; span = span_in language text kind; taken_by = named_line taken kind }
 
 -- those of some faults that do not follow from others, each once
 abbrev pub told_of : Language → Doubt → ℕ → List ℕ → Option ℕ → List FaultKind → List Finding
-told_of language d line text taken kinds = map (finding language line text taken) (filter (λ kind. is_one_of kinds kind && not (follows d kind)) (kinds_on language text))
+told_of language d line text taken kinds = map (finding language line text taken)
+    (filter (λ kind. is_one_of kinds kind && not (follows d kind)) (kinds_on language text))
 
 -- a fault of an operand's form
 abbrev pub form_kinds : Bool → List FaultKind
 form_kinds formless = standing (fault_if formless BadOperand ∷ [])
 
--- what is wrong with a name that a line lets wait, unless that follows from another fault: its symbol is lost, or waits in vain on an earlier line
+-- what is wrong with a name that a line lets wait, unless that follows from another fault: its symbol is lost, or waits in vain on an
+-- earlier line
 abbrev pub vain_kind : Survey → Survey → Label → Operation → Option FaultKind
 vain_kind whole s label operation =
     if names_one whole.lost operation || waits_in_vain s.layout.promised whole.layout.symbols operation then None
     else waiting_kind whole.layout.symbols s.layout label operation
 
--- the faults of a line where a survey stands, which says this: of its bytes, its length and its number, of its fields, of a name that waits, and of its words
+-- the faults of a line where a survey stands, which says this: of its bytes, its length and its number, of its fields, of a name that
+-- waits, and of its words
 abbrev pub said_kinds : Survey → ℕ → Survey → List ℕ → Label → Bool → Operation → List FaultKind
 said_kinds whole line s text label formless operation =
     text_faults s.layout.language line text ++ form_kinds formless ++ layout_kinds line s.layout label operation
@@ -397,7 +421,8 @@ said_kinds whole line s text label formless operation =
 
 abbrev pub line_kinds : Survey → ℕ → Survey → List ℕ → List FaultKind
 line_kinds whole line s text =
-    said_kinds whole line s text (statement_on s.layout text).label (lacks_form (statement_on s.layout text).operation) (operation_on s.layout text)
+    said_kinds whole line s text (statement_on s.layout text).label (lacks_form (statement_on s.layout text).operation)
+    (operation_on s.layout text)
 
 -- what is told of a line, where this stands before it, and this after the last line
 abbrev pub told_line : Survey → ℕ → Survey → List ℕ → List Finding
@@ -416,4 +441,5 @@ looked_at language source = take (most_lines language + 1) (lines source)
 
 -- what is told of a source
 unfoldable pub told : Language → List ℕ → List Finding
-told language source = told_lines (settled_survey (passed_lines 1 (unmarked language) (looked_at language source))) 1 (unmarked language) (looked_at language source)
+told language source = told_lines (settled_survey (passed_lines 1 (unmarked language) (looked_at language source))) 1 (unmarked language)
+    (looked_at language source)

@@ -1,12 +1,16 @@
 -- The words that lines ask for, once all symbols are known, and the faults of the kind word.
-use Rattle.std.specs.Prelude.{ℕ, ◌+◌, ◌*◌, ◌%◌, not, Bool, nat_lt, nat_le, List, [], ◌∷◌, map, flat_map, Option, None, Result, Ok, Err, ok_or, if◌then◌else◌}
+use Rattle.std.specs.Prelude.{ℕ, ◌+◌, ◌*◌, ◌%◌, not, Bool, nat_lt, nat_le, List, [], ◌∷◌, map, flat_map, Option, None, Result, Ok, Err}
+use Rattle.std.specs.Prelude.{ok_or, if◌then◌else◌}
 use Rattle.std.specs.Result.{result_err}
 use Rattle.words.specs.Numbers.{neg}
 use Rattle.space.specs.Places.{window, fb_of, sup_of}
 use Rattle.space.specs.declared.place.Linear.TheVariants as linear
 use Rattle.yayul.specs.Operators.{field_size, bits_under}
 use Rattle.yayul.specs.Layout.{Request, fault_if, standing, on_line, and_then, value_of, location_at, erasable_place}
-use Rattle.yayul.specs.Language.{Address, Addressed, AddressedCode, BankWord, Channel, Complemented, Constant, Constants, Content, Either, Erasable, ErasablePlace, Extracode, FarAddress, FarComplement, Fault, FaultKind, Fixed, FixedAddress, FixedPlace, Location, NeedsExtend, No, NotExtracode, Num, OutOfRange, Pair, Plain, Takes, Undefined, Value, WrongKindOfAddress, Yes}
+use Rattle.yayul.specs.Language.{Address, Addressed, AddressedCode, BankWord, Channel, Complemented, Constant, Constants, Content, Either}
+use Rattle.yayul.specs.Language.{Erasable, ErasablePlace, Extracode, FarAddress, FarComplement, Fault, FaultKind, Fixed, FixedAddress}
+use Rattle.yayul.specs.Language.{FixedPlace, Location, NeedsExtend, No, NotExtracode, Num, OutOfRange, Pair, Plain, Takes, Undefined, Value}
+use Rattle.yayul.specs.Language.{WrongKindOfAddress, Yes}
 
 -- the address of a value: a number below 010000 is its own, and a place has its window
 abbrev pub address_of : Value → Result ℕ FaultKind
@@ -74,11 +78,14 @@ content_words table here extracode eb (Addressed i operand) = and_then (addresse
 content_words table here extracode eb (FarAddress operand) =
     and_then (λ place. Ok (far_address eb place.0 place.1)) (and_then fixed_place (value_of Undefined table here operand))
 content_words table here extracode eb (Constants pair) = and_then (λ words. Ok (words.first ∷ words.second ∷ [])) (ok_or pair OutOfRange)
-content_words table here extracode eb (Complemented i operand) = and_then (λ words. Ok (map neg words)) (and_then (addressed_word i extracode) (value_of Undefined table here operand))
+content_words table here extracode eb (Complemented i operand) = and_then (λ words. Ok (map neg words))
+    (and_then (addressed_word i extracode) (value_of Undefined table here operand))
 content_words table here extracode eb (FarComplement operand) =
-    and_then (λ place. Ok (map neg (far_address eb place.0 place.1))) (and_then low_place (and_then fixed_place (value_of Undefined table here operand)))
+    and_then (λ place. Ok (map neg (far_address eb place.0 place.1)))
+    (and_then low_place (and_then fixed_place (value_of Undefined table here operand)))
 content_words table here extracode eb (BankWord operand) =
-    and_then (λ place. Ok (bank_word eb place.0 place.1 ∷ [])) (and_then low_place (and_then fixed_place (value_of Undefined table here operand)))
+    and_then (λ place. Ok (bank_word eb place.0 place.1 ∷ []))
+    (and_then low_place (and_then fixed_place (value_of Undefined table here operand)))
 
 -- the words of a request
 unfoldable pub request_words : List (List ℕ × Value) → Request → Result (List ℕ) FaultKind

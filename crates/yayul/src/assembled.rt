@@ -44,7 +44,12 @@ impl Model for Program {
 
     ghost coded = { program_code };
 
-    ghost view = { λ p. record { rope = p.rope; symbols = p.symbols; source = record { language = p.language; text = p.source.items } } };
+    ghost view = { λ p. record {
+      rope = p.rope;
+      symbols = p.symbols;
+      source = record
+          { language = p.language; text = p.source.items };
+    } };
 
     ghost invariant = { λ p. map shown_by_mark p.marks ≡ lines_show 1 (start p.language) (lines p.source.items) };
 }
@@ -58,7 +63,12 @@ impl Program {
         marks: Marks,
     ) -> Program
         requires { map shown_by_mark marks ≡ lines_show 1 (start language) (lines source.items) }
-        ensures { result ≡ record { rope = rope; symbols = symbols; source = record { language = language; text = source.items } } }
+        ensures { result ≡ record {
+          rope = rope;
+          symbols = symbols;
+          source = record
+              { language = language; text = source.items };
+        } }
     {
         Program {
             rope,
@@ -126,12 +136,13 @@ impl Program {
         )
     }
 
-    /// Writes the listing: a row for each line of the source, with its number, its place, its word and its text, and then the
-    /// symbols in order of definition. No memory is taken.
+    /// Writes the listing: a row for each line of the source, with its number, its place, its word and its text, and
+    /// then the symbols in order of definition. No memory is taken.
     ///
     /// After a failure a beginning of it was written.
     pub fn list<W: Write>(&self, writer: &mut W) -> Result<(), WriteFailed>
-        ensures written { W.told ≡ true → Writes (W.written writer.old) (W.written writer.new) (listing self.now) result }
+        ensures written { W.told ≡ true → Writes (W.written writer.old) (W.written writer.new) (listing self.now)
+            result }
         ensures failures { W.failures writer.new ≡ failures_after (W.failures writer.old) result }
     {
         write_rows(

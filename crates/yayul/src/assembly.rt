@@ -34,7 +34,8 @@ pub fn assemble(alloc: Global, language: Language, source: &[u8]) -> Result<Prog
     finish(alloc, placing, layout, language, source, marks)
 }
 
-/// Lays out the lines of a source, up to the first fault, places their words, and appends what each shows in the listing.
+/// Lays out the lines of a source, up to the first fault, places their words, and appends what each shows in the
+/// listing.
 fn lay_out(
     alloc: Global,
     language: Language,
@@ -44,7 +45,8 @@ fn lay_out(
 ) -> Result<Layout, Fault>
     requires { Keeps 1 (start language) placing.old }
     ensures lays_out { LaysOut language (lines source.now) placing.new result }
-    ensures marks { OnOk result (map shown_by_mark marks.new ≡ map shown_by_mark marks.old ++ lines_show 1 (start language) (lines source.now)) }
+    ensures marks { OnOk result (map shown_by_mark marks.new
+        ≡ map shown_by_mark marks.old ++ lines_show 1 (start language) (lines source.now)) }
 {
     let mut layout = Layout::start(alloc, language);
     let mut rest = source;
@@ -114,7 +116,8 @@ fn complete(
 ) -> Result<Program, Fault>
     ghost laid_out: { LaidOut }
     requires known { symbols ≡ laid_out.symbols }
-    requires held { (line : ℕ) × Holds line laid_out.symbols laid_out.requests (map request_of placing.waiting.items) placing.rope placing.fault }
+    requires held { (line : ℕ) × Holds line laid_out.symbols laid_out.requests (map request_of placing.waiting.items)
+        placing.rope placing.fault }
     requires shown { map shown_by_mark marks ≡ lines_show 1 (start language) (lines source.now) }
     ensures { GivesProgram (completed laid_out (record { language = language; text = source.now })) result }
 {

@@ -2,7 +2,8 @@
 
 ghost use Rattle.std.specs.Prelude.{◌≡◌, ◌∷◌, [], ℕ};
 ghost use Rattle.std.specs.Result.{result_err};
-ghost use Rattle.yayul.specs.Layout.{Layout as LaidOut, standing, statement_effect, bare_faults, label_alone, refused, relocated, bank_target, erase, equals, ebank, width};
+ghost use Rattle.yayul.specs.Layout.{Layout as LaidOut, standing, statement_effect, bare_faults, label_alone, refused};
+ghost use Rattle.yayul.specs.Layout.{relocated, bank_target, erase, equals, ebank, width};
 ghost use Rattle.yayul.specs.Survey.{word_kinds, content_kinds, place_of_words};
 ghost use Rattle.yayul.specs.declared.language.Operation.TheVariants as operation;
 ghost use Rattle.yayul.specs.Inside.Answers.{layout_of, tested_faults, Agrees};
@@ -26,7 +27,8 @@ impl Layout {
         label: &Label,
         operation: &Operation,
     ) -> Conditions
-        ensures { (line : ℕ) (s : LaidOut) → Agrees line s self.now placing.now → standing result ≡ (statement_effect line s label.now operation.now).faults }
+        ensures { (line : ℕ) (s : LaidOut) → Agrees line s self.now placing.now
+            → standing result ≡ (statement_effect line s label.now operation.now).faults }
     {
         match operation {
             Operation::Nothing => self.alone_conditions(label),
@@ -49,7 +51,8 @@ impl Layout {
         label: &Label,
         content: &Option<Content>,
     ) -> Conditions
-        ensures { (line : ℕ) (s : LaidOut) → Agrees line s self.now placing.now → standing result ≡ (statement_effect line s label.now (operation.Gives content.now)).faults }
+        ensures { (line : ℕ) (s : LaidOut) → Agrees line s self.now placing.now
+            → standing result ≡ (statement_effect line s label.now (operation.Gives content.now)).faults }
     {
         match content {
             Some(content) => self.give_conditions(placing, label, content),
@@ -124,7 +127,8 @@ impl Layout {
         ]
     }
 
-    /// The word faults of a line's fields, by the symbols of the whole source; of words whose operand has no form those of extracode alone.
+    /// The word faults of a line's fields, by the symbols of the whole source; of words whose operand has no form those
+    /// of extracode alone.
     pub(crate) fn word_conditions(
         &self,
         symbols: &Symbols,

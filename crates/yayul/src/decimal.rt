@@ -3,7 +3,8 @@
 ghost use Rattle.std.specs.Prelude.{◌≡◌, ◌==◌, ◌≤◌, ◌<◌, ◌^◌, ℕ, length};
 ghost use Rattle.std.specs.Option.{option_map};
 ghost use Rattle.agc_text.specs.Digits.{sized};
-ghost use Rattle.yayul.specs.Forms.{at_most, greatest_magnitude, scaled, before_point, whole_in, fraction_in, magnitude_in, complemented, decimal_in};
+ghost use Rattle.yayul.specs.Forms.{at_most, greatest_magnitude, scaled, before_point, whole_in, fraction_in};
+ghost use Rattle.yayul.specs.Forms.{magnitude_in, complemented, decimal_in};
 
 use crate::language::Numeral;
 use agc_text::{Number, decimal, decimal_value, length_before_byte};

@@ -2,7 +2,10 @@
 
 ghost use Rattle.std.specs.Prelude.{◌≡◌, Bool, if◌then◌else◌};
 ghost use Rattle.std.specs.Option.{option_map};
-ghost use Rattle.yayul.specs.Survey.{location_known, rests_on_known, may_give, is_bare, extracode_known, extracode_after, known_after, content_operand, operand_of, is_among, names_one, is_here, counts_from_here, waits_in_vain, erases, is_same_byte, follows_other, follows};
+ghost use Rattle.yayul.specs.Survey.{location_known, rests_on_known, may_give, is_bare, extracode_known};
+ghost use Rattle.yayul.specs.Survey.{extracode_after, known_after, content_operand, operand_of, is_among, names_one};
+ghost use Rattle.yayul.specs.Survey.{is_here, counts_from_here, waits_in_vain, erases, is_same_byte, follows_other};
+ghost use Rattle.yayul.specs.Survey.{follows};
 
 use crate::faults::FaultKind;
 use crate::finding::wrong_byte;

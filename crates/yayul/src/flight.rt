@@ -1,10 +1,16 @@
 //! What a line of a flight program says.
 
-ghost use Rattle.std.specs.Prelude.{◌≡◌, ◌≤◌, ◌≢◌, true, IfSome, option_and_then, drop, ◌+◌, length, Some, None, if◌then◌else◌};
+ghost use Rattle.std.specs.Prelude.{◌≡◌, ◌≤◌, ◌≢◌, true, IfSome, option_and_then, drop, ◌+◌, length, Some, None};
+ghost use Rattle.std.specs.Prelude.{if◌then◌else◌};
 ghost use Rattle.std.specs.Option.{option_map};
 ghost use Rattle.agc_text.specs.Tables.{value_in};
 ghost use Rattle.agc_text.specs.Views.{piece, IsSliceOf, end_of};
-ghost use Rattle.yayul.specs.Flight.{most_lines, measured, is_count, without_count, uncounted, is_signed_name, flight_label_in, named_operand, flight_operand_in, is_pseudo_address, pseudo_place, placed, with_place, address_in, flight_operators, flight_operator, operand_or_here, scales_after, signed_octal_in, both, octals_in, verb_noun_in, bank_at, bank_or_here, standard_operation_of, flight_operation_of, uncounted_statement};
+ghost use Rattle.yayul.specs.Flight.{most_lines, measured, is_count, without_count, uncounted, is_signed_name};
+ghost use Rattle.yayul.specs.Flight.{flight_label_in, named_operand, flight_operand_in, is_pseudo_address};
+ghost use Rattle.yayul.specs.Flight.{pseudo_place, placed, with_place, address_in, flight_operators, flight_operator};
+ghost use Rattle.yayul.specs.Flight.{operand_or_here, scales_after, signed_octal_in, both, octals_in, verb_noun_in};
+ghost use Rattle.yayul.specs.Flight.{bank_at, bank_or_here, standard_operation_of, flight_operation_of};
+ghost use Rattle.yayul.specs.Flight.{uncounted_statement};
 ghost use Rattle.yayul.specs.Forms.{alone};
 ghost use Rattle.yayul.specs.Scales.{decimal_content};
 ghost use Rattle.yayul.specs.Inside.Codes.{has_room, flight_has_room};
@@ -158,7 +164,8 @@ fn flight_operation_of(
 ) -> Operation
     requires fits { IfSome operator (λ operator. flight_has_room operator ≡ true) }
     requires slice { IfSome line.now.operand (IsSliceOf text.now) }
-    ensures { result ≡ flight_operation_of here (scales_after text.now (option_map piece line.now.operand)) operator (arguments_of line.now) }
+    ensures { result ≡ flight_operation_of here (scales_after text.now (option_map piece line.now.operand)) operator
+        (arguments_of line.now) }
 {
     match operator {
         None => Operation::Unknown,
@@ -360,7 +367,8 @@ fn verb_noun_alone(line: &Line<'_>) -> Numeral
 // The decimal constant of a line, with its scales.
 fn decimal_on(precision: Precision, text: &[u8], line: &Line<'_>) -> Option<Content>
     requires { IfSome line.now.operand (IsSliceOf text.now) }
-    ensures { result ≡ option_and_then (λ f. decimal_content precision f.text.now (scales_after text.now (Some (piece f)))) line.now.operand }
+    ensures { result ≡ option_and_then (λ f. decimal_content precision f.text.now
+        (scales_after text.now (Some (piece f)))) line.now.operand }
 {
     let operand = line.operand?;
     decimal_content(

@@ -23,7 +23,8 @@ pub fn has_flight_form(text: &[u8]) -> bool
 impl Statement {
     // Whether its label, its operator and its operand have a form, and no constant is too great.
     fn has_form(&self) -> bool
-        ensures { result ≡ (has_form self.now.operation && takes_label self.now.label self.now.operation && not (gives_too_great self.now.operation)) }
+        ensures { result ≡ (has_form self.now.operation && takes_label self.now.label self.now.operation
+            && not (gives_too_great self.now.operation)) }
     {
         self.operation.has_form()
             && self.label.is_taken_by(&self.operation)

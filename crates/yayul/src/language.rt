@@ -219,7 +219,8 @@ pub(crate) enum Content {
     BankWord(Operand),
 }
 
-/// What the fields besides the label say. An operand or a content that stands is of its form, and no further field stands.
+/// What the fields besides the label say. An operand or a content that stands is of its form, and no further field
+/// stands.
 #[derive(Drop)]
 pub(crate) enum Operation {
     /// No operator stands.

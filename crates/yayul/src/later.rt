@@ -2,7 +2,8 @@
 
 ghost use Rattle.std.specs.Prelude.{◌≡◌, ℕ, List, map, OnOk};
 ghost use Rattle.agc_text.specs.Tables.{value_in};
-ghost use Rattle.yayul.specs.Later.{awaited, kept, round, four_rounds, settled, promise_kind, promise_fault, first_fault, label_kind, waiting_kind};
+ghost use Rattle.yayul.specs.Later.{awaited, kept, round, four_rounds, settled, promise_kind, promise_fault};
+ghost use Rattle.yayul.specs.Later.{first_fault, label_kind, waiting_kind};
 ghost use Rattle.yayul.specs.Inside.Answers.{layout_of};
 ghost use Rattle.yayul.specs.Inside.Representation.{promise_of};
 

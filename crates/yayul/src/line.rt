@@ -1,13 +1,18 @@
 //! What each line does to the layout: the symbols of a source, and the words that its lines ask for.
 
-ghost use Rattle.std.specs.Prelude.{◌≡◌, ◌<◌, ◌≤◌, length, ◌∷◌, [], ◌++◌, ℕ, List, false, ◌&&◌, not, is_some, IfOk, IfErr, OnOk, Some};
+ghost use Rattle.std.specs.Prelude.{◌≡◌, ◌<◌, ◌≤◌, length, ◌∷◌, [], ◌++◌, ℕ, List, false, ◌&&◌, not, is_some, IfOk};
+ghost use Rattle.std.specs.Prelude.{IfErr, OnOk, Some};
 ghost use Rattle.agc_text.specs.Tables.{value_in};
 ghost use Rattle.symbols.specs.declared.values.Value.{Value as Symbol};
 ghost use Rattle.yayul.specs.declared.language.Label.TheVariants.{Named};
 ghost use Rattle.std.specs.Result.{result_err};
-ghost use Rattle.yayul.specs.Layout.{Layout as LaidOut, fault_if, standing, start, word_place, width, lacks_room, is_missing, is_twice, label_alone, refused, bare_faults, relocated, and_then, location_at, erasable_place, early_value, valued, is_later, promised, equals, ebank, erase, gives, statement_effect, statement_on, text_faults};
+ghost use Rattle.yayul.specs.Layout.{Layout as LaidOut, fault_if, standing, start, word_place, width, lacks_room};
+ghost use Rattle.yayul.specs.Layout.{is_missing, is_twice, label_alone, refused, bare_faults, relocated, and_then};
+ghost use Rattle.yayul.specs.Layout.{location_at, erasable_place, early_value, valued, is_later, promised, equals};
+ghost use Rattle.yayul.specs.Layout.{ebank, erase, gives, statement_effect, statement_on, text_faults};
 ghost use Rattle.yayul.specs.declared.faults.FaultKind.TheVariants.{BankFull};
-ghost use Rattle.yayul.specs.Inside.Answers.{layout_of, least_kind, labelled, words_faults, LeadsTo, Agrees, LeadsOn, LineLeadsOn, TakesWords, passed};
+ghost use Rattle.yayul.specs.Inside.Answers.{layout_of, least_kind, labelled, words_faults, LeadsTo, Agrees, LeadsOn};
+ghost use Rattle.yayul.specs.Inside.Answers.{LineLeadsOn, TakesWords, passed};
 ghost use Rattle.yayul.specs.Inside.Representation.{request_of, holds_word};
 ghost use Rattle.yayul.specs.Inside.Sound.{IsLocation};
 
@@ -51,7 +56,8 @@ impl Layout {
         line: u32,
         text: &[u8],
     ) -> Result<Mark, FaultKind>
-        ensures { (s : LaidOut) → Agrees line s self.old placing.old → LineLeadsOn line s text.now self.new placing.new result }
+        ensures { (s : LaidOut) → Agrees line s self.old placing.old
+            → LineLeadsOn line s text.now self.new placing.new result }
     {
         if let Some(kind) = text_fault(self.language, line, text) {
             return Err(kind);
@@ -81,7 +87,8 @@ impl Layout {
         label: Label,
         operation: Operation,
     ) -> Result<(), FaultKind>
-        ensures { (s : LaidOut) → Agrees line s self.old placing.old → LeadsOn line (statement_effect line s label operation) self.new placing.new result }
+        ensures { (s : LaidOut) → Agrees line s self.old placing.old
+            → LeadsOn line (statement_effect line s label operation) self.new placing.new result }
     {
         match operation {
             Operation::Nothing => self.label_alone(label),
@@ -133,7 +140,8 @@ impl Layout {
 
     // SETLOC: the location becomes that of the operand.
     fn setloc(&mut self, label: &Label, operand: Option<Operand>) -> Result<(), FaultKind>
-        ensures { LeadsTo (relocated (layout_of self.old) label.now (and_then location_at (early_value (layout_of self.old) operand))) (layout_of self.new) result }
+        ensures { LeadsTo (relocated (layout_of self.old) label.now
+            (and_then location_at (early_value (layout_of self.old) operand))) (layout_of self.new) result }
     {
         let target = self.target_of(&operand);
         self.relocate(label, target)
@@ -233,7 +241,12 @@ impl Layout {
 
     // Holds the promise of the name that was promised last.
     fn hold(&mut self, line: u32, operand: Operand) -> Result<(), FaultKind>
-        ensures held { OnOk result ((before : List (List ℕ × Symbol)) (name : List ℕ) (value : Symbol) → self.old.promised ≡ before ++ (name, value) ∷ [] → layout_of self.new ≡ (record (layout_of self.old) { promises = (layout_of self.old).promises ++ record { line = line; name = name; operand = operand } ∷ [] })) }
+        ensures held { OnOk result ((before : List (List ℕ × Symbol)) (name : List ℕ) (value : Symbol)
+            → self.old.promised ≡ before ++ (name, value) ∷ []
+            → layout_of self.new ≡ (record (layout_of self.old) {
+              promises = (layout_of self.old).promises ++ record { line = line; name = name; operand = operand }
+                  ∷ [];
+            })) }
         ensures err { IfErr result (λ kind. kind ≡ FaultKind.NoMemory) }
     {
         let promise = Promise {
@@ -249,7 +262,8 @@ impl Layout {
 
     // The name that was promised last.
     fn last_promised(&self) -> ArrayVec<u8, NAME_LENGTH>
-        ensures { (before : List (List ℕ × Symbol)) (name : List ℕ) (value : Symbol) → self.now.promised ≡ before ++ (name, value) ∷ [] → result.items ≡ name }
+        ensures { (before : List (List ℕ × Symbol)) (name : List ℕ) (value : Symbol)
+            → self.now.promised ≡ before ++ (name, value) ∷ [] → result.items ≡ name }
     {
         let last = self.promised.len().saturating_sub(1);
         match self.promised.entry(last) {
@@ -260,7 +274,8 @@ impl Layout {
 
     // The label has the value of the operand, its symbols those of earlier lines.
     fn equals_known(&mut self, label: Label, operand: Option<Operand>) -> Result<(), FaultKind>
-        ensures { LeadsTo (valued (layout_of self.old) label (early_value (layout_of self.old) operand)) (layout_of self.new) result }
+        ensures { LeadsTo (valued (layout_of self.old) label (early_value (layout_of self.old) operand))
+            (layout_of self.new) result }
     {
         if label.is_missing() {
             return Err(FaultKind::BadLabel);
@@ -312,7 +327,9 @@ impl Layout {
 
     // The least fault of ERASE, which comes to an end, besides those of its label.
     fn erase_fault(&self, label: &Label, end: &Result<Location, FaultKind>) -> Option<FaultKind>
-        ensures { result ≡ least_kind (standing (fault_if (not (is_missing label.now) && lacks_room 1 self.now.location) BankFull ∷ result_err end.now ∷ [])) }
+        ensures { result ≡ least_kind (standing
+            (fault_if (not (is_missing label.now) && lacks_room 1 self.now.location) BankFull ∷ result_err end.now
+            ∷ [])) }
     {
         least_fault(&[
             FaultKind::BankFull.when(self.lacks_place(label)),
@@ -328,7 +345,8 @@ impl Layout {
         label: Label,
         content: Content,
     ) -> Result<(), FaultKind>
-        ensures { (s : LaidOut) → Agrees line s self.old placing.old → LeadsOn line (gives line s label content) self.new placing.new result }
+        ensures { (s : LaidOut) → Agrees line s self.old placing.old
+            → LeadsOn line (gives line s label content) self.new placing.new result }
     {
         let fault = self.give_fault(placing, &content);
         match (fault, self.location.word_place()) {
@@ -351,7 +369,8 @@ impl Layout {
 
     // The least fault of a line that gives words, besides those of its label.
     fn give_fault(&self, placing: &Placing, content: &Content) -> Option<FaultKind>
-        ensures { result ≡ least_kind (standing (words_faults (layout_of self.now) placing.now.rope (width content.now))) }
+        ensures { result ≡ least_kind (standing
+            (words_faults (layout_of self.now) placing.now.rope (width content.now))) }
     {
         let width = content.width();
         least_fault(&[

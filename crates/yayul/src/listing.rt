@@ -1,12 +1,14 @@
 //! The listing of a program: a row for each line of its source, and its symbols. No memory is taken.
 
-ghost use Rattle.std.specs.Prelude.{◌≡◌, ◌+◌, ◌<◌, ◌≤◌, ◌==◌, ◌++◌, ℕ, List, [], Some, if◌then◌else◌, length, true, codes, decimal, map, drop, slice_get};
+ghost use Rattle.std.specs.Prelude.{◌≡◌, ◌+◌, ◌<◌, ◌≤◌, ◌==◌, ◌++◌, ℕ, List, [], Some, if◌then◌else◌, length, true};
+ghost use Rattle.std.specs.Prelude.{codes, decimal, map, drop, slice_get};
 ghost use Rattle.std.specs.List.{flat_map};
 ghost use Rattle.agc_text.specs.Lines.{lines};
 ghost use Rattle.arrayvec.specs.ArrayVec.{array_vec_len};
 ghost use Rattle.space.specs.declared.place.Linear.TheVariants as linear;
 ghost use Rattle.words.specs.Devices.{Writes, failures_after};
-ghost use Rattle.yayul.specs.Listing.{blanks, bank_text, place_text, number_column, word_columns, columns, row_front, further_row, line_rows, symbol_row, symbols_head};
+ghost use Rattle.yayul.specs.Listing.{blanks, bank_text, place_text, number_column, word_columns, columns, row_front};
+ghost use Rattle.yayul.specs.Listing.{further_row, line_rows, symbol_row, symbols_head};
 ghost use Rattle.yayul.specs.ListingObjects.{line_in};
 ghost use Rattle.yayul.specs.Inside.Representation.{shown_by_mark, rows_of};
 
@@ -29,8 +31,8 @@ const DECIMAL_DIGITS: usize = 20;
 /// How many places the number of a line has at least.
 const NUMBER_PLACES: usize = 5;
 
-/// The most bytes of a row before the text of its line: 20 digits, a blank, a place of 7 bytes, a blank, a word of 5 digits,
-/// and two blanks.
+/// The most bytes of a row before the text of its line: 20 digits, a blank, a place of 7 bytes, a blank, a word of 5
+/// digits, and two blanks.
 pub(crate) const FRONT: usize = 36;
 
 /// The most bytes of a symbol's row: a name, a blank, a value and a line feed.
@@ -48,7 +50,9 @@ pub(crate) fn write_rows<M: Margin, W: Write>(
     margin: &M,
     writer: &mut W,
 ) -> Result<(), WriteFailed>
-    ensures written { W.told ≡ true → Writes (W.written writer.old) (W.written writer.new) (rows_of (line_in notation (M.text margin.now)) 1 rope.now (lines source.now) (map shown_by_mark marks.now)) result }
+    ensures written { W.told ≡ true → Writes (W.written writer.old) (W.written writer.new)
+        (rows_of (line_in notation (M.text margin.now)) 1 rope.now (lines source.now) (map shown_by_mark marks.now))
+        result }
     ensures failures { W.failures writer.new ≡ failures_after (W.failures writer.old) result }
 {
     let mut rest = source;
@@ -74,7 +78,8 @@ fn write_line_in<M: Margin, W: Write>(
     margin: &M,
     writer: &mut W,
 ) -> Result<(), WriteFailed>
-    ensures written { W.told ≡ true → Writes (W.written writer.old) (W.written writer.new) (line_in notation (M.text margin.now) number rope.now text.now (shown_by_mark mark.now)) result }
+    ensures written { W.told ≡ true → Writes (W.written writer.old) (W.written writer.new)
+        (line_in notation (M.text margin.now) number rope.now text.now (shown_by_mark mark.now)) result }
     ensures failures { W.failures writer.new ≡ failures_after (W.failures writer.old) result }
 {
     match notation {
@@ -92,7 +97,8 @@ fn write_line<M: Margin, W: Write>(
     margin: &M,
     writer: &mut W,
 ) -> Result<(), WriteFailed>
-    ensures written { W.told ≡ true → Writes (W.written writer.old) (W.written writer.new) (line_rows (M.text margin.now) number rope.now text.now (shown_by_mark mark.now)) result }
+    ensures written { W.told ≡ true → Writes (W.written writer.old) (W.written writer.new)
+        (line_rows (M.text margin.now) number rope.now text.now (shown_by_mark mark.now)) result }
     ensures failures { W.failures writer.new ≡ failures_after (W.failures writer.old) result }
 {
     write_first_row(number, rope, text, mark, margin, writer)?;
@@ -109,7 +115,8 @@ fn write_first_row<M: Margin, W: Write>(
     writer: &mut W,
 ) -> Result<(), WriteFailed>
     ensures written { W.told ≡ true → Writes (W.written writer.old) (W.written writer.new)
-        (M.text margin.now (slice_get (shown_by_mark mark.now).words 0) ++ (row_front number rope.now (shown_by_mark mark.now) text.now ++ text.now ++ codes "\n")) result }
+        (M.text margin.now (slice_get (shown_by_mark mark.now).words 0)
+        ++ (row_front number rope.now (shown_by_mark mark.now) text.now ++ text.now ++ codes "\n")) result }
     ensures failures { W.failures writer.new ≡ failures_after (W.failures writer.old) result }
 {
     margin.write(first_word(mark), writer)?;
@@ -123,7 +130,8 @@ pub(crate) fn write_row<W: Write>(
     text: &[u8],
     writer: &mut W,
 ) -> Result<(), WriteFailed>
-    ensures written { W.told ≡ true → Writes (W.written writer.old) (W.written writer.new) (front.now ++ text.now ++ codes "\n") result }
+    ensures written { W.told ≡ true → Writes (W.written writer.old) (W.written writer.new)
+        (front.now ++ text.now ++ codes "\n") result }
     ensures failures { W.failures writer.new ≡ failures_after (W.failures writer.old) result }
 {
     write_all(writer, front)?;
@@ -142,7 +150,8 @@ pub(crate) fn first_word(mark: &Mark) -> Option<(Bank, Offset)>
 
 // Writes a text and a line feed.
 fn write_ended<W: Write>(text: &[u8], writer: &mut W) -> Result<(), WriteFailed>
-    ensures written { W.told ≡ true → Writes (W.written writer.old) (W.written writer.new) (text.now ++ codes "\n") result }
+    ensures written { W.told ≡ true → Writes (W.written writer.old) (W.written writer.new) (text.now ++ codes "\n")
+        result }
     ensures failures { W.failures writer.new ≡ failures_after (W.failures writer.old) result }
 {
     write_all(writer, text)?;
@@ -158,7 +167,8 @@ fn write_further_rows<M: Margin, W: Write>(
     writer: &mut W,
 ) -> Result<(), WriteFailed>
     ensures written { W.told ≡ true → Writes (W.written writer.old) (W.written writer.new)
-        (flat_map (λ p. M.text margin.now (Some p) ++ further_row number rope.now p) (drop 1 (shown_by_mark mark.now).words)) result }
+        (flat_map (λ p. M.text margin.now (Some p) ++ further_row number rope.now p)
+        (drop 1 (shown_by_mark mark.now).words)) result }
     ensures failures { W.failures writer.new ≡ failures_after (W.failures writer.old) result }
 {
     match mark {
@@ -293,7 +303,8 @@ pub fn push_blanks<const N: usize>(line: &mut ArrayVec<u8, N>, count: usize)
 
 /// Writes how many symbols there are, and a row for each.
 pub(crate) fn write_symbols<W: Write>(symbols: &Symbols, writer: &mut W) -> Result<(), WriteFailed>
-    ensures written { W.told ≡ true → Writes (W.written writer.old) (W.written writer.new) (symbols_head symbols.now ++ flat_map symbol_row symbols.now) result }
+    ensures written { W.told ≡ true → Writes (W.written writer.old) (W.written writer.new)
+        (symbols_head symbols.now ++ flat_map symbol_row symbols.now) result }
     ensures failures { W.failures writer.new ≡ failures_after (W.failures writer.old) result }
 {
     write_all(writer, symbols_head(symbols).as_slice())?;
@@ -302,7 +313,8 @@ pub(crate) fn write_symbols<W: Write>(symbols: &Symbols, writer: &mut W) -> Resu
 
 // Writes a row for each symbol.
 fn write_symbol_rows<W: Write>(symbols: &Symbols, writer: &mut W) -> Result<(), WriteFailed>
-    ensures written { W.told ≡ true → Writes (W.written writer.old) (W.written writer.new) (flat_map symbol_row symbols.now) result }
+    ensures written { W.told ≡ true → Writes (W.written writer.old) (W.written writer.new)
+        (flat_map symbol_row symbols.now) result }
     ensures failures { W.failures writer.new ≡ failures_after (W.failures writer.old) result }
 {
     for index in 0..symbols.len() {

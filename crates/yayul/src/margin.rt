@@ -19,7 +19,8 @@ pub trait Margin {
         word: Option<(Bank, Offset)>,
         writer: &mut W,
     ) -> Result<(), WriteFailed>
-        ensures written { W.told ≡ true → Writes (W.written writer.old) (W.written writer.new) (text self.now word) result }
+        ensures written { W.told ≡ true → Writes (W.written writer.old) (W.written writer.new) (text self.now word)
+            result }
         ensures failures { W.failures writer.new ≡ failures_after (W.failures writer.old) result };
 }
 

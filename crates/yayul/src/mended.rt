@@ -1,7 +1,8 @@
 //! What a line says in spite of an operand that has no form.
 
 ghost use Rattle.std.specs.Prelude.{◌≡◌, true};
-ghost use Rattle.yayul.specs.Mended.{counted_out, lacks_operand, any_operand, any_word, any_words, words_of, decimal_words, flight_words_of, given_by, lacks_form, mended};
+ghost use Rattle.yayul.specs.Mended.{counted_out, lacks_operand, any_operand, any_word, any_words, words_of};
+ghost use Rattle.yayul.specs.Mended.{decimal_words, flight_words_of, given_by, lacks_form, mended};
 ghost use Rattle.yayul.specs.Inside.Codes.{has_room, flight_has_room};
 
 use crate::flight::uncounted;

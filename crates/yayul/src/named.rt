@@ -3,7 +3,8 @@
 ghost use Rattle.std.specs.Prelude.{◌≡◌, ◌<◌, IfOk, map};
 ghost use Rattle.agc_text.specs.Lines.{lines};
 ghost use Rattle.rope.specs.Places.{place_number};
-ghost use Rattle.yayul.specs.Named.{content_names, erasable_of, given_in, holds_address, line_named, named_at, named_words, nothing_named, operand_names, operation_names};
+ghost use Rattle.yayul.specs.Named.{content_names, erasable_of, given_in, holds_address, line_named, named_at};
+ghost use Rattle.yayul.specs.Named.{named_words, nothing_named, operand_names, operation_names};
 ghost use Rattle.yayul.specs.Inside.Names.{shown_named};
 ghost use Rattle.yayul.specs.Inside.Representation.{shown_by_mark};
 
@@ -69,7 +70,8 @@ impl NamedPlaces {
         source: &[u8],
         marks: &[Mark],
     ) -> Result<NamedPlaces, AllocError>
-        ensures { IfOk result (λ named. named ≡ shown_named language symbols.now nothing_named (lines source.now) (map shown_by_mark marks.now)) }
+        ensures { IfOk result (λ named. named
+            ≡ shown_named language symbols.now nothing_named (lines source.now) (map shown_by_mark marks.now)) }
     {
         let mut named = NamedPlaces::nothing(alloc)?;
         let mut rest = source;

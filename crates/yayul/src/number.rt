@@ -3,7 +3,8 @@
 ghost use Rattle.std.specs.Prelude.{◌≡◌, ◌==◌, ◌-◌, ℕ, length, slice_get, take};
 ghost use Rattle.std.specs.Option.{option_map};
 ghost use Rattle.agc_text.specs.Digits.{digits_value, sized};
-ghost use Rattle.yayul.specs.Forms.{is_sign, first_is, is_marked_decimal, number_value, number_in, octal_in, at_most, is_digits, greatest_number};
+ghost use Rattle.yayul.specs.Forms.{is_sign, first_is, is_marked_decimal, number_value, number_in, octal_in, at_most};
+ghost use Rattle.yayul.specs.Forms.{is_digits, greatest_number};
 
 use crate::language::Numeral;
 use agc_text::{Number, decimal_value, octal_value};

@@ -4,7 +4,8 @@ ghost use Rattle.std.specs.Prelude.{◌≡◌, ◌+◌, ◌≤◌, ◌++◌, Non
 ghost use Rattle.std.specs.Option.{option_map};
 ghost use Rattle.arrayvec.specs.ArrayVec.{array_vec_len};
 ghost use Rattle.words.specs.Devices.{Writes, failures_after};
-ghost use Rattle.yayul.specs.ListingObjects.{line_objects, place_members, place_or_null, row_end, row_front, row_object, shown_members, word_members};
+ghost use Rattle.yayul.specs.ListingObjects.{line_objects, place_members, place_or_null, row_end, row_front};
+ghost use Rattle.yayul.specs.ListingObjects.{row_object, shown_members, word_members};
 ghost use Rattle.yayul.specs.Inside.Representation.{shown_by_mark};
 
 use crate::listing::{first_word, push_place};
@@ -35,7 +36,8 @@ pub(crate) fn write_line_objects<M: Margin, W: Write>(
     margin: &M,
     writer: &mut W,
 ) -> Result<(), WriteFailed>
-    ensures written { W.told ≡ true → Writes (W.written writer.old) (W.written writer.new) (line_objects (M.text margin.now) number rope.now text.now (shown_by_mark mark.now)) result }
+    ensures written { W.told ≡ true → Writes (W.written writer.old) (W.written writer.new)
+        (line_objects (M.text margin.now) number rope.now text.now (shown_by_mark mark.now)) result }
     ensures failures { W.failures writer.new ≡ failures_after (W.failures writer.old) result }
 {
     let members = shown_members(rope, mark);
@@ -59,7 +61,8 @@ fn write_further_objects<M: Margin, W: Write>(
     writer: &mut W,
 ) -> Result<(), WriteFailed>
     ensures written { W.told ≡ true → Writes (W.written writer.old) (W.written writer.new)
-        (flat_map (λ p. row_object number (word_members rope.now p.0 p.1) (M.text margin.now (Some p)) None) (drop 1 (shown_by_mark mark.now).words)) result }
+        (flat_map (λ p. row_object number (word_members rope.now p.0 p.1) (M.text margin.now (Some p)) None)
+        (drop 1 (shown_by_mark mark.now).words)) result }
     ensures failures { W.failures writer.new ≡ failures_after (W.failures writer.old) result }
 {
     match mark {
@@ -88,7 +91,8 @@ fn write_object<M: Margin, W: Write>(
     writer: &mut W,
 ) -> Result<(), WriteFailed>
     ensures written { W.told ≡ true → Writes (W.written writer.old) (W.written writer.new)
-        (row_object number members.now.items (M.text margin.now word) (option_map (λ text. text.now) text.entry)) result }
+        (row_object number members.now.items (M.text margin.now word) (option_map (λ text. text.now) text.entry))
+        result }
     ensures failures { W.failures writer.new ≡ failures_after (W.failures writer.old) result }
 {
     write_all(writer, row_front(number, members).as_slice())?;
@@ -99,7 +103,8 @@ fn write_object<M: Margin, W: Write>(
 /// Writes the end of an object: the text of its line, or that it has none.
 #[tactic(auto, unfolding(crate::specs::ListingObjects::row_end))]
 fn write_row_end<W: Write>(text: Option<&[u8]>, writer: &mut W) -> Result<(), WriteFailed>
-    ensures written { W.told ≡ true → Writes (W.written writer.old) (W.written writer.new) (row_end (option_map (λ text. text.now) text.entry)) result }
+    ensures written { W.told ≡ true → Writes (W.written writer.old) (W.written writer.new)
+        (row_end (option_map (λ text. text.now) text.entry)) result }
     ensures failures { W.failures writer.new ≡ failures_after (W.failures writer.old) result }
 {
     write_all(writer, b",\"text\":")?;

@@ -5,7 +5,8 @@ ghost use Rattle.std.specs.Option.{SomeIff};
 ghost use Rattle.agc_text.specs.Tables.{named, value_in};
 ghost use Rattle.yayul.specs.Operators.{operators, is_bank, field_size, bits_under};
 ghost use Rattle.yayul.specs.Flight.{flight_operator, flight_operators};
-ghost use Rattle.yayul.specs.Roles.{flight_roles, flight_rows, is_operator_of, names_of_length, operator_rows, role_of, roles};
+ghost use Rattle.yayul.specs.Roles.{flight_roles, flight_rows, is_operator_of, names_of_length, operator_rows, role_of};
+ghost use Rattle.yayul.specs.Roles.{roles};
 ghost use Rattle.yayul.specs.Words.{extracode_fault};
 ghost use Rattle.yayul.specs.Inside.Codes.{has_room, flight_has_room};
 
@@ -91,7 +92,8 @@ macro_rules! extend {
     };
 }
 
-// A code with a field: the least code, the bits of an address or a channel, whether it is an extracode, and what the field holds.
+// A code with a field: the least code, the bits of an address or a channel, whether it is an extracode, and what the
+// field holds.
 macro_rules! code {
     ($least:literal, $bits:ident, $extracode:ident, $takes:ident) => {
         AddressedCode {

@@ -61,7 +61,9 @@ pub(crate) fn write_place_row<W: Write>(
     mark: &Mark,
     writer: &mut W,
 ) -> Result<(), WriteFailed>
-    ensures written { W.told ≡ true → Writes (W.written writer.old) (W.written writer.new) (place_row rope.now word place (record { number = number; text = text.now; shown = shown_by_mark mark.now })) result }
+    ensures written { W.told ≡ true → Writes (W.written writer.old) (W.written writer.new)
+        (place_row rope.now word place (record { number = number; text = text.now; shown = shown_by_mark mark.now }))
+        result }
     ensures failures { W.failures writer.new ≡ failures_after (W.failures writer.old) result }
 {
     match place {
@@ -92,7 +94,8 @@ fn begins_at(mark: &Mark, place: Linear) -> bool
 
 /// What stands on the row of an erasable place before the text of its line.
 fn erasable_front(number: u64, place: Eras, word: Word, text: &[u8]) -> ArrayVec<u8, FRONT>
-    ensures { result.items ≡ front_with number (place_text (linear.Erasable place) ++ codes " " ++ octal_text 5 word) text.now }
+    ensures { result.items ≡ front_with number (place_text (linear.Erasable place) ++ codes " " ++ octal_text 5 word)
+        text.now }
 {
     let mut line = number_column(number);
     push_place(&mut line, Linear::Erasable(place));

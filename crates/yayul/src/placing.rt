@@ -1,6 +1,7 @@
 //! The words that lines ask for, in their places.
 
-ghost use Rattle.std.specs.Prelude.{◌≡◌, ◌+◌, ◌<◌, ◌≤◌, ◌++◌, ◌∷◌, [], ℕ, List, false, get_or, replicate, map, IfOk, OnOk};
+ghost use Rattle.std.specs.Prelude.{◌≡◌, ◌+◌, ◌<◌, ◌≤◌, ◌++◌, ◌∷◌, [], ℕ, List, false, get_or, replicate, map, IfOk};
+ghost use Rattle.std.specs.Prelude.{OnOk};
 ghost use Rattle.std.specs.Result.{result_map_both, result_unwrap_or};
 ghost use Rattle.rope.specs.Places.{bank_words, stands};
 ghost use Rattle.yayul.specs.Layout.{Request, start, width};
@@ -74,7 +75,8 @@ impl Placing {
     pub(crate) fn take(&mut self, symbols: &Symbols, request: WordRequest) -> Result<(), AllocError>
         requires room { request.offset + width request.content ≤ bank_words }
         requires free { stands self.old.rope request.bank request.offset ≡ false }
-        requires next_free { 1 < width request.content → stands self.old.rope request.bank (request.offset + 1) ≡ false }
+        requires next_free { 1 < width request.content
+            → stands self.old.rope request.bank (request.offset + 1) ≡ false }
         ensures { OnOk result (TakesWords symbols.now (request_of request) self.old self.new) }
     {
         let bank = request.bank;
@@ -95,7 +97,8 @@ impl Placing {
         request: WordRequest,
         words: &Result<LineWords, FaultKind>,
     ) -> Result<(), AllocError>
-        ensures settles { OnOk result (Settles (request_of request) (result_map_both words_in (λ kind. kind) words.now) self.old self.new) }
+        ensures settles { OnOk result (Settles (request_of request) (result_map_both words_in (λ kind. kind) words.now)
+            self.old self.new) }
         ensures rope { self.new.rope ≡ self.old.rope }
         ensures ends { self.new.ends ≡ self.old.ends }
     {
@@ -110,7 +113,8 @@ impl Placing {
     /// The words of all requests, or their least fault, where the symbols are those of the whole source.
     pub(crate) fn complete(self, symbols: &Symbols) -> Result<Rope, Fault>
         ghost requests: { List Request }
-        requires { (line : ℕ) × Holds line symbols.now requests (map request_of self.waiting.items) self.rope self.fault }
+        requires { (line : ℕ) × Holds line symbols.now requests (map request_of self.waiting.items) self.rope
+            self.fault }
         ensures { PlacesWords symbols.now requests result }
     {
         let Placing {
@@ -131,7 +135,8 @@ impl Placing {
 
 // The words of a request, zeros where it has a fault.
 fn words_or_zeros(request: &WordRequest, words: &Result<LineWords, FaultKind>) -> LineWords
-    ensures { words_in result ≡ result_unwrap_or (result_map_both words_in (λ kind. kind) words.now) (replicate (width request.now.content) 0) }
+    ensures { words_in result ≡ result_unwrap_or (result_map_both words_in (λ kind. kind) words.now)
+        (replicate (width request.now.content) 0) }
 {
     match words {
         Ok(words) => *words,

@@ -57,7 +57,8 @@ fn standard_reading(text: &[u8]) -> Reading<'_>
 
 // The fields of a line of a flight program after a count that stands first.
 fn reading_after_count(text: &[u8]) -> Reading<'_>
-    ensures { parts_in result ≡ later_parts (length text.now - length (uncounted text.now)) (parts_of Flight (uncounted text.now)) }
+    ensures { parts_in result ≡ later_parts (length text.now - length (uncounted text.now))
+        (parts_of Flight (uncounted text.now)) }
 {
     let rest = uncounted(text);
     let count = text.len() - rest.len();

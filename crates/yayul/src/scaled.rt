@@ -2,7 +2,10 @@
 
 ghost use Rattle.std.specs.Prelude.{◌≡◌, ◌≤◌, ◌<◌, ◌^◌, ◌*◌, ◌+◌, ◌||◌, ◌∷◌, [], length, nat_lt, is_some, true, IfSome};
 ghost use Rattle.agc_text.specs.Fields.{texts, fields};
-ghost use Rattle.yayul.specs.Scales.{count_to, signed_power, power_of_ten_in, power_of_two_in, scales_of, raised, quantity_of, whole_digits, pointed_in, quantity_in, nearest, power_or_none, magnitude_of, signed_word, one_word, two_words, words_of, quantity_content, magnitude_content, scaled_content, no_field, decimal_content};
+ghost use Rattle.yayul.specs.Scales.{count_to, signed_power, power_of_ten_in, power_of_two_in, scales_of, raised};
+ghost use Rattle.yayul.specs.Scales.{quantity_of, whole_digits, pointed_in, quantity_in, nearest, power_or_none};
+ghost use Rattle.yayul.specs.Scales.{magnitude_of, signed_word, one_word, two_words, words_of, quantity_content};
+ghost use Rattle.yayul.specs.Scales.{magnitude_content, scaled_content, no_field, decimal_content};
 
 use crate::decimal::{before_point, decimal_in};
 use crate::language::{Content, DoubleWord, Precision};
@@ -45,7 +48,8 @@ pub(crate) struct Quantity {
 
 const LEVEL: Power = Power { up: 0, down: 0 };
 
-// The content of a decimal constant: its text, and what follows it on its line. One word without scales is that of the standard language.
+// The content of a decimal constant: its text, and what follows it on its line. One word without scales is that of the
+// standard language.
 pub(crate) fn decimal_content(precision: Precision, text: &[u8], rest: &[u8]) -> Option<Content>
     ensures { result ≡ decimal_content precision text.now (texts (fields rest.now)) }
 {

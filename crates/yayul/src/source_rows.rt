@@ -68,8 +68,8 @@ impl SourceRows {
         }
     }
 
-    /// Writes the row of a place after some bytes, where a line shows the place, and answers whether one does. The word is that which
-    /// stands at the place. No memory is taken.
+    /// Writes the row of a place after some bytes, where a line shows the place, and answers whether one does. The word
+    /// is that which stands at the place. No memory is taken.
     ///
     /// After a failure a beginning of it was written.
     pub fn write_row_of<W: Write>(
@@ -80,7 +80,8 @@ impl SourceRows {
         place: Linear,
         writer: &mut W,
     ) -> Result<bool, WriteFailed>
-        ensures written { W.told ≡ true → Writes (W.written writer.old) (W.written writer.new) (row_after front.now self.now rope.now word place) result }
+        ensures written { W.told ≡ true → Writes (W.written writer.old) (W.written writer.new)
+            (row_after front.now self.now rope.now word place) result }
         ensures some { IfOk result (λ some. some ≡ is_some (line_of self.now place)) }
         ensures failures { W.failures writer.new ≡ failures_after (W.failures writer.old) result }
     {
@@ -103,8 +104,8 @@ impl SourceRows {
         Ok(true)
     }
 
-    /// Writes the rows of all lines in a notation: as text each after its margin, and as JSON with the margin as further members of
-    /// its object. The words are those of the rope. No memory is taken.
+    /// Writes the rows of all lines in a notation: as text each after its margin, and as JSON with the margin as
+    /// further members of its object. The words are those of the rope. No memory is taken.
     ///
     /// After a failure a beginning of them was written.
     pub fn write<M: Margin, W: Write>(
@@ -114,7 +115,9 @@ impl SourceRows {
         margin: &M,
         writer: &mut W,
     ) -> Result<(), WriteFailed>
-        ensures written { W.told ≡ true → Writes (W.written writer.old) (W.written writer.new) (rows (line_in notation (M.text margin.now)) 1 (start self.now.language) rope.now (lines self.now.text)) result }
+        ensures written { W.told ≡ true → Writes (W.written writer.old) (W.written writer.new)
+            (rows (line_in notation (M.text margin.now)) 1 (start self.now.language) rope.now (lines self.now.text))
+            result }
         ensures failures { W.failures writer.new ≡ failures_after (W.failures writer.old) result }
     {
         write_rows(

@@ -1,7 +1,8 @@
 //! What a line of the source says, whatever stands before it.
 
 ghost use Rattle.std.specs.Prelude.{◌≡◌, ◌≤◌, true, IfSome};
-ghost use Rattle.yayul.specs.Forms.{with_form, label_in, operand_in, alone, number_in, octal_in, decimal_in, count_in, erased_in, next_location, operation_of, statement_of};
+ghost use Rattle.yayul.specs.Forms.{with_form, label_in, operand_in, alone, number_in, octal_in, decimal_in, count_in};
+ghost use Rattle.yayul.specs.Forms.{erased_in, next_location, operation_of, statement_of};
 ghost use Rattle.yayul.specs.Layout.{is_malformed, is_missing, width, extends};
 ghost use Rattle.yayul.specs.Words.{extracode_of};
 ghost use Rattle.yayul.specs.Inside.Codes.{has_room};

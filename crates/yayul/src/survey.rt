@@ -1,6 +1,7 @@
 //! All faults of a source at once.
 
-ghost use Rattle.std.specs.Prelude.{◌≡◌, ◌<◌, ◌≤◌, ◌+◌, ◌++◌, ◌&&◌, ◌||◌, not, ℕ, false, true, length, map, filter, flat_map, IfErr, IfOk, OnOk};
+ghost use Rattle.std.specs.Prelude.{◌≡◌, ◌<◌, ◌≤◌, ◌+◌, ◌++◌, ◌&&◌, ◌||◌, not, ℕ, false, true, length, map, filter};
+ghost use Rattle.std.specs.Prelude.{flat_map, IfErr, IfOk, OnOk};
 ghost use Rattle.arrayvec.specs.ArrayVec.{array_vec_len};
 ghost use Rattle.std.specs.List.{list_any, list_all};
 ghost use Rattle.std.specs.Option.{option_map_or};
@@ -8,8 +9,13 @@ ghost use Rattle.yayul.specs.Layout.{standing, fault_number, statement_on};
 ghost use Rattle.yayul.specs.Inside.Answers.{layout_of};
 ghost use Rattle.yayul.specs.Program.{no_memory};
 ghost use Rattle.yayul.specs.Mended.{lacks_form};
-ghost use Rattle.yayul.specs.Survey.{Survey as Surveyed, unmarked, noted, operation_on, is_of_label, is_done, is_kept, names_one, waits_in_vain, label_lost, label_passed, kept_label, laid, passed_over, done_line, with_known, some_stands, passed_line, passed_lines, settled_survey, follows, named_line, finding, taken_by, told_of, told_line, told_lines, looked_at, told};
-ghost use Rattle.yayul.specs.Inside.Surveys.{Surveys, has_number, number_in, kinds_of, stands_beyond, doubt_of, vain_of};
+ghost use Rattle.yayul.specs.Survey.{Survey as Surveyed, unmarked, noted, operation_on, is_of_label, is_done, is_kept};
+ghost use Rattle.yayul.specs.Survey.{names_one, waits_in_vain, label_lost, label_passed, kept_label, laid, passed_over};
+ghost use Rattle.yayul.specs.Survey.{done_line, with_known, some_stands, passed_line, passed_lines, settled_survey};
+ghost use Rattle.yayul.specs.Survey.{follows, named_line, finding, taken_by, told_of, told_line, told_lines, looked_at};
+ghost use Rattle.yayul.specs.Survey.{told};
+ghost use Rattle.yayul.specs.Inside.Surveys.{Surveys, has_number, number_in, kinds_of, stands_beyond, doubt_of};
+ghost use Rattle.yayul.specs.Inside.Surveys.{vain_of};
 
 use crate::assembly::NO_MEMORY;
 use crate::conditions::Conditions;
@@ -94,7 +100,8 @@ impl Survey {
     fn pass(&mut self, line: u32, text: &[u8], said: Said) -> Result<(), Fault>
         requires label { said.label ≡ (statement_on (layout_of self.old.layout) text.now).label }
         requires operation { said.operation ≡ operation_on (layout_of self.old.layout) text.now }
-        ensures leads { (s : Surveyed) → Surveys line s self.old → OnOk result (Surveys (line + 1) (passed_line line s text.now) self.new) }
+        ensures leads { (s : Surveyed) → Surveys line s self.old
+            → OnOk result (Surveys (line + 1) (passed_line line s text.now) self.new) }
         ensures err { IfErr result (λ fault. fault ≡ no_memory) }
     {
         let Said {
@@ -123,7 +130,8 @@ impl Survey {
         kept: bool,
     ) -> Result<(), Fault>
         requires { label ≡ (statement_on (layout_of self.old.layout) text.now).label }
-        ensures leads { (s : Surveyed) → Surveys line s self.old → OnOk result (Surveys (line + 1) (done_line line s label operation done kept) self.new) }
+        ensures leads { (s : Surveyed) → Surveys line s self.old
+            → OnOk result (Surveys (line + 1) (done_line line s label operation done kept) self.new) }
         ensures known { self.new.known ≡ self.old.known }
         ensures err { IfErr result (λ fault. fault ≡ no_memory) }
     {
@@ -145,7 +153,8 @@ impl Survey {
         kept: bool,
     ) -> Result<Label, Fault>
         requires { label ≡ (statement_on (layout_of self.old.layout) text.now).label }
-        ensures leads { (line : ℕ) (s : Surveyed) → Surveys line s self.old → OnOk result (Surveys line (label_passed kept s label operation.now) self.new) }
+        ensures leads { (line : ℕ) (s : Surveyed) → Surveys line s self.old
+            → OnOk result (Surveys line (label_passed kept s label operation.now) self.new) }
         ensures label { IfOk result (λ passed. passed ≡ kept_label kept label) }
         ensures known { self.new.known ≡ self.old.known }
         ensures err { IfErr result (λ fault. fault ≡ no_memory) }
@@ -160,7 +169,8 @@ impl Survey {
     // The label of a line has no value; where its operator takes one, it may not stand again.
     fn lose(&mut self, text: &[u8], label: Label, operation: &Operation) -> Result<(), Fault>
         requires { label ≡ (statement_on (layout_of self.old.layout) text.now).label }
-        ensures leads { (line : ℕ) (s : Surveyed) → Surveys line s self.old → OnOk result (Surveys line (label_lost s label operation.now) self.new) }
+        ensures leads { (line : ℕ) (s : Surveyed) → Surveys line s self.old
+            → OnOk result (Surveys line (label_lost s label operation.now) self.new) }
         ensures known { self.new.known ≡ self.old.known }
         ensures err { IfErr result (λ fault. fault ≡ no_memory) }
     {
@@ -173,7 +183,8 @@ impl Survey {
 
     // Does what a line says, where it has no fault.
     fn lay(&mut self, line: u32, label: Label, operation: Operation) -> Result<(), Fault>
-        ensures leads { (s : Surveyed) → Surveys line s self.old → OnOk result (Surveys (line + 1) (laid line s label operation) self.new) }
+        ensures leads { (s : Surveyed) → Surveys line s self.old
+            → OnOk result (Surveys (line + 1) (laid line s label operation) self.new) }
         ensures known { self.new.known ≡ self.old.known }
         ensures err { IfErr result (λ fault. fault ≡ no_memory) }
     {
@@ -192,7 +203,8 @@ impl Survey {
 
     // Passes over what a line says, but that extracode is in force after its words or is not.
     fn pass_over(&mut self, operation: &Operation)
-        ensures leads { (line : ℕ) (s : Surveyed) → Surveys line s self.old → Surveys (line + 1) (passed_over s operation.now) self.new }
+        ensures leads { (line : ℕ) (s : Surveyed) → Surveys line s self.old
+            → Surveys (line + 1) (passed_over s operation.now) self.new }
         ensures known { self.new.known ≡ self.old.known }
     {
         self.layout.extracode = operation.extracode_after(self.layout.extracode);
@@ -210,7 +222,8 @@ impl Survey {
 
     // Gives the names that wait their values.
     fn settle(&mut self) -> Result<(), Fault>
-        ensures settled { (line : ℕ) (s : Surveyed) → Surveys line s self.old → OnOk result (Surveys line (settled_survey s) self.new) }
+        ensures settled { (line : ℕ) (s : Surveyed) → Surveys line s self.old
+            → OnOk result (Surveys line (settled_survey s) self.new) }
         ensures err { IfErr result (λ fault. fault ≡ no_memory) }
     {
         match settle(&mut self.layout.symbols, &self.layout.promises) {
@@ -300,7 +313,8 @@ pub fn findings(alloc: Global, language: Language, source: &[u8]) -> Result<Vec<
 
 // What stands after the lines of a source.
 fn passed_lines(alloc: Global, language: Language, source: &[u8]) -> Result<Survey, Fault>
-    ensures passed { IfOk result (λ survey. (line : ℕ) × Surveys line (passed_lines 1 (unmarked language) (looked_at language source.now)) survey) }
+    ensures passed { IfOk result (λ survey. (line : ℕ)
+        × Surveys line (passed_lines 1 (unmarked language) (looked_at language source.now)) survey) }
     ensures err { IfErr result (λ fault. fault ≡ no_memory) }
 {
     let mut survey = Survey::start(alloc, language)?;
@@ -325,8 +339,11 @@ fn told_lines(
     source: &[u8],
     whole: &Survey,
 ) -> Result<Vec<Finding>, Fault>
-    requires { (line : ℕ) × Surveys line (settled_survey (passed_lines 1 (unmarked language) (looked_at language source.now))) whole.now }
-    ensures told { IfOk result (λ findings. findings.items ≡ told_lines (settled_survey (passed_lines 1 (unmarked language) (looked_at language source.now))) 1 (unmarked language) (looked_at language source.now)) }
+    requires { (line : ℕ) × Surveys line (settled_survey
+        (passed_lines 1 (unmarked language) (looked_at language source.now))) whole.now }
+    ensures told { IfOk result (λ findings. findings.items
+        ≡ told_lines (settled_survey (passed_lines 1 (unmarked language) (looked_at language source.now))) 1
+        (unmarked language) (looked_at language source.now)) }
     ensures err { IfErr result (λ fault. fault ≡ no_memory) }
 {
     let mut survey = Survey::start(alloc, language)?;
@@ -348,7 +365,8 @@ fn told_lines(
     Ok(told)
 }
 
-/// The kinds of faults in the order in which those of a line are told: at the label, the operator and the operand, and beyond them.
+/// The kinds of faults in the order in which those of a line are told: at the label, the operator and the operand, and
+/// beyond them.
 const KINDS_IN_ORDER: [FaultKind; 18] = [
     FaultKind::BadLabel,
     FaultKind::TwiceDefined,
@@ -404,9 +422,11 @@ impl Survey {
         }
     }
 
-    // Whether the operand of a line names a symbol that has no value for another fault, where this stands after the last line.
+    // Whether the operand of a line names a symbol that has no value for another fault, where this stands after the
+    // last line.
     fn loses(&self, operation: &Operation) -> bool
-        ensures { result ≡ (names_one self.now.lost operation.now || waits_in_vain self.now.layout.promised self.now.layout.symbols operation.now) }
+        ensures { result ≡ (names_one self.now.lost operation.now
+            || waits_in_vain self.now.layout.promised self.now.layout.symbols operation.now) }
     {
         operation.names_one(&self.lost)
             || operation.waits_in_vain(&self.layout.promised, &self.layout.symbols)
@@ -458,8 +478,10 @@ impl Survey {
     ) -> Result<(), AllocError>
         requires label { said.now.label ≡ (statement_on (layout_of self.now.layout) text.now).label }
         requires operation { said.now.operation ≡ operation_on (layout_of self.now.layout) text.now }
-        requires formless { said.now.formless ≡ lacks_form (statement_on (layout_of self.now.layout) text.now).operation }
-        ensures { (s w : Surveyed) (last : ℕ) → Surveys line s self.now → Surveys last w whole.now → OnOk result (told.new.items ≡ told.old.items ++ told_line w line s text.now) }
+        requires formless { said.now.formless
+            ≡ lacks_form (statement_on (layout_of self.now.layout) text.now).operation }
+        ensures { (s w : Surveyed) (last : ℕ) → Surveys line s self.now → Surveys last w whole.now
+            → OnOk result (told.new.items ≡ told.old.items ++ told_line w line s text.now) }
     {
         let Said {
             label,
@@ -489,7 +511,9 @@ impl Survey {
 impl Telling<'_> {
     // Appends what is told of the faults of the line.
     fn tell(self, faults: &LineFaults, told: &mut Vec<Finding>) -> Result<(), AllocError>
-        ensures { OnOk result (told.new.items ≡ told.old.items ++ told_of self.entry.language self.entry.doubt self.entry.line self.entry.text.now self.entry.taken_by (kinds_of faults.now)) }
+        ensures { OnOk result (told.new.items
+            ≡ told.old.items ++ told_of self.entry.language self.entry.doubt self.entry.line self.entry.text.now
+            self.entry.taken_by (kinds_of faults.now)) }
     {
         let numbers = faults.numbers();
         let numbers = numbers.as_slice();
@@ -497,7 +521,8 @@ impl Telling<'_> {
         self.tell_each(numbers, &KINDS_IN_ORDER, true, told)
     }
 
-    // Appends those of some kinds of faults that have one of some numbers, do not follow from others, and stand past the longest line or do not.
+    // Appends those of some kinds of faults that have one of some numbers, do not follow from others, and stand past
+    // the longest line or do not.
     fn tell_each(
         self,
         numbers: &[u8],
@@ -505,7 +530,10 @@ impl Telling<'_> {
         beyond: bool,
         told: &mut Vec<Finding>,
     ) -> Result<(), AllocError>
-        ensures { OnOk result (told.new.items ≡ told.old.items ++ map (finding self.entry.language self.entry.line self.entry.text.now self.entry.taken_by) (filter (λ kind. (has_number numbers.now kind && not (follows self.entry.doubt kind)) && stands_beyond self.entry.language self.entry.text.now beyond kind) kinds.now)) }
+        ensures { OnOk result (told.new.items
+            ≡ told.old.items ++ map (finding self.entry.language self.entry.line self.entry.text.now
+            self.entry.taken_by) (filter (λ kind. (has_number numbers.now kind && not (follows self.entry.doubt kind))
+            && stands_beyond self.entry.language self.entry.text.now beyond kind) kinds.now)) }
     {
         for kind in kinds {
             if has_number(numbers, *kind)

@@ -3,7 +3,8 @@
 ghost use Rattle.std.specs.Prelude.{◌≡◌, ◌≤◌, ◌<◌, IfOk};
 ghost use Rattle.std.specs.Result.{result_map_both};
 ghost use Rattle.symbols.specs.Values.{HasWords};
-ghost use Rattle.yayul.specs.Layout.{value_here, location_of, location_at, erasable_place, moved, moved_value, term_value, value_of};
+ghost use Rattle.yayul.specs.Layout.{value_here, location_of, location_at, erasable_place, moved, moved_value};
+ghost use Rattle.yayul.specs.Layout.{term_value, value_of};
 ghost use Rattle.yayul.specs.Inside.Sound.{IsPlace};
 ghost use Rattle.yayul.specs.Inside.Representation.{value_at};
 
@@ -124,7 +125,8 @@ fn term_value(
     here: Location,
     term: &Term,
 ) -> Result<Point, FaultKind>
-    ensures { result_map_both value_at (λ fault. fault) result ≡ term_value missing symbols.now (value_here here) term.now }
+    ensures { result_map_both value_at (λ fault. fault) result
+        ≡ term_value missing symbols.now (value_here here) term.now }
 {
     match term {
         Term::Number(Some(number)) => Ok(Point::of_value(Value::Num(*number))),

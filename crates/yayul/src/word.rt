@@ -5,7 +5,9 @@ ghost use Rattle.std.specs.Result.{result_err, result_map_both};
 ghost use Rattle.rope.specs.Places.{bank_words, stands, with_words};
 ghost use Rattle.yayul.specs.Layout.{standing, width, value_of, and_then};
 ghost use Rattle.words.specs.Numbers.{neg};
-ghost use Rattle.yayul.specs.Words.{low_place, accepted, addressed_word, address_of, address_below, channel_in, complete_address, fixed_place, bank_word, far_address, field_of, content_words, request_words, request_faults, extracode_of, extracode_fault};
+ghost use Rattle.yayul.specs.Words.{low_place, accepted, addressed_word, address_of, address_below, channel_in};
+ghost use Rattle.yayul.specs.Words.{complete_address, fixed_place, bank_word, far_address, field_of, content_words};
+ghost use Rattle.yayul.specs.Words.{request_words, request_faults, extracode_of, extracode_fault};
 ghost use Rattle.yayul.specs.Program.{placed, placed_from};
 ghost use Rattle.yayul.specs.Inside.Answers.{least_kind};
 ghost use Rattle.yayul.specs.Inside.Codes.{greatest_code, greatest_field, greatest_with_field};
@@ -140,7 +142,8 @@ pub(crate) fn words_at(
     eb: ErasableBank,
     content: &Content,
 ) -> Result<LineWords, FaultKind>
-    ensures { result_map_both words_in (λ kind. kind) result ≡ content_words symbols.now (Value.Fixed place.0 place.1) extracode eb content.now }
+    ensures { result_map_both words_in (λ kind. kind) result
+        ≡ content_words symbols.now (Value.Fixed place.0 place.1) extracode eb content.now }
 {
     match content {
         Content::Constant(number) => Ok(LineWords::One(number.ok_or(FaultKind::OutOfRange)?)),
@@ -331,7 +334,9 @@ pub(crate) fn request_fault(
     request: &WordRequest,
     words: &Result<LineWords, FaultKind>,
 ) -> Option<FaultKind>
-    ensures { result ≡ least_kind (standing (result_err (result_map_both words_in (λ kind. kind) words.now) ∷ extracode_fault (extracode_of request.now.content) request.now.extracode ∷ [])) }
+    ensures { result ≡ least_kind (standing
+        (result_err (result_map_both words_in (λ kind. kind) words.now)
+        ∷ extracode_fault (extracode_of request.now.content) request.now.extracode ∷ [])) }
 {
     least_fault(&[
         fault_in(words),

@@ -1,6 +1,7 @@
 //! The eight banks of erasable memory.
 
-ghost use Rattle.std.specs.Prelude.{◌≡◌, ℕ, ◌+◌, ◌/◌, ◌%◌, ◌^◌, ◌<◌, ◌≤◌, ◌≢◌, length, slice_index, replicate, if◌then◌else◌, ◌==◌};
+ghost use Rattle.std.specs.Prelude.{◌≡◌, ℕ, ◌+◌, ◌/◌, ◌%◌, ◌^◌, ◌<◌, ◌≤◌, ◌≢◌, length, slice_index, replicate};
+ghost use Rattle.std.specs.Prelude.{if◌then◌else◌, ◌==◌};
 ghost use Rattle.space.specs.Cells.{erasable_count};
 ghost use Rattle.space.specs.Stored.{bank_count, bank_size, lane_count, banked, AreWhole};
 
@@ -57,7 +58,8 @@ fn set_word(bank: &mut [u16; 256], index: usize, number: u16)
 pub(super) fn differing(one: &ErasableBanks, other: &ErasableBanks, first: u16) -> u64
     requires chunk { first % lane_count ≡ 0 }
     requires last { first < erasable_count }
-    ensures { (k : ℕ) → k < lane_count → result / 2 ^ k % 2 ≡ (if banked one.now (first + k) == banked other.now (first + k) then 0 else 1) }
+    ensures { (k : ℕ) → k < lane_count → result / 2 ^ k % 2
+        ≡ (if banked one.now (first + k) == banked other.now (first + k) then 0 else 1) }
 {
     let first = usize::from(first);
     let bank = first / BANK_SIZE;
@@ -67,7 +69,8 @@ pub(super) fn differing(one: &ErasableBanks, other: &ErasableBanks, first: u16) 
 /// The same of one bank and the offset of a chunk in it.
 fn differing_lanes(one: &[u16; 256], other: &[u16; 256], offset: usize) -> u64
     requires { offset + lane_count ≤ bank_size }
-    ensures { (k : ℕ) → k < lane_count → result / 2 ^ k % 2 ≡ (if slice_index one.now (offset + k) == slice_index other.now (offset + k) then 0 else 1) }
+    ensures { (k : ℕ) → k < lane_count → result / 2 ^ k % 2
+        ≡ (if slice_index one.now (offset + k) == slice_index other.now (offset + k) then 0 else 1) }
 {
     let one = u16x32::from_slice(&one[offset..]);
     let other = u16x32::from_slice(&other[offset..]);

@@ -1,9 +1,12 @@
 -- What the functions of the assembler answer.
-use Rattle.std.specs.Prelude.{◌≡◌, ◌≢◌, ℕ, ◌+◌, ◌<◌, ◌⊎◌, nat_lt, List, [], ◌∷◌, ◌++◌, map, replicate, fold, Option, None, Some, Result, Ok, Err, if◌then◌else◌}
+use Rattle.std.specs.Prelude.{◌≡◌, ◌≢◌, ℕ, ◌+◌, ◌<◌, ◌⊎◌, nat_lt, List, [], ◌∷◌, ◌++◌, map, replicate, fold, Option, None, Some, Result, Ok}
+use Rattle.std.specs.Prelude.{Err, if◌then◌else◌}
 use Rattle.std.specs.List.{flat_map}
 use Rattle.std.specs.Result.{result_err, result_unwrap_or}
 use Rattle.rope.specs.Places.{Words, banks, no_words, with_words}
-use Rattle.yayul.specs.Layout.{Request, Layout, LineEffect, start, standing, fault_if, label_faults, defined, lacks_room, is_erasable, after_words, extends, width, fault_number, line_faults, statement_on, line_effect, layout_after, layout_faults}
+use Rattle.yayul.specs.Layout.{Request, Layout, LineEffect, start, standing, fault_if, label_faults, defined, lacks_room, is_erasable}
+use Rattle.yayul.specs.Layout.{after_words, extends, width, fault_number, line_faults, statement_on, line_effect, layout_after}
+use Rattle.yayul.specs.Layout.{layout_faults}
 use Rattle.yayul.specs.Listing.{shown}
 use Rattle.yayul.specs.Program.{placed, placed_from, least, no_memory}
 use Rattle.yayul.specs.Words.{extracode_of, extracode_fault, request_words, word_faults}
@@ -36,7 +39,17 @@ with_requests rs s = record s { requests = rs }
 
 -- the layout that stands after some lines, without what they ask for
 abbrev pub layout_of : Held → Layout
-layout_of l = record { language = l.language; location = l.location; symbols = l.symbols; promised = l.promised; promises = map promise_of l.promises.items; requests = []; extracode = l.extracode; eb = l.eb }
+layout_of l = record {
+  language = l.language;
+  location = l.location;
+  symbols = l.symbols;
+  promised = l.promised;
+  promises = map promise_of
+      l.promises.items;
+  requests = [];
+  extracode = l.extracode;
+  eb = l.eb;
+}
 
 -- the words are held that a layout asks for, which stands before a line
 pub record Keeps (line : ℕ) (s : Layout) (p : Placing) : Type 0 where
@@ -54,7 +67,8 @@ abbrev pub LeadsTo : LineEffect → Layout → Result (Unit {0}) FaultKind → T
 LeadsTo e after (Ok x) = (e.faults ≡ []) × (after ≡ e.after)
 LeadsTo e after (Err kind) = kind ≢ NoMemory → least_kind e.faults ≡ Some kind
 
--- a statement of a line without a fault leads to what agrees with the layout after it; of one with faults the least is told, unless memory ran out
+-- a statement of a line without a fault leads to what agrees with the layout after it; of one with faults the least is told, unless memory
+-- ran out
 abbrev pub LeadsOn : ℕ → LineEffect → Held → Placing → Result (Unit {0}) FaultKind → Type 0
 LeadsOn line e l p (Ok x) = (e.faults ≡ []) × Agrees (line + 1) e.after l p
 LeadsOn line e l p (Err kind) = kind ≢ NoMemory → least_kind e.faults ≡ Some kind
@@ -62,7 +76,8 @@ LeadsOn line e l p (Err kind) = kind ≢ NoMemory → least_kind e.faults ≡ So
 -- the same of a line of the source, its text and number included, and what it shows
 abbrev pub LineLeadsOn : ℕ → Layout → List ℕ → Held → Placing → Result Mark FaultKind → Type 0
 LineLeadsOn line s text l p (Ok mark) =
-    (line_faults line s text ≡ []) × (Agrees (line + 1) (line_effect line s text).after l p × (shown_by_mark mark ≡ shown s.location (statement_on s text)))
+    (line_faults line s text ≡ []) × (Agrees (line + 1) (line_effect line s text).after l p
+    × (shown_by_mark mark ≡ shown s.location (statement_on s text)))
 LineLeadsOn line s text l p (Err kind) = kind ≢ NoMemory → least_kind (line_faults line s text) ≡ Some kind
 
 -- a label that is given a value
@@ -72,7 +87,8 @@ labelled s label value = record { faults = standing (label_faults s label); afte
 -- the conditions on so many words, where these stand before them
 abbrev pub words_faults : Layout → Words → ℕ → List (Option FaultKind)
 words_faults s words count =
-    fault_if (lacks_room count s.location) BankFull ∷ fault_if (holds_word words s.location count) PlaceTaken ∷ fault_if (is_erasable s.location) CodeInErasable ∷ []
+    fault_if (lacks_room count s.location) BankFull ∷ fault_if (holds_word words s.location count) PlaceTaken
+    ∷ fault_if (is_erasable s.location) CodeInErasable ∷ []
 
 -- the faults of a line that gives so many words, where these stand before it
 abbrev pub tested_faults : Layout → Words → Label → ℕ → List FaultKind
@@ -84,13 +100,16 @@ passed s content = record s { location = after_words (width content) s.location;
 
 -- a request is put aside where a symbol of it is not defined; else its fault is held
 pub record Settles (r : Request) (words : Result (List ℕ) FaultKind) (p q : Placing) : Type 0 where
-  pub waits : map request_of q.waiting.items ≡ (if is_undefined words then map request_of p.waiting.items ++ r ∷ [] else map request_of p.waiting.items)
-  pub holds : q.fault ≡ (if is_undefined words then p.fault else lesser_on p.fault r.line (least_kind (standing (result_err words ∷ extracode_fault (extracode_of r.content) r.extracode ∷ []))))
+  pub waits : map request_of q.waiting.items ≡ (if is_undefined words then map request_of p.waiting.items ++ r
+      ∷ [] else map request_of p.waiting.items)
+  pub holds : q.fault ≡ (if is_undefined words then p.fault else lesser_on p.fault r.line
+      (least_kind (standing (result_err words ∷ extracode_fault (extracode_of r.content) r.extracode ∷ []))))
 
 -- the words of a request are placed, or zeros where it waits or has none
 pub record TakesWords (table : List (List ℕ × Value)) (r : Request) (p q : Placing) : Type 0 where
   pub in_banks : r.bank < banks
-  pub rope : q.rope ≡ with_words p.rope (placed_from r.bank r.offset (result_unwrap_or (request_words table r) (replicate (width r.content) 0)))
+  pub rope : q.rope ≡ with_words p.rope (placed_from r.bank r.offset
+      (result_unwrap_or (request_words table r) (replicate (width r.content) 0)))
   pub settles : Settles r (request_words table r) p q
   pub ends : (rs : List Request) → AreEnds p.ends rs → AreEnds q.ends (rs ++ r ∷ [])
 
@@ -104,7 +123,8 @@ TellsOn line kind fault = (fault ≡ no_memory) ⊎ ((kind ≢ NoMemory) × (fau
 
 -- lines without a fault are laid out; of others the least fault is told
 abbrev pub LaysOut : Language → List (List ℕ) → Placing → Result Held Fault → Type 0
-LaysOut language texts p (Ok l) = (layout_faults 1 (start language) texts ≡ []) × ((line : ℕ) × Agrees line (layout_after 1 (start language) texts) l p)
+LaysOut language texts p (Ok l) = (layout_faults 1 (start language) texts ≡ [])
+    × ((line : ℕ) × Agrees line (layout_after 1 (start language) texts) l p)
 LaysOut language texts p (Err fault) = Tells (least (layout_faults 1 (start language) texts)) fault
 
 -- words stand in their places, where no request has a fault; of others the least is told

@@ -4,7 +4,8 @@ use Rattle.yayul.specs.declared.language.AddressedCode.{AddressedCode}
 use Rattle.yayul.specs.declared.language.FlightOperator.{FlightOperator}
 use Rattle.yayul.specs.declared.language.FlightOperator.TheVariants as flight
 use Rattle.yayul.specs.declared.language.Operator.{Operator}
-use Rattle.yayul.specs.declared.language.Operator.TheVariants.{Setloc, Bank, Erase, Equals, Ebank, Octal, Decimal, FarAddress, Plain, Addressed, ToNext}
+use Rattle.yayul.specs.declared.language.Operator.TheVariants.{Setloc, Bank, Erase, Equals, Ebank, Octal, Decimal, FarAddress, Plain}
+use Rattle.yayul.specs.declared.language.Operator.TheVariants.{Addressed, ToNext}
 use Rattle.yayul.specs.declared.language.Takes.{Takes}
 use Rattle.yayul.specs.declared.language.Takes.TheVariants.{Address, Pair, FixedAddress, Channel, ErasablePlace, FixedPlace}
 

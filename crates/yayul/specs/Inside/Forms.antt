@@ -1,6 +1,7 @@
 -- What the code asks of the form of a line.
 use Rattle.std.specs.Prelude.{Bool, true, false, is_some}
-use Rattle.yayul.specs.Language.{Bank, Ebank, Equals, Erase, Gives, Label, Malformed, Missing, Named, NoForm, Nothing, Numeral, Operation, Setloc, Unknown}
+use Rattle.yayul.specs.Language.{Bank, Ebank, Equals, Erase, Gives, Label, Malformed, Missing, Named, NoForm, Nothing, Numeral, Operation}
+use Rattle.yayul.specs.Language.{Setloc, Unknown}
 
 -- a number, too large or not
 abbrev pub is_number : Numeral → Bool

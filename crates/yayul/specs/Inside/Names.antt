@@ -8,4 +8,5 @@ use Rattle.yayul.specs.Language.{Language, Value}
 abbrev pub shown_named : Language → List (List ℕ × Value) → Named → List (List ℕ) → List Shown → Named
 shown_named language table named [] shows = named
 shown_named language table named (text ∷ texts) [] = named
-shown_named language table named (text ∷ texts) (shown ∷ shows) = shown_named language table (line_named table named shown (given_in language text)) texts shows
+shown_named language table named (text ∷ texts) (shown ∷ shows) = shown_named language table
+    (line_named table named shown (given_in language text)) texts shows

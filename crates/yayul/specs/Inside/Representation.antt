@@ -1,5 +1,6 @@
 -- How the definitions see what the code holds.
-use Rattle.std.specs.Prelude.{ℕ, ◌+◌, ◌&&◌, ◌||◌, Bool, true, false, nat_lt, List, [], ◌∷◌, ◌++◌, get_or, Option, None, Some, Result, Ok, Err, if◌then◌else◌, refl}
+use Rattle.std.specs.Prelude.{ℕ, ◌+◌, ◌&&◌, ◌||◌, Bool, true, false, nat_lt, List, [], ◌∷◌, ◌++◌, get_or, Option, None, Some, Result, Ok}
+use Rattle.std.specs.Prelude.{Err, if◌then◌else◌, refl}
 use Rattle.std.specs.Coded.{Coded, code_by, coded×, coded_ℕ, coded_list}
 use Rattle.std.specs.FinMap as map
 use Rattle.std.specs.Option.{option_map, option_map_or}
@@ -52,7 +53,8 @@ operation_by l = option_map_or (λ f. operation_of (value_in operators f.text.no
 -- the same in the language of flight programs, where the line stands at a location
 abbrev pub flight_operation_by : Location → List ℕ → Line → Operation
 flight_operation_by here text l =
-    option_map_or (λ f. flight_operation_of here (scales_after text (option_map piece l.operand)) (flight_operator f.text.now) (arguments_of l)) l.operator Nothing
+    option_map_or (λ f. flight_operation_of here (scales_after text (option_map piece l.operand)) (flight_operator f.text.now)
+    (arguments_of l)) l.operator Nothing
 
 -- the value of a kind and a number, which may be past the last of its kind
 abbrev pub value_at : Point → Value

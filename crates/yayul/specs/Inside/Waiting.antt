@@ -31,7 +31,8 @@ abbrev pub lesser_on : Option Fault → ℕ → Option FaultKind → Option Faul
 lesser_on first line None = first
 lesser_on None line (Some kind) = Some (record { line = line; number = fault_number kind })
 lesser_on (Some first) line (Some kind) =
-    Some (if is_before (record { line = line; number = fault_number kind }) first then record { line = line; number = fault_number kind } else first)
+    Some (if is_before (record { line = line; number = fault_number kind }) first then record { line = line; number = fault_number kind }
+    else first)
 
 -- the words of the requests of lines below a number stand in a rope, and their least fault is held, but for those of the requests that wait
 pub record Holds (line : ℕ) (table : List (List ℕ × Value)) (rs waiting : List Request) (words : Words) (told : Option Fault) : Type 0 where

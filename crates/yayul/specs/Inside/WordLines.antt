@@ -25,7 +25,8 @@ held_from lines here count = option_or (held_at lines here) (if nat_lt 1 count t
 -- a word of a line stands at a location, unless that of another does
 abbrev pub with_line : ℕ → Location → WordLines → WordLines
 with_line line here lines =
-    option_map_or (λ place. set lines (place_number place.0 place.1) (option_or (get_or lines (place_number place.0 place.1) None) (Some line))) (word_place here) lines
+    option_map_or (λ place. set lines (place_number place.0 place.1)
+    (option_or (get_or lines (place_number place.0 place.1) None) (Some line))) (word_place here) lines
 
 -- none, one or two words of a line stand from a location on
 abbrev pub with_lines : ℕ → Location → ℕ → WordLines → WordLines

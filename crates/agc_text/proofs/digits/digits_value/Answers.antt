@@ -9,8 +9,13 @@ pub loop-byte-preserved : goal.loop-byte-preserved
 loop-byte-preserved c =
     let so_far = number_from_digits c.args.base (map digit_value (take c.loop-byte.byte-index c.args.field.now)) in
     record {
-      all_digits = rw (list_all_more (is_digit c.args.base) c.args.field.now c.loop-byte.byte-index 0 (omega arith), c.loop-byte.invariant.all_digits, c.in_ok-digit.ensures.0) refl;
+      all_digits = rw (
+        list_all_more (is_digit c.args.base) c.args.field.now c.loop-byte.byte-index 0 (omega arith),
+        c.loop-byte.invariant.all_digits,
+        c.in_ok-digit.ensures.0,
+      ) refl;
       value =
           c.with_digit-number.ensures so_far c.loop-byte.invariant.value
-          ∙ ap sized (rw c.in_ok-digit.ensures.1 (value_more c.args.base c.args.field.now c.loop-byte.byte-index so_far (omega arith) refl));
+          ∙ ap sized (rw c.in_ok-digit.ensures.1 (value_more c.args.base c.args.field.now c.loop-byte.byte-index so_far (omega arith)
+          refl));
     }

@@ -8,7 +8,8 @@ below : (c : goal.In_ok-digit) → c.in_ok-digit.digit < c.args.base
 below c = rw c.in_ok-digit.ensures.1 (digit_below c.args.base _ c.in_ok-digit.ensures.0)
 
 fits : (c : goal.In_ok-digit) → c.loop-byte.value * c.args.base + c.in_ok-digit.digit < 2 ^ 64
-fits c = fits_more c.loop-byte.value c.args.base c.in_ok-digit.digit c.loop-byte.byte-index c.loop-byte.invariant.in_range (omega arith) (omega arith) (below c)
+fits c = fits_more c.loop-byte.value c.args.base c.in_ok-digit.digit c.loop-byte.byte-index c.loop-byte.invariant.in_range (omega arith)
+    (omega arith) (below c)
 
 pub overflow_mul-value : goal.overflow_mul-value
 overflow_mul-value c = omega (arith, fits c)
@@ -18,9 +19,15 @@ overflow_add-value c = omega (arith, fits c)
 
 pub loop-byte-preserved : goal.loop-byte-preserved
 loop-byte-preserved c = record {
-  in_range = in_range_more c.loop-byte.value c.args.base c.in_ok-digit.digit c.loop-byte.byte-index c.loop-byte.invariant.in_range (omega arith) (below c);
-  all_digits = rw (list_all_more (is_digit c.args.base) c.args.field.now c.loop-byte.byte-index 0 (omega arith), c.loop-byte.invariant.all_digits, c.in_ok-digit.ensures.0) refl;
-  value = rw c.in_ok-digit.ensures.1 (value_more c.args.base c.args.field.now c.loop-byte.byte-index c.loop-byte.value (omega arith) c.loop-byte.invariant.value);
+  in_range = in_range_more c.loop-byte.value c.args.base c.in_ok-digit.digit c.loop-byte.byte-index c.loop-byte.invariant.in_range
+      (omega arith) (below c);
+  all_digits = rw (
+    list_all_more (is_digit c.args.base) c.args.field.now c.loop-byte.byte-index 0 (omega arith),
+    c.loop-byte.invariant.all_digits,
+    c.in_ok-digit.ensures.0,
+  ) refl;
+  value = rw c.in_ok-digit.ensures.1 (value_more c.args.base c.args.field.now c.loop-byte.byte-index c.loop-byte.value (omega arith)
+      c.loop-byte.invariant.value);
 }
 
 pub returns-clause-below : goal.returns-clause-below

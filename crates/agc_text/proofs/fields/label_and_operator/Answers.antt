@@ -6,7 +6,8 @@ use Rattle.agc_text.proofs.fields.label_and_operator.Goals as goal
 use Rattle.agc_text.proofs.fields.label_and_operator.Goals.{in_default-via-in-Some+else-label-eq0, in_default-via-in_default}
 
 pub returns-in-Some-clause-label : goal.returns-in-Some-clause-label
-returns-in-Some-clause-label c = ap (option_map piece) c.in-Some.is ∙ (label_is c.args.text.now c.in-Some.label c.in-Some.ensures.first c.if-label-eq0.true).0
+returns-in-Some-clause-label c = ap (option_map piece) c.in-Some.is
+    ∙ (label_is c.args.text.now c.in-Some.label c.in-Some.ensures.first c.if-label-eq0.true).0
 
 pub returns-in-Some-clause-operator : goal.returns-in-Some-clause-operator
 returns-in-Some-clause-operator c =

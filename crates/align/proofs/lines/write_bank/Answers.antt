@@ -19,16 +19,19 @@ pub returns-in_err-write_place-clause-written : goal.returns-in_err-write_place-
 unfolding bank_lines
 returns-in_err-write_place-clause-written g c = λ told.
     let p = err_from_is_err_and c.from_residual.result c.from_residual.ensures.1 in
-    rw p.1 (begins_parts (line_at c.args.view (sides c.args.s.pairs.now c.args.s.here.now c.args.s.back.now c.args.s.there.now) c.args.bank) c.loop-offset.offset bank_words _ _ _ c.loop-offset-test.true
+    rw p.1 (begins_parts (line_at c.args.view (sides c.args.s.pairs.now c.args.s.here.now c.args.s.back.now c.args.s.there.now) c.args.bank)
+    c.loop-offset.offset bank_words _ _ _ c.loop-offset-test.true
     (c.loop-offset.invariant.written told) (c.in_err-write_place.ensures.written told))
 
 pub loop-offset-preserved : goal.loop-offset-preserved
 loop-offset-preserved g c = record {
   words =
-      words_next c.args.s.pairs.now c.args.s.here.now c.args.bank c.loop-offset.offset c.loop-offset.words _ c.loop-offset.invariant.words c.words_with-words.ensures.is;
+      words_next c.args.s.pairs.now c.args.s.here.now c.args.bank c.loop-offset.offset c.loop-offset.words _ c.loop-offset.invariant.words
+      c.words_with-words.ensures.is;
   few = omega (arith, c.loop-offset.invariant.few, c.words_with-words.ensures.few);
   written = λ told.
-      writes_more (line_at c.args.view (sides c.args.s.pairs.now c.args.s.here.now c.args.s.back.now c.args.s.there.now) c.args.bank) c.loop-offset.offset _ _ _ (c.loop-offset.invariant.written told)
+      writes_more (line_at c.args.view (sides c.args.s.pairs.now c.args.s.here.now c.args.s.back.now c.args.s.there.now) c.args.bank)
+      c.loop-offset.offset _ _ _ (c.loop-offset.invariant.written told)
       (c.in_ok-write_place.ensures.written told);
   failures = c.in_ok-write_place.ensures.failures ∙ c.loop-offset.invariant.failures;
 }
@@ -36,8 +39,10 @@ loop-offset-preserved g c = record {
 pub returns-clause-written : goal.returns-clause-written
 unfolding bank_lines
 returns-clause-written g c = λ told.
-    front_ends (line_at c.args.view (sides c.args.s.pairs.now c.args.s.here.now c.args.s.back.now c.args.s.there.now) c.args.bank) c.loop-offset.offset bank_words _ _ (omega arith) (c.loop-offset.invariant.written told)
+    front_ends (line_at c.args.view (sides c.args.s.pairs.now c.args.s.here.now c.args.s.back.now c.args.s.there.now) c.args.bank)
+    c.loop-offset.offset bank_words _ _ (omega arith) (c.loop-offset.invariant.written told)
 
 pub write_place-requires-clause-words : goal.write_place-requires-clause-words
 write_place-requires-clause-words g c =
-    words_next c.args.s.pairs.now c.args.s.here.now c.args.bank c.loop-offset.offset c.loop-offset.words _ c.loop-offset.invariant.words c.words_with-words.ensures.is
+    words_next c.args.s.pairs.now c.args.s.here.now c.args.bank c.loop-offset.offset c.loop-offset.words _ c.loop-offset.invariant.words
+    c.words_with-words.ensures.is

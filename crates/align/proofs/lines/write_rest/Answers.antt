@@ -9,5 +9,6 @@ returns-in_err-write_renamed-clause-written g c = λ told.
 
 pub returns-clause-written : goal.returns-clause-written
 returns-clause-written g c = λ told.
-    Writes-after _ _ _ _ _ c.write_all.result (rw (c.renaming_of.ensures, c.pairing_of.ensures) at (c.in_ok-write_renamed.ensures.written told))
+    Writes-after _ _ _ _ _ c.write_all.result (rw (c.renaming_of.ensures, c.pairing_of.ensures) at
+    (c.in_ok-write_renamed.ensures.written told))
     (rw (c.as_slice-2.ensures.value, c.totals_line.ensures, c.as_slice.ensures.value) at (c.write_all.ensures.written told))

@@ -13,14 +13,18 @@ unfolding carried_lines
 returns-in_err-write_all-clause-written g c = λ told.
     let p = err_from_is_err_and c.from_residual.result c.from_residual.ensures.1 in
     rw p.1 (front-fails _ _ _ _ _ _ _ (c.loop-index.invariant.written told)
-    (texts_from (carried_line (renaming c.args.r.names.now c.args.r.back.now c.args.r.operands.now) (pairing c.args.p.own.now c.args.p.old.now c.args.p.new.now c.args.p.to_old.now c.args.p.to_new.now)) c.args.names.now c.loop-index.index (c.in-Some.entry.0.now, c.in-Some.entry.1) (sym c.in-Some.ensures.value))
+    (texts_from (carried_line (renaming c.args.r.names.now c.args.r.back.now c.args.r.operands.now)
+    (pairing c.args.p.own.now c.args.p.old.now c.args.p.new.now c.args.p.to_old.now c.args.p.to_new.now)) c.args.names.now
+    c.loop-index.index (c.in-Some.entry.0.now, c.in-Some.entry.1) (sym c.in-Some.ensures.value))
     (rw (c.as_slice.ensures.value, c.carried_line.ensures) at (c.in_err-write_all.ensures.written told)))
 
 pub loop-index-preserved : goal.loop-index-preserved
 loop-index-preserved g c = record {
   written = λ told.
       front-more _ _ _ _ _ _ _ (c.loop-index.invariant.written told)
-      (texts_from (carried_line (renaming c.args.r.names.now c.args.r.back.now c.args.r.operands.now) (pairing c.args.p.own.now c.args.p.old.now c.args.p.new.now c.args.p.to_old.now c.args.p.to_new.now)) c.args.names.now c.loop-index.index (c.in-Some.entry.0.now, c.in-Some.entry.1) (sym c.in-Some.ensures.value))
+      (texts_from (carried_line (renaming c.args.r.names.now c.args.r.back.now c.args.r.operands.now)
+      (pairing c.args.p.own.now c.args.p.old.now c.args.p.new.now c.args.p.to_old.now c.args.p.to_new.now)) c.args.names.now
+      c.loop-index.index (c.in-Some.entry.0.now, c.in-Some.entry.1) (sym c.in-Some.ensures.value))
       (rw (c.as_slice.ensures.value, c.carried_line.ensures) at (c.in_ok-write_all.ensures.written told));
   failures = c.in_ok-write_all.ensures.failures ∙ c.loop-index.invariant.failures;
 }
@@ -29,4 +33,7 @@ pub returns-clause-written : goal.returns-clause-written
 unfolding carried_lines
 returns-clause-written g c = λ told.
     let past : length c.args.names.now ≤ c.loop-index.index = omega (arith, c.loop-index-test.false, c.len-index-end.ensures) in
-    front-ends _ _ _ _ (c.loop-index.invariant.written told) (ap (flat_map (carried_line (renaming c.args.r.names.now c.args.r.back.now c.args.r.operands.now) (pairing c.args.p.own.now c.args.p.old.now c.args.p.new.now c.args.p.to_old.now c.args.p.to_new.now))) (drop_all c.loop-index.index c.args.names.now past))
+    front-ends _ _ _ _ (c.loop-index.invariant.written told)
+    (ap (flat_map (carried_line (renaming c.args.r.names.now c.args.r.back.now c.args.r.operands.now)
+    (pairing c.args.p.own.now c.args.p.old.now c.args.p.new.now c.args.p.to_old.now c.args.p.to_new.now)))
+    (drop_all c.loop-index.index c.args.names.now past))

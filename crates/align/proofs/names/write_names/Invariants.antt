@@ -9,7 +9,9 @@ use Rattle.align.proofs.names.write_names.Given as goal
 abbrev pub invariant-loop-index : goal.invariant-loop-index
 invariant-loop-index g l = record {
   written : g.W.Write.told ≡ true → IsFront (g.W.Write.written l.initial.out) (g.W.Write.written l.out)
-      (flat_map (carried_line (renaming l.r.names.now l.r.back.now l.r.operands.now) (pairing l.p.own.now l.p.old.now l.p.new.now l.p.to_old.now l.p.to_new.now)) l.names)
-      (flat_map (carried_line (renaming l.r.names.now l.r.back.now l.r.operands.now) (pairing l.p.own.now l.p.old.now l.p.new.now l.p.to_old.now l.p.to_new.now)) (drop l.index l.names));
+      (flat_map (carried_line (renaming l.r.names.now l.r.back.now l.r.operands.now)
+      (pairing l.p.own.now l.p.old.now l.p.new.now l.p.to_old.now l.p.to_new.now)) l.names)
+      (flat_map (carried_line (renaming l.r.names.now l.r.back.now l.r.operands.now)
+      (pairing l.p.own.now l.p.old.now l.p.new.now l.p.to_old.now l.p.to_new.now)) (drop l.index l.names));
   failures : g.W.Write.failures l.out ≡ g.W.Write.failures l.initial.out;
 }

@@ -6,7 +6,8 @@ use Rattle.align.proofs.tokens.operands_of.Goals as goal
 
 pub loop-bank-preserved : goal.loop-bank-preserved
 loop-bank-preserved c =
-    items_more (bank_operands c.args.rope.now) c.loop-bank.bank [] _ _ c.loop-bank.invariant (rw c.bank_of.ensures at c.in_ok-push_operands.ensures)
+    items_more (bank_operands c.args.rope.now) c.loop-bank.bank [] _ _ c.loop-bank.invariant
+    (rw c.bank_of.ensures at c.in_ok-push_operands.ensures)
 
 pub returns : goal.returns
 unfolding operands

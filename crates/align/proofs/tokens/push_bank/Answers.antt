@@ -19,10 +19,13 @@ loop-number-preserved c = record {
       c.offset_of.ensures c.loop-number.invariant.extra c.word-word.ensures c.extracode_after-extra.ensures;
   items =
       items_more (token_at c.args.names.now c.args.rope.now c.args.bank) c.loop-number.number _ _ _ c.loop-number.invariant.items
-      (rw (token_next c.args.names.now c.args.rope.now c.args.bank c.loop-number.number c.filled-filled.result c.word-word.result c.loop-number.extra c.ends_checked-checked.result c.entry.result
-      c.filled-filled.ensures.is (rw c.offset_of.ensures at c.word-word.ensures) c.loop-number.invariant.extra c.ends_checked-checked.ensures c.entry.ensures) at c.in_ok-push.ensures.items);
+      (rw (token_next c.args.names.now c.args.rope.now c.args.bank c.loop-number.number c.filled-filled.result c.word-word.result
+      c.loop-number.extra c.ends_checked-checked.result c.entry.result
+      c.filled-filled.ensures.is (rw c.offset_of.ensures at c.word-word.ensures) c.loop-number.invariant.extra
+      c.ends_checked-checked.ensures c.entry.ensures) at c.in_ok-push.ensures.items);
 }
 
 pub returns : goal.returns
 unfolding bank_tokens
-returns c = items_end (token_at c.args.names.now c.args.rope.now c.args.bank) c.loop-number.number bank_words _ _ (omega arith) c.loop-number.invariant.items
+returns c = items_end (token_at c.args.names.now c.args.rope.now c.args.bank) c.loop-number.number bank_words _ _ (omega arith)
+    c.loop-number.invariant.items

@@ -20,9 +20,11 @@ loop-number-preserved c = record {
   items =
       items_more (operand_at c.args.rope.now c.args.bank) c.loop-number.number _ _ _ c.loop-number.invariant.items
       (rw (operand_next c.args.rope.now c.args.bank c.loop-number.number c.word-word.result c.loop-number.extra c.of_erasable.result
-      (rw c.offset_of.ensures at c.word-word.ensures) c.loop-number.invariant.extra (rw c.named_address.ensures at c.of_erasable.ensures)) at c.in_ok-push.ensures.items);
+      (rw c.offset_of.ensures at c.word-word.ensures) c.loop-number.invariant.extra (rw c.named_address.ensures at c.of_erasable.ensures))
+      at c.in_ok-push.ensures.items);
 }
 
 pub returns : goal.returns
 unfolding bank_operands
-returns c = items_end (operand_at c.args.rope.now c.args.bank) c.loop-number.number bank_words _ _ (omega arith) c.loop-number.invariant.items
+returns c = items_end (operand_at c.args.rope.now c.args.bank) c.loop-number.number bank_words _ _ (omega arith)
+    c.loop-number.invariant.items

@@ -17,7 +17,8 @@ returns-then-not-has_room c = (
 
 pub loop-number-preserved : goal.loop-number-preserved
 loop-number-preserved c = record {
-  room = room_more c.args.rope.now c.loop-number.number c.loop-number.invariant.room (rw c.bank_of-bank.ensures at (sym c.has_room.ensures ∙ c.if-not-has_room.false));
+  room = room_more c.args.rope.now c.loop-number.number c.loop-number.invariant.room
+      (rw c.bank_of-bank.ensures at (sym c.has_room.ensures ∙ c.if-not-has_room.false));
   same = refl;
 }
 

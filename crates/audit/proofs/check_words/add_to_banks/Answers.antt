@@ -6,7 +6,9 @@ pub loop-number-init : goal.loop-number-init
 loop-number-init c = checks_none c.args.rope.now
 
 pub add_to_bank-requires-clause-room : goal.add_to_bank-requires-clause-room
-add_to_bank-requires-clause-room c = rw (c.loop-number.invariant, c.bank_of.ensures) (room_later c.args.rope.now c.loop-number.number c.loop-number-test.true c.requires)
+add_to_bank-requires-clause-room c = rw (c.loop-number.invariant, c.bank_of.ensures)
+    (room_later c.args.rope.now c.loop-number.number c.loop-number-test.true c.requires)
 
 pub loop-number-preserved : goal.loop-number-preserved
-loop-number-preserved c = (rw (c.loop-number.invariant, c.bank_of.ensures) at c.add_to_bank.ensures) ∙ sym (more c.args.rope.now c.loop-number.number)
+loop-number-preserved c = (rw (c.loop-number.invariant, c.bank_of.ensures) at c.add_to_bank.ensures)
+    ∙ sym (more c.args.rope.now c.loop-number.number)

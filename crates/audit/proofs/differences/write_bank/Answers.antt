@@ -21,7 +21,8 @@ pub returns-in_err-count-clause-written : goal.returns-in_err-count-clause-writt
 unfolding differing_in
 returns-in_err-count-clause-written g c = λ told.
     let p = err_from_is_err_and c.from_residual.result c.from_residual.ensures.1 in
-    rw p.1 (begins_places c.args.old.now c.args.new.now (differing_at c.args.extent c.args.old.now c.args.new.now c.args.bank) c.loop-number.number bank_words _ _ _
+    rw p.1 (begins_places c.args.old.now c.args.new.now (differing_at c.args.extent c.args.old.now c.args.new.now c.args.bank)
+    c.loop-number.number bank_words _ _ _
     c.loop-number-test.true (c.loop-number.invariant.written told) (rw c.offset_of-offset.ensures at (c.in_err-count.ensures.written told)))
 
 pub loop-number-preserved : goal.loop-number-preserved
@@ -30,14 +31,17 @@ loop-number-preserved g c = record {
       extracode_next c.args.old.now c.args.bank c.loop-number.number c.offset_of-offset.result c.word.result c.loop-number.extra.0 _
       c.offset_of-offset.ensures c.loop-number.invariant.old c.word.ensures c.extracode_after.ensures;
   new =
-      extracode_next c.args.new.now c.args.bank c.loop-number.number c.offset_of-offset.result c.word-in-loop-number.result c.loop-number.extra.1 _
+      extracode_next c.args.new.now c.args.bank c.loop-number.number c.offset_of-offset.result c.word-in-loop-number.result
+      c.loop-number.extra.1 _
       c.offset_of-offset.ensures c.loop-number.invariant.new c.word-in-loop-number.ensures c.extracode_after-in-loop-number.ensures;
   count =
-      count_more (differing_at c.args.extent c.args.old.now c.args.new.now c.args.bank) c.loop-number.number c.loop-number.count c.in_ok-count.field-0
+      count_more (differing_at c.args.extent c.args.old.now c.args.new.now c.args.bank) c.loop-number.number c.loop-number.count
+      c.in_ok-count.field-0
       c.loop-number.invariant.count (rw c.offset_of-offset.ensures at c.in_ok-count.ensures.count);
   few = omega (arith, c.loop-number.invariant.few, c.in_ok-count.ensures.few);
   written = λ told.
-      writes_places c.args.old.now c.args.new.now (differing_at c.args.extent c.args.old.now c.args.new.now c.args.bank) c.loop-number.number _ _ _
+      writes_places c.args.old.now c.args.new.now (differing_at c.args.extent c.args.old.now c.args.new.now c.args.bank)
+      c.loop-number.number _ _ _
       (c.loop-number.invariant.written told) (rw c.offset_of-offset.ensures at (c.in_ok-count.ensures.written told));
   failures = c.in_ok-count.ensures.failures ∙ c.loop-number.invariant.failures;
 }
@@ -45,10 +49,12 @@ loop-number-preserved g c = record {
 pub returns-clause-written : goal.returns-clause-written
 unfolding differing_in
 returns-clause-written g c = λ told.
-    places_end c.args.old.now c.args.new.now (differing_at c.args.extent c.args.old.now c.args.new.now c.args.bank) c.loop-number.number bank_words _ _ (omega arith)
+    places_end c.args.old.now c.args.new.now (differing_at c.args.extent c.args.old.now c.args.new.now c.args.bank) c.loop-number.number
+    bank_words _ _ (omega arith)
     (c.loop-number.invariant.written told)
 
 pub returns-clause-count : goal.returns-clause-count
 unfolding differing_in
 returns-clause-count g c =
-    count_ends (differing_at c.args.extent c.args.old.now c.args.new.now c.args.bank) c.loop-number.number bank_words c.loop-number.count (omega arith) c.loop-number.invariant.count
+    count_ends (differing_at c.args.extent c.args.old.now c.args.new.now c.args.bank) c.loop-number.number bank_words c.loop-number.count
+    (omega arith) c.loop-number.invariant.count

@@ -10,6 +10,7 @@ invariant-loop-number g l = record {
   new : l.extra.1 ≡ extracode_at l.new l.bank l.number;
   count : l.count ≡ length (front (differing_at l.extent l.old l.new l.bank) l.number);
   few : l.count ≤ l.number;
-  written : g.W.Write.told ≡ true → g.W.Write.written l.out ≡ g.W.Write.written l.initial.out ++ difference_lines l.old l.new (front (differing_at l.extent l.old l.new l.bank) l.number);
+  written : g.W.Write.told ≡ true → g.W.Write.written l.out
+      ≡ g.W.Write.written l.initial.out ++ difference_lines l.old l.new (front (differing_at l.extent l.old l.new l.bank) l.number);
   failures : g.W.Write.failures l.out ≡ g.W.Write.failures l.initial.out;
 }

@@ -18,7 +18,8 @@ pub returns-in_err-count-clause-written : goal.returns-in_err-count-clause-writt
 unfolding differing
 returns-in_err-count-clause-written g c = λ told.
     let p = err_from_is_err_and c.from_residual.result c.from_residual.ensures.1 in
-    rw p.1 (begins_places c.args.old.now c.args.new.now (differing_in c.args.extent c.args.old.now c.args.new.now) c.loop-bank.bank banks _ _ _
+    rw p.1 (begins_places c.args.old.now c.args.new.now (differing_in c.args.extent c.args.old.now c.args.new.now) c.loop-bank.bank banks _
+    _ _
     c.loop-bank-test.true (c.loop-bank.invariant.written told) (rw c.bank_of.ensures at (c.in_err-count.ensures.written told)))
 
 pub loop-bank-preserved : goal.loop-bank-preserved
@@ -36,10 +37,12 @@ loop-bank-preserved g c = record {
 pub returns-clause-written : goal.returns-clause-written
 unfolding differing
 returns-clause-written g c = λ told.
-    places_end c.args.old.now c.args.new.now (differing_in c.args.extent c.args.old.now c.args.new.now) c.loop-bank.bank banks _ _ (omega arith)
+    places_end c.args.old.now c.args.new.now (differing_in c.args.extent c.args.old.now c.args.new.now) c.loop-bank.bank banks _ _
+    (omega arith)
     (c.loop-bank.invariant.written told)
 
 pub returns-clause-count : goal.returns-clause-count
 unfolding differing
 returns-clause-count g c =
-    count_ends (differing_in c.args.extent c.args.old.now c.args.new.now) c.loop-bank.bank banks c.loop-bank.count (omega arith) c.loop-bank.invariant.count
+    count_ends (differing_in c.args.extent c.args.old.now c.args.new.now) c.loop-bank.bank banks c.loop-bank.count (omega arith)
+    c.loop-bank.invariant.count

@@ -7,6 +7,7 @@ abbrev pub invariant-loop-bank : goal.invariant-loop-bank
 invariant-loop-bank g l = record {
   count : l.count ≡ length (front (differing_in l.extent l.old l.new) l.bank);
   few : l.count ≤ 1024 * l.bank;
-  written : g.W.Write.told ≡ true → g.W.Write.written l.out ≡ g.W.Write.written l.initial.out ++ difference_lines l.old l.new (front (differing_in l.extent l.old l.new) l.bank);
+  written : g.W.Write.told ≡ true → g.W.Write.written l.out
+      ≡ g.W.Write.written l.initial.out ++ difference_lines l.old l.new (front (differing_in l.extent l.old l.new) l.bank);
   failures : g.W.Write.failures l.out ≡ g.W.Write.failures l.initial.out;
 }

@@ -7,5 +7,6 @@ loop-number-init c = sym (form_sum_first c.args.order c.args.version c.args.rope
 
 pub loop-number-preserved : goal.loop-number-preserved
 loop-number-preserved c =
-    form_sum_next c.args.order c.args.version c.args.rope.now c.args.bank c.loop-number.number c.offset_of.result c.word-word.result c.form_word.result c.loop-number.total c.added-total.result
+    form_sum_next c.args.order c.args.version c.args.rope.now c.args.bank c.loop-number.number c.offset_of.result c.word-word.result
+    c.form_word.result c.loop-number.total c.added-total.result
     c.offset_of.ensures c.loop-number.invariant c.word-word.ensures c.form_word.ensures c.added-total.ensures

@@ -8,7 +8,8 @@ use Rattle.audit.proofs.form_sums.write_form_sums.Goals as goal
 pub returns-in_err-write_all-clause-written : goal.returns-in_err-write_all-clause-written
 returns-in_err-write_all-clause-written g c = λ told.
     let p = err_from_is_err_and c.from_residual.result c.from_residual.ensures.1 in
-    rw p.1 (begins_parts (form_line c.args.version c.args.rope.now) c.loop-number.number banks _ _ _ c.loop-number-test.true (c.loop-number.invariant.written told)
+    rw p.1 (begins_parts (form_line c.args.version c.args.rope.now) c.loop-number.number banks _ _ _ c.loop-number-test.true
+    (c.loop-number.invariant.written told)
     (rw (c.as_slice.ensures.value, c.form_line.ensures, c.bank_of.ensures) at (c.in_err-write_all.ensures.written told)))
 
 pub loop-number-preserved : goal.loop-number-preserved

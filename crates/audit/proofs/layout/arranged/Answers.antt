@@ -10,4 +10,5 @@ loop-number-preserved c =
 
 pub returns : goal.returns
 unfolding arranged
-returns c = items_end (part_in c.args.layout c.args.bytes.now) c.loop-number.number (length c.args.bytes.now) [] _ (omega arith) c.loop-number.invariant
+returns c = items_end (part_in c.args.layout c.args.bytes.now) c.loop-number.number (length c.args.bytes.now) [] _ (omega arith)
+    c.loop-number.invariant

@@ -8,7 +8,8 @@ pub returns-in_err-write_all-clause-written : goal.returns-in_err-write_all-clau
 unfolding mended_bank
 returns-in_err-write_all-clause-written g c = λ told.
     let p = err_from_is_err_and c.from_residual.result c.from_residual.ensures.1 in
-    rw p.1 (beginning-longer _ _ (bank_line c.args.bank) (mended_lines c.args.image.now c.args.turned c.args.bank) (rw (c.as_slice.ensures.value, c.bank_line.ensures) at (c.in_err-write_all.ensures.written told)))
+    rw p.1 (beginning-longer _ _ (bank_line c.args.bank) (mended_lines c.args.image.now c.args.turned c.args.bank)
+    (rw (c.as_slice.ensures.value, c.bank_line.ensures) at (c.in_err-write_all.ensures.written told)))
 
 pub returns-clause-written : goal.returns-clause-written
 unfolding mended_bank

@@ -8,7 +8,8 @@ use Rattle.audit.proofs.mended.write_banks.Goals as goal
 pub returns-in_err-write_bank-clause-written : goal.returns-in_err-write_bank-clause-written
 returns-in_err-write_bank-clause-written g c = λ told.
     let p = err_from_is_err_and c.from_residual.result c.from_residual.ensures.1 in
-    rw p.1 (begins_parts (mended_bank c.args.image.now c.args.turned) c.loop-number.number banks _ _ _ c.loop-number-test.true (c.loop-number.invariant.written told)
+    rw p.1 (begins_parts (mended_bank c.args.image.now c.args.turned) c.loop-number.number banks _ _ _ c.loop-number-test.true
+    (c.loop-number.invariant.written told)
     (rw c.bank_of.ensures at (c.in_err-write_bank.ensures.written told)))
 
 pub loop-number-preserved : goal.loop-number-preserved

@@ -5,6 +5,7 @@ use Rattle.audit.proofs.mended.write_banks.Given as goal
 
 abbrev pub invariant-loop-number : goal.invariant-loop-number
 invariant-loop-number g l = record {
-  written : g.W.Write.told ≡ true → g.W.Write.written l.out ≡ g.W.Write.written l.initial.out ++ front (mended_bank l.image l.turned) l.number;
+  written : g.W.Write.told ≡ true → g.W.Write.written l.out
+      ≡ g.W.Write.written l.initial.out ++ front (mended_bank l.image l.turned) l.number;
   failures : g.W.Write.failures l.out ≡ g.W.Write.failures l.initial.out;
 }

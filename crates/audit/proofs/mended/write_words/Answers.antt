@@ -9,7 +9,8 @@ pub returns-in_err-write_all-clause-written : goal.returns-in_err-write_all-clau
 unfolding mended_lines
 returns-in_err-write_all-clause-written g c = λ told.
     let p = err_from_is_err_and c.from_residual.result c.from_residual.ensures.1 in
-    rw p.1 (begins_parts (mended_line c.args.image.now c.args.turned c.args.bank) c.loop-number.number bank_words _ _ _ c.loop-number-test.true (c.loop-number.invariant.written told)
+    rw p.1 (begins_parts (mended_line c.args.image.now c.args.turned c.args.bank) c.loop-number.number bank_words _ _ _
+    c.loop-number-test.true (c.loop-number.invariant.written told)
     (rw (c.as_slice.ensures.value, c.mended_line.ensures, c.offset_of.ensures) at (c.in_err-write_all.ensures.written told)))
 
 pub loop-number-preserved : goal.loop-number-preserved
@@ -23,4 +24,5 @@ loop-number-preserved g c = record {
 pub returns-clause-written : goal.returns-clause-written
 unfolding mended_lines
 returns-clause-written g c = λ told.
-    front_ends (mended_line c.args.image.now c.args.turned c.args.bank) c.loop-number.number bank_words _ _ (omega arith) (c.loop-number.invariant.written told)
+    front_ends (mended_line c.args.image.now c.args.turned c.args.bank) c.loop-number.number bank_words _ _ (omega arith)
+    (c.loop-number.invariant.written told)

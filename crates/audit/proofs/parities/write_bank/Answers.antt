@@ -41,4 +41,5 @@ returns-clause-written g c = λ told.
 pub returns-clause-count : goal.returns-clause-count
 unfolding wrong_in
 returns-clause-count g c =
-    count_ends (wrong_at c.args.image.now c.args.bank) c.loop-number.number bank_words c.loop-number.count (omega arith) c.loop-number.invariant.count
+    count_ends (wrong_at c.args.image.now c.args.bank) c.loop-number.number bank_words c.loop-number.count (omega arith)
+    c.loop-number.invariant.count

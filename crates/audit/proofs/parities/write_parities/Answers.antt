@@ -9,14 +9,16 @@ pub returns-clause-written : goal.returns-clause-written
 unfolding parities
 returns-clause-written g c = λ told.
     append-then _ _ _ _ _ (c.in_ok-count.ensures.written told)
-    (rw (c.as_slice.ensures.value ∙ c.count_line.ensures ∙ ap count_line c.in_ok-count.ensures.count) at (c.in_ok-write_all.ensures.written told))
+    (rw (c.as_slice.ensures.value ∙ c.count_line.ensures ∙ ap count_line c.in_ok-count.ensures.count) at
+    (c.in_ok-write_all.ensures.written told))
 
 pub returns-in_err-write_all-clause-written : goal.returns-in_err-write_all-clause-written
 unfolding parities
 returns-in_err-write_all-clause-written g c = λ told.
     let p = err_from_is_err_and c.from_residual-in_err-write_all.result c.from_residual-in_err-write_all.ensures.1 in
     rw p.1 (beginning-after _ _ _ _ _ (c.in_ok-count.ensures.written told)
-    (rw (c.as_slice.ensures.value ∙ c.count_line.ensures ∙ ap count_line c.in_ok-count.ensures.count) at (c.in_err-write_all.ensures.written told)))
+    (rw (c.as_slice.ensures.value ∙ c.count_line.ensures ∙ ap count_line c.in_ok-count.ensures.count) at
+    (c.in_err-write_all.ensures.written told)))
 
 pub returns-in_err-count-clause-written : goal.returns-in_err-count-clause-written
 unfolding parities

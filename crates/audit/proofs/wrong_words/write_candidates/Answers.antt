@@ -18,7 +18,8 @@ loop-bit-init g c = record {
 pub returns-in_err-before-clause-written : goal.returns-in_err-before-clause-written
 returns-in_err-before-clause-written g c = λ told.
     let p = err_from_is_err_and c.from_residual.result c.from_residual.ensures.1 in
-    rw p.1 (begins_parts (candidate_text c.args.image.now c.args.turned c.args.bank c.args.word) c.loop-bit.bit 16 _ _ _ c.loop-bit-test.true (c.loop-bit.invariant.written told)
+    rw p.1 (begins_parts (candidate_text c.args.image.now c.args.turned c.args.bank c.args.word) c.loop-bit.bit 16 _ _ _
+    c.loop-bit-test.true (c.loop-bit.invariant.written told)
     (c.in_err-before.ensures.written told))
 
 pub loop-bit-preserved : goal.loop-bit-preserved
@@ -26,7 +27,8 @@ loop-bit-preserved g c = record {
   before = c.in_ok-before.ensures.count;
   few = omega (arith, c.loop-bit.invariant.few, c.in_ok-before.ensures.few);
   written = λ told.
-      writes_more (candidate_text c.args.image.now c.args.turned c.args.bank c.args.word) c.loop-bit.bit _ _ _ (c.loop-bit.invariant.written told)
+      writes_more (candidate_text c.args.image.now c.args.turned c.args.bank c.args.word) c.loop-bit.bit _ _ _
+      (c.loop-bit.invariant.written told)
       (c.in_ok-before.ensures.written told);
   failures = c.in_ok-before.ensures.failures ∙ c.loop-bit.invariant.failures;
 }

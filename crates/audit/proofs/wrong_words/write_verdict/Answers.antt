@@ -9,7 +9,8 @@ pub returns-in_err-write_candidates-clause-written : goal.returns-in_err-write_c
 returns-in_err-write_candidates-clause-written g c = λ written.
     let p = err_from_is_err_and c.from_residual.result c.from_residual.ensures.1 in
     rw (sym c.requires.told ∙ c.if-not-told.false)
-    (rw p.1 (beginning-longer _ _ (candidates c.args.image.now c.args.turned c.args.bank c.args.word) (codes " BY THE SUM\n") (c.in_err-write_candidates.ensures.written written)))
+    (rw p.1 (beginning-longer _ _ (candidates c.args.image.now c.args.turned c.args.bank c.args.word) (codes " BY THE SUM\n")
+    (c.in_err-write_candidates.ensures.written written)))
 
 pub returns-clause-written : goal.returns-clause-written
 returns-clause-written g c = λ written.

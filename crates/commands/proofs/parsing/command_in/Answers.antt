@@ -7,6 +7,10 @@ use Rattle.commands.proofs.parsing.command_in.Goals as goal
 
 pub returns-in-Some-split_field-3 : goal.returns-in-Some-split_field-3
 returns-in-Some-split_field-3 c =
-    let all : texts (runs c.args.rest.now) ≡ c.in-Some.first.now ∷ c.in-Some-split_field.second.now ∷ c.in-Some-split_field-2.third.now ∷ c.in-Some-split_field-3.field-0.0.now ∷ texts (runs c.in-Some-split_field-3.field-0.1.now) =
-    c.in-Some.ensures ∙ ap (λ more. c.in-Some.first.now ∷ more) (c.in-Some-split_field.ensures ∙ ap (λ more. c.in-Some-split_field.second.now ∷ more) (c.in-Some-split_field-2.ensures ∙ ap (λ more. c.in-Some-split_field-2.third.now ∷ more) c.in-Some-split_field-3.ensures)) in
-    sym (ap (λ more. option_and_then (λ (form : Form). form more) (value_in (forms c.args.symbols.now) c.args.name.now)) all ∙ too-many _ _ _ _ _ _ _)
+    let all : texts (runs c.args.rest.now) ≡ c.in-Some.first.now ∷ c.in-Some-split_field.second.now ∷ c.in-Some-split_field-2.third.now
+    ∷ c.in-Some-split_field-3.field-0.0.now ∷ texts (runs c.in-Some-split_field-3.field-0.1.now) =
+    c.in-Some.ensures ∙ ap (λ more. c.in-Some.first.now ∷ more)
+    (c.in-Some-split_field.ensures ∙ ap (λ more. c.in-Some-split_field.second.now ∷ more)
+    (c.in-Some-split_field-2.ensures ∙ ap (λ more. c.in-Some-split_field-2.third.now ∷ more) c.in-Some-split_field-3.ensures)) in
+    sym (ap (λ more. option_and_then (λ (form : Form). form more) (value_in (forms c.args.symbols.now) c.args.name.now)) all
+    ∙ too-many _ _ _ _ _ _ _)

@@ -10,5 +10,6 @@ returns-then-is_no_octal-2-clause-short c =
 pub returns-in-Some-clause-short : goal.returns-in-Some-clause-short
 returns-in-Some-clause-short c =
     let after_first = others-short 80 _ c.in_ok-first.first.now (texts (runs c.in_ok-first.rest.now)) c.requires c.in_ok-first.ensures in
-    let after_second = others-short 80 _ c.in_ok-second.second.now (texts (runs c.in_ok-second.rest.now)) after_first c.in_ok-second.ensures in
+    let after_second = others-short 80 _ c.in_ok-second.second.now (texts (runs c.in_ok-second.rest.now)) after_first c.in_ok-second.ensures
+    in
     first-short 80 _ c.in-Some.third.now (texts (runs c.in-Some.field-0-1.now)) after_second c.in-Some.ensures

@@ -3,7 +3,8 @@ use Rattle.commands.proofs.ExtendedLaws.{first-short, others-short}
 use Rattle.commands.proofs.refusal.number_not_octal.Goals as goal
 
 pub first_not_octal-requires : goal.first_not_octal-requires
-first_not_octal-requires c = others-short 80 _ c.in_ok-first.first.now (texts (runs c.in_ok-first.more.now)) c.requires c.in_ok-first.ensures
+first_not_octal-requires c = others-short 80 _ c.in_ok-first.first.now (texts (runs c.in_ok-first.more.now)) c.requires
+    c.in_ok-first.ensures
 
 pub returns-in-Some-clause-short : goal.returns-in-Some-clause-short
 returns-in-Some-clause-short c =

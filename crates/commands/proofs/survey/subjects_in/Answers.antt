@@ -12,11 +12,15 @@ fields-init c = record {
 
 pub returns-in_default : goal.returns-in_default
 returns-in_default c =
-    c.if_all_read.ensures ∙ all_found c.args.symbols.now (texts (runs c.args.rest.now)) c.fields.subjects (texts (runs c.fields.left.now)) c.in_default.ensures.found c.fields.invariant.so_far
+    c.if_all_read.ensures ∙ all_found c.args.symbols.now (texts (runs c.args.rest.now)) c.fields.subjects (texts (runs c.fields.left.now))
+    c.in_default.ensures.found c.fields.invariant.so_far
 
 pub fields-preserved : goal.fields-preserved
 fields-preserved c = record {
-  few = still_few c.args.symbols.now (texts (runs c.args.rest.now)) c.fields.subjects _ c.in-Some.subject c.fields.invariant.few (sym c.is_full.ensures.value ∙ c.if-is_full.false) c.push.ensures;
+  few = still_few c.args.symbols.now (texts (runs c.args.rest.now)) c.fields.subjects _ c.in-Some.subject c.fields.invariant.few
+      (sym c.is_full.ensures.value ∙ c.if-is_full.false) c.push.ensures;
   short = c.in-Some.ensures.short;
-  so_far = one_more c.args.symbols.now (texts (runs c.args.rest.now)) c.fields.subjects _ (texts (runs c.fields.left.now)) c.in-Some.subject (texts (runs c.in-Some.more.now)) c.fields.invariant.few (sym c.is_full.ensures.value ∙ c.if-is_full.false) c.in-Some.ensures.found c.push.ensures c.fields.invariant.so_far;
+  so_far = one_more c.args.symbols.now (texts (runs c.args.rest.now)) c.fields.subjects _ (texts (runs c.fields.left.now)) c.in-Some.subject
+      (texts (runs c.in-Some.more.now)) c.fields.invariant.few (sym c.is_full.ensures.value ∙ c.if-is_full.false) c.in-Some.ensures.found
+      c.push.ensures c.fields.invariant.so_far;
 }

@@ -8,4 +8,5 @@ both-short : (a b : ℕ) → (leb a 48 && leb b 48) ≡ true → (a ≤ 48) × (
 both-short a b h = (grind (arith, nat_tests), grind (arith, nat_tests))
 
 pub returns-then-eq-clause-short : goal.returns-then-eq-clause-short
-returns-then-eq-clause-short c = both-short _ _ (AllPass-from_list_all is_short_row c.args.rows.now c.requires c.loop-text.text-index _ (omega arith))
+returns-then-eq-clause-short c = both-short _ _
+    (AllPass-from_list_all is_short_row c.args.rows.now c.requires c.loop-text.text-index _ (omega arith))

@@ -19,7 +19,8 @@ pub returns-in_err-write_word-clause-written : goal.returns-in_err-write_word-cl
 unfolding image_rows_of
 returns-in_err-write_word-clause-written g c = λ told.
     let p = err_from_is_err_and c.from_residual.result c.from_residual.ensures.1 in
-    rw p.1 (begins_parts (image_row c.args.notation c.args.names.now (figures_at c.args.tally.now) c.args.rope.now c.args.bank) c.loop-number.number bank_words _ _ _ c.loop-number-test.true (c.loop-number.invariant.written told)
+    rw p.1 (begins_parts (image_row c.args.notation c.args.names.now (figures_at c.args.tally.now) c.args.rope.now c.args.bank)
+    c.loop-number.number bank_words _ _ _ c.loop-number-test.true (c.loop-number.invariant.written told)
     (rw c.offset_of-offset.ensures at (c.in_err-write_word.ensures.written told)))
 
 pub loop-number-preserved : goal.loop-number-preserved
@@ -28,7 +29,8 @@ loop-number-preserved g c = record {
       extracode_next c.args.rope.now c.args.bank c.loop-number.number c.offset_of-offset.result c.word.result c.loop-number.extra _
       c.offset_of-offset.ensures c.loop-number.invariant.extra c.word.ensures c.extracode_after-extra.ensures;
   written = λ told.
-      writes_more (image_row c.args.notation c.args.names.now (figures_at c.args.tally.now) c.args.rope.now c.args.bank) c.loop-number.number _ _ _ (c.loop-number.invariant.written told)
+      writes_more (image_row c.args.notation c.args.names.now (figures_at c.args.tally.now) c.args.rope.now c.args.bank)
+      c.loop-number.number _ _ _ (c.loop-number.invariant.written told)
       (rw c.offset_of-offset.ensures at (c.in_ok-write_word.ensures.written told));
   failures = c.in_ok-write_word.ensures.failures ∙ c.loop-number.invariant.failures;
 }
@@ -36,4 +38,5 @@ loop-number-preserved g c = record {
 pub returns-clause-written : goal.returns-clause-written
 unfolding image_rows_of
 returns-clause-written g c = λ told.
-    front_ends (image_row c.args.notation c.args.names.now (figures_at c.args.tally.now) c.args.rope.now c.args.bank) c.loop-number.number bank_words _ _ (omega arith) (c.loop-number.invariant.written told)
+    front_ends (image_row c.args.notation c.args.names.now (figures_at c.args.tally.now) c.args.rope.now c.args.bank) c.loop-number.number
+    bank_words _ _ (omega arith) (c.loop-number.invariant.written told)

@@ -8,6 +8,7 @@ use Rattle.cover.proofs.image.write_bank.Given as goal
 abbrev pub invariant-loop-number : goal.invariant-loop-number
 invariant-loop-number g l = record {
   extra : l.extra ≡ extracode_at l.rope l.bank l.number;
-  written : g.W.Write.told ≡ true → g.W.Write.written l.out ≡ g.W.Write.written l.initial.out ++ front (image_row l.notation l.names (figures_at l.tally) l.rope l.bank) l.number;
+  written : g.W.Write.told ≡ true → g.W.Write.written l.out
+      ≡ g.W.Write.written l.initial.out ++ front (image_row l.notation l.names (figures_at l.tally) l.rope l.bank) l.number;
   failures : g.W.Write.failures l.out ≡ g.W.Write.failures l.initial.out;
 }

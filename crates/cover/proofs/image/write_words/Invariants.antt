@@ -6,6 +6,7 @@ use Rattle.cover.proofs.image.write_words.Given as goal
 
 abbrev pub invariant-loop-number : goal.invariant-loop-number
 invariant-loop-number g l = record {
-  written : g.W.Write.told ≡ true → g.W.Write.written l.out ≡ g.W.Write.written l.initial.out ++ front (image_rows_of l.notation l.names (figures_at l.tally) l.rope) l.number;
+  written : g.W.Write.told ≡ true → g.W.Write.written l.out
+      ≡ g.W.Write.written l.initial.out ++ front (image_rows_of l.notation l.names (figures_at l.tally) l.rope) l.number;
   failures : g.W.Write.failures l.out ≡ g.W.Write.failures l.initial.out;
 }

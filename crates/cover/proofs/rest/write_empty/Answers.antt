@@ -9,13 +9,15 @@ use Rattle.cover.proofs.rest.write_empty.Goals as goal
 pub returns-in_err-write_empty_of-clause-written : goal.returns-in_err-write_empty_of-clause-written
 returns-in_err-write_empty_of-clause-written g c = λ told.
     let p = err_from_is_err_and c.from_residual.result c.from_residual.ensures.1 in
-    rw p.1 (begins_parts (empty_rows_of c.args.notation c.args.names.now (figures_at c.args.tally.now) c.args.rope.now) c.loop-number.number selected_banks _ _ _ c.loop-number-test.true (c.loop-number.invariant.written told)
+    rw p.1 (begins_parts (empty_rows_of c.args.notation c.args.names.now (figures_at c.args.tally.now) c.args.rope.now) c.loop-number.number
+    selected_banks _ _ _ c.loop-number-test.true (c.loop-number.invariant.written told)
     (rw c.bank_of.ensures at (c.in_err-write_empty_of.ensures.written told)))
 
 pub loop-number-preserved : goal.loop-number-preserved
 loop-number-preserved g c = record {
   written = λ told.
-      writes_more (empty_rows_of c.args.notation c.args.names.now (figures_at c.args.tally.now) c.args.rope.now) c.loop-number.number _ _ _ (c.loop-number.invariant.written told)
+      writes_more (empty_rows_of c.args.notation c.args.names.now (figures_at c.args.tally.now) c.args.rope.now) c.loop-number.number _ _ _
+      (c.loop-number.invariant.written told)
       (rw c.bank_of.ensures at (c.in_ok-write_empty_of.ensures.written told));
   failures = c.in_ok-write_empty_of.ensures.failures ∙ c.loop-number.invariant.failures;
 }

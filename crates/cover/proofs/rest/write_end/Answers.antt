@@ -16,7 +16,8 @@ returns-in_err-write_figures-clause-written g c = λ told.
     let entry = figures_in c.args.notation (tally Entry) (codes "ENTRY") in
     let waiting = figures_in c.args.notation (tally Waiting) (codes "BRUPT") in
     let total = figures_in c.args.notation c.args.total (codes "TOTAL") in
-    rw p.1 (beginning-longer _ _ input (entry ++ (waiting ++ total)) (rw c.figures.ensures at (c.in_err-write_figures.ensures.written told)))
+    rw p.1 (beginning-longer _ _ input (entry ++ (waiting ++ total))
+    (rw c.figures.ensures at (c.in_err-write_figures.ensures.written told)))
 
 pub returns-in_err-write_figures-2-clause-written : goal.returns-in_err-write_figures-2-clause-written
 returns-in_err-write_figures-2-clause-written g c = λ told.
@@ -54,7 +55,10 @@ returns-clause-written g c = λ told.
     let three = g.W.Write.written c.write_figures-3.new.out in
     let end = g.W.Write.written c.write_figures-4.new.out in
     let last : Writes two end (waiting ++ total) c.write_figures-4.result =
-    Writes-after two three end waiting total c.write_figures-4.result (rw c.figures-3.ensures at (c.in_ok-write_figures-3.ensures.written told)) (c.write_figures-4.ensures.written told) in
+    Writes-after two three end waiting total c.write_figures-4.result
+    (rw c.figures-3.ensures at (c.in_ok-write_figures-3.ensures.written told)) (c.write_figures-4.ensures.written told) in
     let later : Writes one end (entry ++ (waiting ++ total)) c.write_figures-4.result =
-    Writes-after one two end entry (waiting ++ total) c.write_figures-4.result (rw c.figures-2.ensures at (c.in_ok-write_figures-2.ensures.written told)) last in
-    Writes-after old one end input (entry ++ (waiting ++ total)) c.write_figures-4.result (rw c.figures.ensures at (c.in_ok-write_figures.ensures.written told)) later
+    Writes-after one two end entry (waiting ++ total) c.write_figures-4.result
+    (rw c.figures-2.ensures at (c.in_ok-write_figures-2.ensures.written told)) last in
+    Writes-after old one end input (entry ++ (waiting ++ total)) c.write_figures-4.result
+    (rw c.figures.ensures at (c.in_ok-write_figures.ensures.written told)) later

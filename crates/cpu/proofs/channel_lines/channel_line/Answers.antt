@@ -16,29 +16,107 @@ prepend-requires-2 c =
 
 pub prepend_octal-requires-2 : goal.prepend_octal-requires-2
 prepend_octal-requires-2 c =
-    omega (arith, ap length c.new-line.ensures, longer _ _ _ c.prepend.ensures, octal_longer 5 _ _ _ c.prepend_octal.ensures, longer _ _ _ c.prepend-2.ensures)
+    omega (
+      arith,
+      ap length c.new-line.ensures,
+      longer _ _ _ c.prepend.ensures,
+      octal_longer 5 _ _ _ c.prepend_octal.ensures,
+      longer _ _ _
+          c.prepend-2.ensures,
+    )
 
 pub prepend-requires-3 : goal.prepend-requires-3
 prepend-requires-3 c =
-    omega (arith, ap length c.new-line.ensures, longer _ _ _ c.prepend.ensures, octal_longer 5 _ _ _ c.prepend_octal.ensures, longer _ _ _ c.prepend-2.ensures, octal_longer 3 _ _ _ c.prepend_octal-2.ensures)
+    omega (
+      arith,
+      ap length c.new-line.ensures,
+      longer _ _ _ c.prepend.ensures,
+      octal_longer 5 _ _ _ c.prepend_octal.ensures,
+      longer _ _ _
+          c.prepend-2.ensures,
+      octal_longer 3 _ _ _ c.prepend_octal-2.ensures,
+    )
 
 pub prepend-requires-4 : goal.prepend-requires-4
 prepend-requires-4 c =
-    omega (arith, ap length c.new-line.ensures, longer _ _ _ c.prepend.ensures, octal_longer 5 _ _ _ c.prepend_octal.ensures, longer _ _ _ c.prepend-2.ensures, octal_longer 3 _ _ _ c.prepend_octal-2.ensures, longer _ _ _ c.prepend-3.ensures)
+    omega (
+      arith,
+      ap length c.new-line.ensures,
+      longer _ _ _ c.prepend.ensures,
+      octal_longer 5 _ _ _ c.prepend_octal.ensures,
+      longer _ _ _
+          c.prepend-2.ensures,
+      octal_longer 3 _ _ _ c.prepend_octal-2.ensures,
+      longer _ _ _ c.prepend-3.ensures,
+    )
 
 pub prepend-requires-5 : goal.prepend-requires-5
 prepend-requires-5 c =
-    omega (arith, ap length c.new-line.ensures, longer _ _ _ c.prepend.ensures, octal_longer 5 _ _ _ c.prepend_octal.ensures, longer _ _ _ c.prepend-2.ensures, octal_longer 3 _ _ _ c.prepend_octal-2.ensures, longer _ _ _ c.prepend-3.ensures, longer _ _ _ c.prepend-4.ensures)
+    omega (
+      arith,
+      ap length c.new-line.ensures,
+      longer _ _ _ c.prepend.ensures,
+      octal_longer 5 _ _ _ c.prepend_octal.ensures,
+      longer _ _ _
+          c.prepend-2.ensures,
+      octal_longer 3 _ _ _ c.prepend_octal-2.ensures,
+      longer _ _ _ c.prepend-3.ensures,
+      longer _ _ _
+          c.prepend-4.ensures,
+    )
 
 pub prepend-requires-6 : goal.prepend-requires-6
 prepend-requires-6 c =
-    omega (arith, ap length c.new-line.ensures, longer _ _ _ c.prepend.ensures, octal_longer 5 _ _ _ c.prepend_octal.ensures, longer _ _ _ c.prepend-2.ensures, octal_longer 3 _ _ _ c.prepend_octal-2.ensures, longer _ _ _ c.prepend-3.ensures, longer _ _ _ c.prepend-4.ensures, longer _ _ _ c.prepend-5.ensures)
+    omega (
+      arith,
+      ap length c.new-line.ensures,
+      longer _ _ _ c.prepend.ensures,
+      octal_longer 5 _ _ _ c.prepend_octal.ensures,
+      longer _ _ _
+          c.prepend-2.ensures,
+      octal_longer 3 _ _ _ c.prepend_octal-2.ensures,
+      longer _ _ _ c.prepend-3.ensures,
+      longer _ _ _
+          c.prepend-4.ensures,
+      longer _ _ _ c.prepend-5.ensures,
+    )
 
 pub prepend_decimal-requires : goal.prepend_decimal-requires
 prepend_decimal-requires c =
-    omega (arith, ap length c.new-line.ensures, longer _ _ _ c.prepend.ensures, octal_longer 5 _ _ _ c.prepend_octal.ensures, longer _ _ _ c.prepend-2.ensures, octal_longer 3 _ _ _ c.prepend_octal-2.ensures, longer _ _ _ c.prepend-3.ensures, longer _ _ _ c.prepend-4.ensures, longer _ _ _ c.prepend-5.ensures, longer _ _ _ c.prepend-6.ensures, short_decimal c.args.output.now.cycles (omega arith))
+    omega (
+      arith,
+      ap length c.new-line.ensures,
+      longer _ _ _ c.prepend.ensures,
+      octal_longer 5 _ _ _ c.prepend_octal.ensures,
+      longer _ _ _
+          c.prepend-2.ensures,
+      octal_longer 3 _ _ _ c.prepend_octal-2.ensures,
+      longer _ _ _ c.prepend-3.ensures,
+      longer _ _ _
+          c.prepend-4.ensures,
+      longer _ _ _ c.prepend-5.ensures,
+      longer _ _ _ c.prepend-6.ensures,
+      short_decimal c.args.output.now.cycles
+          (omega arith),
+    )
 
 pub returns-clause-short : goal.returns-clause-short
 returns-clause-short c =
     let whole = ap length c.prepend_decimal.ensures ∙ length-append (decimal c.args.output.now.cycles) c.prepend-6.new.self in
-    omega (arith, whole, ap length c.new-line.ensures, longer _ _ _ c.prepend.ensures, octal_longer 5 _ _ _ c.prepend_octal.ensures, longer _ _ _ c.prepend-2.ensures, octal_longer 3 _ _ _ c.prepend_octal-2.ensures, longer _ _ _ c.prepend-3.ensures, longer _ _ _ c.prepend-4.ensures, longer _ _ _ c.prepend-5.ensures, longer _ _ _ c.prepend-6.ensures, short_decimal c.args.output.now.cycles (omega arith))
+    omega (
+      arith,
+      whole,
+      ap length c.new-line.ensures,
+      longer _ _ _ c.prepend.ensures,
+      octal_longer 5 _ _ _ c.prepend_octal.ensures,
+      longer
+          _ _ _ c.prepend-2.ensures,
+      octal_longer 3 _ _ _ c.prepend_octal-2.ensures,
+      longer _ _ _ c.prepend-3.ensures,
+      longer _ _ _
+          c.prepend-4.ensures,
+      longer _ _ _ c.prepend-5.ensures,
+      longer _ _ _ c.prepend-6.ensures,
+      short_decimal c.args.output.now.cycles
+          (omega arith),
+    )

@@ -11,7 +11,79 @@ use Rattle.cpu.proofs.dispatch.basic_entry.Goals as goal
 pub returns-clause-entry : goal.returns-clause-entry
 unfolding code_of rows_serving basic_rows
 returns-clause-entry c whole =
-    c.entry.ensures Tc ∙ entry is_apart BASIC basic_rows c.args.word ((λ _. refl, tt), (tt, (tt, ((λ _. refl, tt), (tt, ((λ _. refl, (λ _. refl, (λ _. refl, (λ _. refl, (λ _. refl, (λ _. refl, (λ _. refl, (λ _. refl, tt)))))))), ((λ _. refl, (λ _. refl, tt)), ((λ _. refl, (λ _. refl, (λ _. refl, (λ _. refl, (λ _. refl, (λ _. refl, tt)))))), ((λ _. refl, (λ _. refl, tt)), ((λ _. refl, (λ _. refl, tt)), ((λ _. refl, (λ _. refl, tt)), ((λ _. refl, (λ _. refl, tt)), ((λ _. refl, (λ _. refl, (λ _. refl, (λ _. refl, (λ _. refl, (λ _. refl, (λ _. refl, (λ _. refl, tt)))))))), ((λ _. refl, (λ _. refl, (λ _. refl, (λ _. refl, (λ _. refl, (λ _. refl, (λ _. refl, (λ _. refl, tt)))))))), ((λ _. refl, tt), (tt, ((λ _. refl, (λ _. refl, tt)), ((λ _. refl, (λ _. refl, tt)), ((λ _. refl, (λ _. refl, tt)), ((λ _. refl, (λ _. refl, tt)), ((λ _. refl, (λ _. refl, (λ _. refl, (λ _. refl, (λ _. refl, (λ _. refl, (λ _. refl, (λ _. refl, tt)))))))), ((λ _. refl, (λ _. refl, (λ _. refl, (λ _. refl, (λ _. refl, (λ _. refl, (λ _. refl, (λ _. refl, tt)))))))), tt)))))))))))))))))))))) whole (one_row false c.args.word c.requires) Tc
+    c.entry.ensures Tc ∙ entry is_apart BASIC basic_rows c.args.word (
+      (λ _. refl, tt),
+      (
+        tt,
+        (
+          tt,
+          (
+            (λ _. refl, tt),
+            (
+              tt,
+              (
+                (λ _. refl, (λ _. refl, (λ _. refl, (λ _. refl, (λ _. refl, (λ _. refl, (λ _. refl, (λ _. refl, tt)))))))),
+                (
+                  (λ _. refl, (λ _. refl, tt)),
+                  (
+                    (λ _. refl, (λ _. refl, (λ _. refl, (λ _. refl, (λ _. refl, (λ _. refl, tt)))))),
+                    (
+                      (λ _. refl, (λ _. refl, tt)),
+                      (
+                        (λ _. refl, (λ _. refl, tt)),
+                        (
+                          (λ _. refl, (λ _. refl, tt)),
+                          (
+                            (λ _. refl, (λ _. refl, tt)),
+                            (
+                              (λ _. refl, (λ _. refl, (λ _. refl, (λ _. refl, (λ _. refl, (λ _. refl, (λ _. refl, (λ _. refl, tt)))))))),
+                              (
+                                (λ _. refl, (λ _. refl, (λ _. refl, (λ _. refl, (λ _. refl, (λ _. refl, (λ _. refl, (λ _. refl, tt)))))))),
+                                (
+                                  (λ _. refl, tt),
+                                  (
+                                    tt,
+                                    (
+                                      (λ _. refl, (λ _. refl, tt)),
+                                      (
+                                        (λ _. refl, (λ _. refl, tt)),
+                                        (
+                                          (λ _. refl, (λ _. refl, tt)),
+                                          (
+                                            (λ _. refl, (λ _. refl, tt)),
+                                            (
+                                              (
+                                                λ _. refl,
+                                                (
+                                                  λ _. refl,
+                                                  (λ _. refl, (λ _. refl, (λ _. refl, (λ _. refl, (λ _. refl, (λ _. refl, tt)))))),
+                                                ),
+                                              ),
+                                              (
+                                                (λ _. refl, (λ _. refl, (λ _. refl, (λ _. refl, (λ _. refl, (λ _. refl, (λ _. refl, (λ _. refl, tt)))))))),
+                                                tt,
+                                              ),
+                                            ),
+                                          ),
+                                        ),
+                                      ),
+                                    ),
+                                  ),
+                                ),
+                              ),
+                            ),
+                          ),
+                        ),
+                      ),
+                    ),
+                  ),
+                ),
+              ),
+            ),
+          ),
+        ),
+      ),
+    ) whole (one_row false c.args.word c.requires) Tc
 
 pub returns-clause-relint : goal.returns-clause-relint
 returns-clause-relint c is = c.entry.ensures Tc ∙ ap (λ w. get_or BASIC (w / 512) Tc) is

@@ -9,4 +9,62 @@ use Rattle.cpu.proofs.dispatch.extracode.Goals as goal
 pub returns : goal.returns
 unfolding code_of rows_serving extracode_rows
 returns c =
-    c.entry.ensures Tc ∙ entry (λ _. false) EXTRACODES extracode_rows c.args.word ((λ _. refl, tt), ((λ _. refl, tt), ((λ _. refl, tt), ((λ _. refl, tt), ((λ _. refl, tt), ((λ _. refl, tt), ((λ _. refl, tt), ((λ _. refl, tt), ((λ _. refl, (λ _. refl, tt)), ((λ _. refl, (λ _. refl, (λ _. refl, (λ _. refl, (λ _. refl, (λ _. refl, tt)))))), ((λ _. refl, (λ _. refl, tt)), ((λ _. refl, (λ _. refl, tt)), ((λ _. refl, (λ _. refl, tt)), ((λ _. refl, (λ _. refl, tt)), ((λ _. refl, (λ _. refl, (λ _. refl, (λ _. refl, (λ _. refl, (λ _. refl, (λ _. refl, (λ _. refl, tt)))))))), ((λ _. refl, (λ _. refl, (λ _. refl, (λ _. refl, (λ _. refl, (λ _. refl, (λ _. refl, (λ _. refl, tt)))))))), ((λ _. refl, (λ _. refl, (λ _. refl, (λ _. refl, (λ _. refl, (λ _. refl, (λ _. refl, (λ _. refl, tt)))))))), ((λ _. refl, (λ _. refl, tt)), ((λ _. refl, (λ _. refl, (λ _. refl, (λ _. refl, (λ _. refl, (λ _. refl, tt)))))), ((λ _. refl, (λ _. refl, (λ _. refl, (λ _. refl, (λ _. refl, (λ _. refl, (λ _. refl, (λ _. refl, tt)))))))), tt)))))))))))))))))))) refl (one_row true c.args.word c.requires) Tc
+    c.entry.ensures Tc ∙ entry (λ _. false) EXTRACODES extracode_rows c.args.word (
+      (λ _. refl, tt),
+      (
+        (λ _. refl, tt),
+        (
+          (λ _. refl, tt),
+          (
+            (λ _. refl, tt),
+            (
+              (λ _. refl, tt),
+              (
+                (λ _. refl, tt),
+                (
+                  (λ _. refl, tt),
+                  (
+                    (λ _. refl, tt),
+                    (
+                      (λ _. refl, (λ _. refl, tt)),
+                      (
+                        (λ _. refl, (λ _. refl, (λ _. refl, (λ _. refl, (λ _. refl, (λ _. refl, tt)))))),
+                        (
+                          (λ _. refl, (λ _. refl, tt)),
+                          (
+                            (λ _. refl, (λ _. refl, tt)),
+                            (
+                              (λ _. refl, (λ _. refl, tt)),
+                              (
+                                (λ _. refl, (λ _. refl, tt)),
+                                (
+                                  (λ _. refl, (λ _. refl, (λ _. refl, (λ _. refl, (λ _. refl, (λ _. refl, (λ _. refl, (λ _. refl, tt)))))))),
+                                  (
+                                    (λ _. refl, (λ _. refl, (λ _. refl, (λ _. refl, (λ _. refl, (λ _. refl, (λ _. refl, (λ _. refl, tt)))))))),
+                                    (
+                                      (λ _. refl, (λ _. refl, (λ _. refl, (λ _. refl, (λ _. refl, (λ _. refl, (λ _. refl, (λ _. refl, tt)))))))),
+                                      (
+                                        (λ _. refl, (λ _. refl, tt)),
+                                        (
+                                          (λ _. refl, (λ _. refl, (λ _. refl, (λ _. refl, (λ _. refl, (λ _. refl, tt)))))),
+                                          ((λ _. refl, (λ _. refl, (λ _. refl, (λ _. refl, (λ _. refl, (λ _. refl, (λ _. refl, (λ _. refl, tt)))))))), tt),
+                                        ),
+                                      ),
+                                    ),
+                                  ),
+                                ),
+                              ),
+                            ),
+                          ),
+                        ),
+                      ),
+                    ),
+                  ),
+                ),
+              ),
+            ),
+          ),
+        ),
+      ),
+    )
+    refl (one_row true c.args.word c.requires) Tc

@@ -10,6 +10,7 @@ loop-number-preserved c =
     let requests = c.args.machine.now.requests in
     record {
       first = omega arith;
-      items = one_more (contains requests) k c.loop-number.text.items c.push_if_asked.new.text.items _ (contains requests k) refl (omega arith) so_far.items (rw c.new.ensures at c.push_if_asked.ensures.items);
+      items = one_more (contains requests) k c.loop-number.text.items c.push_if_asked.new.text.items _ (contains requests k) refl
+          (omega arith) so_far.items (rw c.new.ensures at c.push_if_asked.ensures.items);
       len = omega (arith, so_far.len, c.push_if_asked.ensures.short);
     }

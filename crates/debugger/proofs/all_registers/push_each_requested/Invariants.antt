@@ -8,6 +8,7 @@ use Rattle.debugger.proofs.all_registers.push_each_requested.Given as goal
 abbrev pub invariant-loop-number : goal.invariant-loop-number
 invariant-loop-number l = record {
   first : 1 ≤ l.number;
-  items : l.text.items ++ numbers_text (filter (contains l.machine.requests) (range_with_len l.number (11 - l.number))) ≡ l.initial.text.items ++ numbers_text (requested l.machine);
+  items : l.text.items ++ numbers_text (filter (contains l.machine.requests) (range_with_len l.number (11 - l.number)))
+      ≡ l.initial.text.items ++ numbers_text (requested l.machine);
   len : array_vec_len l.text + 21 ≤ array_vec_len l.initial.text + 21 * l.number;
 }

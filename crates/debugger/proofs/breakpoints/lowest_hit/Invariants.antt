@@ -6,4 +6,5 @@ use Rattle.debugger.specs.Stopping.{noted_step}
 use Rattle.debugger.proofs.breakpoints.lowest_hit.Given as goal
 
 abbrev pub invariant-loop-index : goal.invariant-loop-index
-invariant-loop-index l = (rope : Words) (k : ℕ) (d : _) → k < l.index → holds (noted_step l.noted k l.machine) (sight rope l.machine) (get_or l.breakpoints k d) ≡ false
+invariant-loop-index l = (rope : Words) (k : ℕ) (d : _) → k < l.index
+    → holds (noted_step l.noted k l.machine) (sight rope l.machine) (get_or l.breakpoints k d) ≡ false

@@ -7,7 +7,8 @@ use Rattle.debugger.proofs.differs.push_channels.Given as goal
 
 abbrev pub invariant-loop-number : goal.invariant-loop-number
 invariant-loop-number l = record {
-  items : l.text.items ≡ l.initial.text.items ++ flat_map (channel_line l.new) (filter (λ c. not (channel_word l.old c == channel_word l.new c)) (range_with_len 0 l.number));
+  items : l.text.items ≡ l.initial.text.items ++ flat_map (channel_line l.new)
+      (filter (λ c. not (channel_word l.old c == channel_word l.new c)) (range_with_len 0 l.number));
   count : l.count ≡ length (filter (λ c. not (channel_word l.old c == channel_word l.new c)) (range_with_len 0 l.number));
   few : l.count ≤ l.number;
   len : array_vec_len l.text ≤ 36864 + 15 * l.number;

@@ -13,7 +13,8 @@ loop-number-preserved c =
     let at : c.of_low_bits.result ≡ n = omega (arith, c.of_low_bits.ensures) in
     record {
       items = lines_more p (erasable_line c.args.new.now) n c.of_low_bits.result _ _ _ at so_far.items c.push_place-count.ensures.items;
-      count = count_more p n c.of_low_bits.result _ _ at so_far.count (ap (λ (k : ℕ). c.loop-number.count + k) c.push_place-count.ensures.count);
+      count = count_more p n c.of_low_bits.result _ _ at so_far.count
+          (ap (λ (k : ℕ). c.loop-number.count + k) c.push_place-count.ensures.count);
       few = omega (arith, so_far.few, c.push_place-count.ensures.count, at_most_one (p c.of_low_bits.result));
       len = omega (arith, so_far.len, c.push_place-count.ensures.short);
     }

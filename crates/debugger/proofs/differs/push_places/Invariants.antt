@@ -8,7 +8,8 @@ use Rattle.debugger.proofs.differs.push_places.Given as goal
 
 abbrev pub invariant-loop-number : goal.invariant-loop-number
 invariant-loop-number l = record {
-  items : l.text.items ≡ l.initial.text.items ++ flat_map (erasable_line l.new) (filter (λ p. not (get l.old p == get l.new p)) (range_with_len 0 l.number));
+  items : l.text.items ≡ l.initial.text.items ++ flat_map (erasable_line l.new)
+      (filter (λ p. not (get l.old p == get l.new p)) (range_with_len 0 l.number));
   count : l.count ≡ length (filter (λ p. not (get l.old p == get l.new p)) (range_with_len 0 l.number));
   few : l.count ≤ l.number;
   len : array_vec_len l.text ≤ 18 * l.number;

@@ -10,4 +10,5 @@ operand_part-reads-requires g c = fits_at _ c.args.session.now.scenario c.args.s
 
 pub returns-clause-items : goal.returns-clause-items
 returns-clause-items g c =
-    rw (c.index_by.ensures, c.kind_part-kind.ensures.items, c.operand_part-reads.ensures, c.in-Ok.ensures.processor, c.in-Ok.ensures.shown) refl
+    rw (c.index_by.ensures, c.kind_part-kind.ensures.items, c.operand_part-reads.ensures, c.in-Ok.ensures.processor, c.in-Ok.ensures.shown)
+    refl

@@ -9,4 +9,5 @@ pub returns-in-Enters : goal.returns-in-Enters
 returns-in-Enters c = λ fits. ap is_told (c.in-Enters.ensures fits) ∙ executes_instruction c.args.processor.now.scenario c.args.machine.now
 
 pub returns-in-Executes : goal.returns-in-Executes
-returns-in-Executes c = λ fits. ap is_told (c.in-Executes.ensures fits) ∙ executes_instruction c.args.processor.now.scenario c.args.machine.now
+returns-in-Executes c = λ fits. ap is_told (c.in-Executes.ensures fits)
+    ∙ executes_instruction c.args.processor.now.scenario c.args.machine.now

@@ -14,7 +14,9 @@ returns-in_err-write_all-clause-writes g c = λ told.
     let p = c.input-item.result in
     let rest = lines_from c.args.first (c.loop-input.count + 1) (map plain_entry (drop (i + 1) c.args.plain.now)) in
     rw failed.1 (left_broken _ _ _ _ c.as_slice.result.now rest _ (c.loop-input.invariant.written told)
-    (input_yes c.args.first c.args.plain.now c.loop-input.count i p c.loop-input-test.true (sym c.input-item.is) (is_told c.args.first p.line (rw c.from.ensures at c.if-first-from.true)) ∙ ap (λ (y : List ℕ). y ++ rest) (sym (c.as_slice.ensures.value ∙ c.input_line.ensures.items)))
+    (input_yes c.args.first c.args.plain.now c.loop-input.count i p c.loop-input-test.true (sym c.input-item.is)
+    (is_told c.args.first p.line (rw c.from.ensures at c.if-first-from.true))
+    ∙ ap (λ (y : List ℕ). y ++ rest) (sym (c.as_slice.ensures.value ∙ c.input_line.ensures.items)))
     (c.in_err-write_all.ensures.written told))
 
 pub loop-input-preserved : goal.loop-input-preserved
@@ -28,18 +30,22 @@ loop-input-preserved g c =
         written = λ told.
             let rest = lines_from c.args.first (c.loop-input.count + 1) (map plain_entry (drop (i + 1) c.args.plain.now)) in
             left_less _ _ _ _ w.as_slice.result.now rest _ (c.loop-input.invariant.written told)
-            (input_yes c.args.first c.args.plain.now c.loop-input.count i p c.loop-input-test.true (sym c.input-item.is) (is_told c.args.first p.line (rw c.from.ensures at w.if-first-from.true)) ∙ ap (λ (y : List ℕ). y ++ rest) (sym (w.as_slice.ensures.value ∙ w.input_line.ensures.items)))
+            (input_yes c.args.first c.args.plain.now c.loop-input.count i p c.loop-input-test.true (sym c.input-item.is)
+            (is_told c.args.first p.line (rw c.from.ensures at w.if-first-from.true))
+            ∙ ap (λ (y : List ℕ). y ++ rest) (sym (w.as_slice.ensures.value ∙ w.input_line.ensures.items)))
             (w.in_ok-write_all.ensures.written told);
       })
       | else-first-from w ↦ rw (w.out-is, w.count-is) (record {
         few = omega (arith, c.loop-input.invariant.few);
         failures = c.loop-input.invariant.failures;
-        written = λ told. rw (← input_no c.args.first c.args.plain.now c.loop-input.count i p c.loop-input-test.true (sym c.input-item.is) (is_passed c.args.first p.line (rw c.from.ensures at w.if-first-from.false))) (c.loop-input.invariant.written told);
+        written = λ told. rw (← input_no c.args.first c.args.plain.now c.loop-input.count i p c.loop-input-test.true (sym c.input-item.is)
+            (is_passed c.args.first p.line (rw c.from.ensures at w.if-first-from.false))) (c.loop-input.invariant.written told);
       })
     ]
 
 pub returns-clause-writes : goal.returns-clause-writes
 returns-clause-writes g c = λ told.
     left_none _ _ _ _ c.as_slice-2.result.now _ _ (c.loop-input.invariant.written told)
-    (input_end c.args.first c.args.plain.now c.loop-input.count c.loop-input.input-index c.loop-input-test.false ∙ sym (c.as_slice-2.ensures.value ∙ c.number_line.ensures.items))
+    (input_end c.args.first c.args.plain.now c.loop-input.count c.loop-input.input-index c.loop-input-test.false
+    ∙ sym (c.as_slice-2.ensures.value ∙ c.number_line.ensures.items))
     (c.write_all-2.ensures.written told)

@@ -8,5 +8,6 @@ abbrev pub invariant-loop-input : goal.invariant-loop-input
 invariant-loop-input g l = record {
   few : l.count ≤ l.input-index;
   failures : g.W.Write.failures l.out ≡ g.W.Write.failures l.fn.out;
-  written : g.W.Write.told ≡ true → LeftToWrite (lines_from l.first 0 (map plain_entry l.plain)) (g.W.Write.written l.fn.out) (g.W.Write.written l.out) (lines_from l.first l.count (map plain_entry (drop l.input-index l.plain)));
+  written : g.W.Write.told ≡ true → LeftToWrite (lines_from l.first 0 (map plain_entry l.plain)) (g.W.Write.written l.fn.out)
+      (g.W.Write.written l.out) (lines_from l.first l.count (map plain_entry (drop l.input-index l.plain)));
 }

@@ -20,18 +20,22 @@ loop-number-preserved c =
       | in-Some+then-contains w ↦
           let same = cell_is number w.in-Some.cell c.loop-number-test.true w.in-Some.ensures in
           rw w.cells-is (record {
-            items = ap (λ (xs : List ℕ). xs ++ counted (contains pending) (number + 1)) (w.push.ensures.items ∙ ap (λ (n : ℕ). c.loop-number.cells.items ++ n ∷ []) same)
-                ∙ cell_taken (contains pending) number c.loop-number.cells.items (cells_of pending) (ap (contains pending) (sym same) ∙ sym w.if-contains.ensures) c.loop-number-test.true far.items;
+            items = ap (λ (xs : List ℕ). xs ++ counted (contains pending) (number + 1))
+                (w.push.ensures.items ∙ ap (λ (n : ℕ). c.loop-number.cells.items ++ n ∷ []) same)
+                ∙ cell_taken (contains pending) number c.loop-number.cells.items (cells_of pending)
+                (ap (contains pending) (sym same) ∙ sym w.if-contains.ensures) c.loop-number-test.true far.items;
             len = omega (arith, w.push.ensures.len, far.len);
           })
       | in-Some+else-contains w ↦
           let same = cell_is number w.in-Some.cell c.loop-number-test.true w.in-Some.ensures in
           rw w.cells-is (record {
-            items = cell_passed (contains pending) number c.loop-number.cells.items (cells_of pending) (ap (contains pending) (sym same) ∙ sym w.if-contains.ensures) c.loop-number-test.true far.items;
+            items = cell_passed (contains pending) number c.loop-number.cells.items (cells_of pending)
+                (ap (contains pending) (sym same) ∙ sym w.if-contains.ensures) c.loop-number-test.true far.items;
             len = omega (arith, far.len);
           })
       | in_default w ↦ absurd (has_cell_at number c.loop-number-test.true w.in_default.ensures)
     ]
 
 pub returns : goal.returns
-returns c = cells_end (contains c.args.pending.now) c.loop-number.number c.loop-number.cells.items (cells_of c.args.pending.now) (omega (arith, c.loop-number-test.false)) c.loop-number.invariant.items
+returns c = cells_end (contains c.args.pending.now) c.loop-number.number c.loop-number.cells.items (cells_of c.args.pending.now)
+    (omega (arith, c.loop-number-test.false)) c.loop-number.invariant.items

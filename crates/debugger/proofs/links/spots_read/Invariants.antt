@@ -8,6 +8,7 @@ use Rattle.debugger.proofs.links.spots_read.Given as goal
 
 abbrev pub invariant-loop-cell : goal.invariant-loop-cell
 invariant-loop-cell l = record {
-  items : with_spots l.spots.items (flat_map (λ c. sources (link l.processor.scenario l.machine) (Cell c)) (drop l.cell-index l.cells)) ≡ reads (link l.processor.scenario l.machine) l.cells;
+  items : with_spots l.spots.items (flat_map (λ c. sources (link l.processor.scenario l.machine) (Cell c)) (drop l.cell-index l.cells))
+      ≡ reads (link l.processor.scenario l.machine) l.cells;
   len : array_vec_len l.spots ≤ 6 * l.cell-index;
 }

@@ -3,27 +3,35 @@ use Rattle.cpu.specs.Run.{outs}
 use Rattle.cpu.proofs.RunLaws.{outs-zero}
 use Rattle.debugger.specs.Replies.{last_of, tail_length}
 use Rattle.debugger.specs.Conversation.{reading, is_end, effort, efforts, lines_within, most_bytes}
-use Rattle.debugger.proofs.LineByLine.{taken-none, answered-none, taken-more, answered-more, answered-kept, writes-end, writes-quit, writes-read, writes-flush, writes-part, count-end, count-quit, count-before, count-line, efforts-push, cost-more, cost-same, cost-within, reads-more, reads-none, takes-most}
+use Rattle.debugger.proofs.LineByLine.{taken-none, answered-none, taken-more, answered-more, answered-kept, writes-end, writes-quit}
+use Rattle.debugger.proofs.LineByLine.{writes-read, writes-flush, writes-part, count-end, count-quit, count-before, count-line}
+use Rattle.debugger.proofs.LineByLine.{efforts-push, cost-more, cost-same, cost-within, reads-more, reads-none, takes-most}
 use Rattle.debugger.proofs.session.converse.Goals as goal
 
 pub commands-init : goal.commands-init
 commands-init g c = record {
   within = omega (arith, c.in-Ok.ensures.0);
-  tail = c.in-Ok.ensures.2 ∙ sym (ap (λ (n : ℕ). last_of tail_length (outs c.args.session.now.scenario n)) c.requires ∙ ap (last_of tail_length) (outs-zero c.args.session.now.scenario));
+  tail = c.in-Ok.ensures.2 ∙ sym (ap (λ (n : ℕ). last_of tail_length (outs c.args.session.now.scenario n)) c.requires
+      ∙ ap (last_of tail_length) (outs-zero c.args.session.now.scenario));
   reader = refl;
   writer = refl;
   reads = λ rt. rw (c.new-reader.ensures.more, c.most_bytes.ensures) (reads-none _ _);
-  lines = λ rt. let none : 0 + most_bytes c.args.manner ≡ most_bytes c.args.manner = omega arith in rw (c.new-reader.ensures.held, c.new-reader.ensures.more, c.most_bytes.ensures, none) (taken-none _ _ _, omega arith, λ wt. rw (c.requires, c.in-Ok.ensures.0, c.in-Ok.ensures.1) (answered-none _ _));
+  lines = λ rt. let none : 0 + most_bytes c.args.manner
+      ≡ most_bytes c.args.manner = omega arith in rw
+      (c.new-reader.ensures.held, c.new-reader.ensures.more, c.most_bytes.ensures, none)
+      (taken-none _ _ _, omega arith, λ wt. rw (c.requires, c.in-Ok.ensures.0, c.in-Ok.ensures.1) (answered-none _ _));
 }
 
 pub returns-in-Err-ReadFailed-clause-answer : goal.returns-in-Err-ReadFailed-clause-answer
 returns-in-Err-ReadFailed-clause-answer g c = λ rt wt.
     let t = c.commands.invariant.lines rt in
     let failed = c.in-Err-ReadFailed.ensures in
-    writes-read _ _ _ _ _ _ _ _ t.0 (answered-kept _ (t.2 wt) (failed.written wt)) _ (record { scenario = refl; steps = refl }) _ failed.asked (failed.failed rt)
+    writes-read _ _ _ _ _ _ _ _ t.0 (answered-kept _ (t.2 wt) (failed.written wt)) _ (record { scenario = refl; steps = refl }) _
+    failed.asked (failed.failed rt)
 
 pub returns-in-Err-ReadFailed-clause-read : goal.returns-in-Err-ReadFailed-clause-read
-returns-in-Err-ReadFailed-clause-read g c = λ rt. takes-most _ _ _ _ (reads-more _ _ _ _ _ _ (c.commands.invariant.reads rt) (c.in-Err-ReadFailed.ensures.reads rt))
+returns-in-Err-ReadFailed-clause-read g c = λ rt. takes-most _ _ _ _
+    (reads-more _ _ _ _ _ _ (c.commands.invariant.reads rt) (c.in-Err-ReadFailed.ensures.reads rt))
 
 pub returns-in-Err-WriteFailed-clause-answer : goal.returns-in-Err-WriteFailed-clause-answer
 unfolding lines_within
@@ -32,14 +40,16 @@ returns-in-Err-WriteFailed-clause-answer g c = λ rt wt.
     (writes-flush _ _ _ _ _ _ _ _ t.0 (answered-kept _ (t.2 wt) (c.in-Err-WriteFailed.ensures.written wt)), tt)
 
 pub returns-in-Err-WriteFailed-clause-read : goal.returns-in-Err-WriteFailed-clause-read
-returns-in-Err-WriteFailed-clause-read g c = λ rt. takes-most _ _ _ _ (reads-more _ _ _ _ _ _ (c.commands.invariant.reads rt) (c.in-Err-WriteFailed.ensures.reads rt))
+returns-in-Err-WriteFailed-clause-read g c = λ rt. takes-most _ _ _ _
+    (reads-more _ _ _ _ _ _ (c.commands.invariant.reads rt) (c.in-Err-WriteFailed.ensures.reads rt))
 
 pub returns-then-not-some-clause-answer : goal.returns-then-not-some-clause-answer
 unfolding lines_within
 returns-then-not-some-clause-answer g c = λ rt wt.
     let t = c.commands.invariant.lines rt in
     let s : c.in-Ok-next_line.some ≡ false = search rules in
-    writes-end _ _ _ _ _ _ _ _ t.0 (answered-kept _ (t.2 wt) (c.in-Ok-next_line.ensures.written wt)) _ (record { scenario = refl; steps = refl }) (c.in-Ok-next_line.ensures.end rt (ap Ok s))
+    writes-end _ _ _ _ _ _ _ _ t.0 (answered-kept _ (t.2 wt) (c.in-Ok-next_line.ensures.written wt)) _
+    (record { scenario = refl; steps = refl }) (c.in-Ok-next_line.ensures.end rt (ap Ok s))
 
 pub returns-then-not-some-clause-cost : goal.returns-then-not-some-clause-cost
 unfolding lines_within
@@ -49,7 +59,8 @@ returns-then-not-some-clause-cost g c = λ rt.
     rw (count-end t.0 (c.in-Ok-next_line.ensures.end rt (ap Ok s))) t.1
 
 pub returns-then-not-some-clause-read : goal.returns-then-not-some-clause-read
-returns-then-not-some-clause-read g c = λ rt. takes-most _ _ _ _ (reads-more _ _ _ _ _ _ (c.commands.invariant.reads rt) (c.in-Ok-next_line.ensures.reads rt))
+returns-then-not-some-clause-read g c = λ rt. takes-most _ _ _ _
+    (reads-more _ _ _ _ _ _ (c.commands.invariant.reads rt) (c.in-Ok-next_line.ensures.reads rt))
 
 pub returns-then-is_end-clause-answer : goal.returns-then-is_end-clause-answer
 unfolding lines_within
@@ -59,7 +70,8 @@ returns-then-is_end-clause-answer g c = λ rt wt.
     let l = c.in-Ok-next_line.ensures.line rt (ap Ok s) in
     let asked = c.asked-request.ensures l.bytes l.kept_of in
     let quit : is_end (reading c.args.manner c.args.symbols.now l.bytes) ≡ true = ap is_end (sym asked) ∙ sym c.if-is_end.ensures in
-    writes-quit _ _ _ _ _ _ _ _ t.0 (answered-kept _ (t.2 wt) (c.in-Ok-next_line.ensures.written wt)) _ (record { scenario = refl; steps = refl }) l.bytes _ _ l.taken quit
+    writes-quit _ _ _ _ _ _ _ _ t.0 (answered-kept _ (t.2 wt) (c.in-Ok-next_line.ensures.written wt)) _
+    (record { scenario = refl; steps = refl }) l.bytes _ _ l.taken quit
 
 pub returns-then-is_end-clause-cost : goal.returns-then-is_end-clause-cost
 unfolding lines_within
@@ -72,7 +84,8 @@ returns-then-is_end-clause-cost g c = λ rt.
     rw (count-quit t.0 l.bytes _ _ l.taken quit) (cost-same _ _ _ _ _ t.1)
 
 pub returns-then-is_end-clause-read : goal.returns-then-is_end-clause-read
-returns-then-is_end-clause-read g c = λ rt. takes-most _ _ _ _ (reads-more _ _ _ _ _ _ (c.commands.invariant.reads rt) (c.in-Ok-next_line.ensures.reads rt))
+returns-then-is_end-clause-read g c = λ rt. takes-most _ _ _ _
+    (reads-more _ _ _ _ _ _ (c.commands.invariant.reads rt) (c.in-Ok-next_line.ensures.reads rt))
 
 pub returns-in-Err-answer_asked-clause-answer : goal.returns-in-Err-answer_asked-clause-answer
 unfolding lines_within
@@ -81,11 +94,15 @@ returns-in-Err-answer_asked-clause-answer g c = λ rt wt.
     let s : c.in-Ok-next_line.some ≡ true = search rules in
     let l = c.in-Ok-next_line.ensures.line rt (ap Ok s) in
     let asked = c.asked-request.ensures l.bytes l.kept_of in
-    let on : is_end (reading c.args.manner c.args.symbols.now l.bytes) ≡ false = ap is_end (sym asked) ∙ sym c.if-is_end.ensures in
-    (writes-part _ _ _ _ _ _ _ _ t.0 (t.2 wt) l.bytes _ _ _ l.taken on (rw (asked, c.in-Ok-next_line.ensures.written wt, c.first_added-first.ensures) at (c.in-Err-answer_asked.ensures.executes wt)), tt)
+    let on : is_end (reading c.args.manner c.args.symbols.now l.bytes) ≡ false = ap is_end (sym asked) ∙ sym c.if-is_end.ensures in (
+      writes-part _ _ _ _ _ _ _ _ t.0 (t.2 wt) l.bytes _ _ _ l.taken on
+          (rw (asked, c.in-Ok-next_line.ensures.written wt, c.first_added-first.ensures) at (c.in-Err-answer_asked.ensures.executes wt)),
+      tt,
+    )
 
 pub returns-in-Err-answer_asked-clause-read : goal.returns-in-Err-answer_asked-clause-read
-returns-in-Err-answer_asked-clause-read g c = λ rt. takes-most _ _ _ _ (reads-more _ _ _ _ _ _ (c.commands.invariant.reads rt) (c.in-Ok-next_line.ensures.reads rt))
+returns-in-Err-answer_asked-clause-read g c = λ rt. takes-most _ _ _ _
+    (reads-more _ _ _ _ _ _ (c.commands.invariant.reads rt) (c.in-Ok-next_line.ensures.reads rt))
 
 pub commands-preserved : goal.commands-preserved
 commands-preserved g c = record {
@@ -102,10 +119,12 @@ commands-preserved g c = record {
       let on : is_end (reading c.args.manner c.args.symbols.now l.bytes) ≡ false = ap is_end (sym asked) ∙ sym c.if-is_end.ensures in
       let session = c.in-Ok-answer_asked.ensures.session in
       let read = reading c.args.manner c.args.symbols.now in
-      let count : efforts read (t.0.done ++ l.bytes ∷ []) ≡ efforts read t.0.done + effort (read l.bytes) = efforts-push read t.0.done l.bytes in (
+      let count : efforts read (t.0.done ++ l.bytes ∷ [])
+      ≡ efforts read t.0.done + effort (read l.bytes) = efforts-push read t.0.done l.bytes in (
         taken-more t.0 l.bytes _ _ (c.in-Ok-next_line.ensures.less (ap Ok s)) l.taken on,
         rw count (cost-more _ _ _ _ _ _ _ t.1 session.forward (rw asked at session.cost)),
-        λ wt. answered-more _ _ l.bytes (t.2 wt) on (rw (asked, c.in-Ok-next_line.ensures.written wt, c.first_added-first.ensures) at (c.in-Ok-answer_asked.ensures.executes wt)),
+        λ wt. answered-more _ _ l.bytes (t.2 wt) on (rw (asked, c.in-Ok-next_line.ensures.written wt, c.first_added-first.ensures) at
+            (c.in-Ok-answer_asked.ensures.executes wt)),
       );
 }
 

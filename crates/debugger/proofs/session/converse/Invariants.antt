@@ -14,9 +14,19 @@ invariant-commands g l = record {
   reader : g.R.Read.failures l.commands ≡ g.R.Read.failures l.fn.commands;
   writer : g.W.Write.failures l.out ≡ g.W.Write.failures l.fn.out;
   reads : g.R.Read.told ≡ true → ReadsWithin (g.R.Read.left l.fn.commands) (g.R.Read.left l.commands) (most_bytes l.manner) l.reader.more;
-  lines : g.R.Read.told ≡ true → (r : Taken (reading l.manner l.symbols) (g.R.Read.left l.fn.commands) (most_bytes l.manner) (text_ahead l.reader (g.R.Read.left l.commands)) (most_ahead l.reader))
+  lines : g.R.Read.told ≡ true → (r : Taken (reading l.manner l.symbols) (g.R.Read.left l.fn.commands) (most_bytes l.manner)
+      (text_ahead l.reader (g.R.Read.left l.commands)) (most_ahead l.reader))
       × (l.session.meter ≤ l.fn.session.meter + (efforts (reading l.manner l.symbols) r.done + 1) * l.session.n)
-      × (g.W.Write.told ≡ true → Answered (record { may_refuse = g.K.Keeper.may_refuse; symbols = l.symbols; source = l.rows; read = reading l.manner l.symbols; most = most_bytes l.manner; scenario = l.fn.session.scenario }) r.done (desk l.session l.desk.position l.desk.breakpoints) (g.W.Write.written l.fn.out) (g.W.Write.written l.out));
+      × (g.W.Write.told ≡ true → Answered (record {
+        may_refuse = g.K.Keeper.may_refuse;
+        symbols = l.symbols;
+        source = l.rows;
+        read = reading
+            l.manner l.symbols;
+        most = most_bytes l.manner;
+        scenario = l.fn.session.scenario;
+      }) r.done
+      (desk l.session l.desk.position l.desk.breakpoints) (g.W.Write.written l.fn.out) (g.W.Write.written l.out));
 }
 
 abbrev pub decreases-commands : goal.decreases-commands

@@ -8,4 +8,5 @@ returns-clause-answer g c = λ rt wt. debugs _ _ _ _ _ _ (rw c.none-rows.ensures
 
 pub returns-clause-cost : goal.returns-clause-cost
 unfolding command_lines lines_within
-returns-clause-cost g c = λ rt. rw (← plain-efforts c.args.symbols.now (command_lines (g.R.Read.left c.args.commands.now))) (c.converse.ensures.cost rt)
+returns-clause-cost g c = λ rt. rw (← plain-efforts c.args.symbols.now (command_lines (g.R.Read.left c.args.commands.now)))
+    (c.converse.ensures.cost rt)

@@ -11,7 +11,9 @@ returns-in_err-write_all-clause-writes g c = λ told.
     let failed = err_from_is_err_and c.from_residual.result c.from_residual.ensures.1 in
     let rest = found_from (c.loop-index.found + 1) c.args.beginning.now (drop (c.loop-index.index + 1) c.args.symbols.now) in
     rw failed.1 (left_broken _ _ _ _ c.as_slice.result.now rest _ (c.loop-index.invariant.written told)
-    (found_yes c.args.beginning.now c.args.symbols.now c.loop-index.found c.loop-index.index (c.in-Some.name.now, c.in-Some.value) c.in-Some.ensures.value (sym c.if-begins_with.ensures) ∙ ap (λ (y : List ℕ). y ++ rest) (sym (c.as_slice.ensures.value ∙ c.found_line.ensures)))
+    (found_yes c.args.beginning.now c.args.symbols.now c.loop-index.found c.loop-index.index (c.in-Some.name.now, c.in-Some.value)
+    c.in-Some.ensures.value (sym c.if-begins_with.ensures)
+    ∙ ap (λ (y : List ℕ). y ++ rest) (sym (c.as_slice.ensures.value ∙ c.found_line.ensures)))
     (c.in_err-write_all.ensures.written told))
 
 pub loop-index-preserved : goal.loop-index-preserved
@@ -23,18 +25,23 @@ loop-index-preserved g c =
         written = λ told.
             let rest = found_from (c.loop-index.found + 1) c.args.beginning.now (drop (c.loop-index.index + 1) c.args.symbols.now) in
             left_less _ _ _ _ w.as_slice.result.now rest _ (c.loop-index.invariant.written told)
-            (found_yes c.args.beginning.now c.args.symbols.now c.loop-index.found c.loop-index.index (c.in-Some.name.now, c.in-Some.value) c.in-Some.ensures.value (sym w.if-begins_with.ensures) ∙ ap (λ (y : List ℕ). y ++ rest) (sym (w.as_slice.ensures.value ∙ w.found_line.ensures)))
+            (found_yes c.args.beginning.now c.args.symbols.now c.loop-index.found c.loop-index.index (c.in-Some.name.now, c.in-Some.value)
+            c.in-Some.ensures.value (sym w.if-begins_with.ensures)
+            ∙ ap (λ (y : List ℕ). y ++ rest) (sym (w.as_slice.ensures.value ∙ w.found_line.ensures)))
             (w.in_ok-write_all.ensures.written told);
       })
       | else-begins_with w ↦ rw (w.out-is, w.found-is) (record {
         few = omega (arith, c.loop-index.invariant.few);
         failures = c.loop-index.invariant.failures;
-        written = λ told. rw (← found_no c.args.beginning.now c.args.symbols.now c.loop-index.found c.loop-index.index (c.in-Some.name.now, c.in-Some.value) c.in-Some.ensures.value (sym w.if-begins_with.ensures)) (c.loop-index.invariant.written told);
+        written = λ told. rw (← found_no c.args.beginning.now c.args.symbols.now c.loop-index.found c.loop-index.index
+            (c.in-Some.name.now, c.in-Some.value) c.in-Some.ensures.value (sym w.if-begins_with.ensures))
+            (c.loop-index.invariant.written told);
       })
     ]
 
 pub returns-clause-writes : goal.returns-clause-writes
 returns-clause-writes g c = λ told.
     left_none _ _ _ _ c.as_slice-2.result.now _ _ (c.loop-index.invariant.written told)
-    (found_end c.args.beginning.now c.args.symbols.now c.loop-index.found c.loop-index.index (omega (arith, c.loop-index-test.false, c.len-index-end.ensures)) ∙ sym (c.as_slice-2.ensures.value ∙ c.number_line.ensures.items))
+    (found_end c.args.beginning.now c.args.symbols.now c.loop-index.found c.loop-index.index
+    (omega (arith, c.loop-index-test.false, c.len-index-end.ensures)) ∙ sym (c.as_slice-2.ensures.value ∙ c.number_line.ensures.items))
     (c.write_all-2.ensures.written told)

@@ -7,5 +7,6 @@ abbrev pub invariant-loop-index : goal.invariant-loop-index
 invariant-loop-index g l = record {
   few : l.found ≤ l.index;
   failures : g.W.Write.failures l.out ≡ g.W.Write.failures l.fn.out;
-  written : g.W.Write.told ≡ true → LeftToWrite (found_text l.symbols l.beginning) (g.W.Write.written l.fn.out) (g.W.Write.written l.out) (found_from l.found l.beginning (drop l.index l.symbols));
+  written : g.W.Write.told ≡ true → LeftToWrite (found_text l.symbols l.beginning) (g.W.Write.written l.fn.out) (g.W.Write.written l.out)
+      (found_from l.found l.beginning (drop l.index l.symbols));
 }

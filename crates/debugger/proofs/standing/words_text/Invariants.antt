@@ -6,6 +6,7 @@ use Rattle.debugger.proofs.standing.words_text.Given as goal
 
 abbrev pub invariant-loop-index : goal.invariant-loop-index
 invariant-loop-index l = record {
-  items : l.text.items ++ words_from (history l.processor.scenario) (sight l.processor.scenario.rope l.machine) l.place l.index (l.count - l.index) ≡ words_from (history l.processor.scenario) (sight l.processor.scenario.rope l.machine) l.place 0 l.count;
+  items : l.text.items ++ words_from (history l.processor.scenario) (sight l.processor.scenario.rope l.machine) l.place l.index
+      (l.count - l.index) ≡ words_from (history l.processor.scenario) (sight l.processor.scenario.rope l.machine) l.place 0 l.count;
   len : array_vec_len l.text ≡ 18 * l.index;
 }

@@ -15,8 +15,10 @@ returns-in_err-retrace-clause-writes g c = λ told.
     let first = was.result.0 in
     let end = line (codes "TAIL " ++ decimal was.result.1) in
     let count = ap (λ k. k - first) (c.steps.ensures.value ∙ was.ensures.looked.steps) in
-    let text = ap (λ (q : Scenario). texts_after (step_line q) q first (c.steps.result - first)) was.ensures.looked.scenario ∙ ap (texts_after (step_line scenario) scenario first) count in
-    let whole = tail_is scenario c.args.session.now.n c.args.count first was.result.1 was.ensures.within was.ensures.found was.ensures.last in
+    let text = ap (λ (q : Scenario). texts_after (step_line q) q first (c.steps.result - first)) was.ensures.looked.scenario
+    ∙ ap (texts_after (step_line scenario) scenario first) count in
+    let whole = tail_is scenario c.args.session.now.n c.args.count first was.result.1 was.ensures.within was.ensures.found was.ensures.last
+    in
     let failed = err_from_is_err_and c.from_residual.result c.from_residual.ensures.1 in
     rw failed.1 (first_part _ _ _ end _ (whole ∙ ap (λ (t : List ℕ). t ++ end) (sym text)) (c.in_err-retrace.ensures.written told))
 
@@ -27,9 +29,13 @@ returns-clause-writes g c = λ told.
     let first = was.result.0 in
     let end = line (codes "TAIL " ++ decimal was.result.1) in
     let count = ap (λ k. k - first) (c.steps.ensures.value ∙ was.ensures.looked.steps) in
-    let text = ap (λ (q : Scenario). texts_after (step_line q) q first (c.steps.result - first)) was.ensures.looked.scenario ∙ ap (texts_after (step_line scenario) scenario first) count in
-    let whole = tail_is scenario c.args.session.now.n c.args.count first was.result.1 was.ensures.within was.ensures.found was.ensures.last in
+    let text = ap (λ (q : Scenario). texts_after (step_line q) q first (c.steps.result - first)) was.ensures.looked.scenario
+    ∙ ap (texts_after (step_line scenario) scenario first) count in
+    let whole = tail_is scenario c.args.session.now.n c.args.count first was.result.1 was.ensures.within was.ensures.found was.ensures.last
+    in
     let last = c.as_slice.ensures.value ∙ c.number_line.ensures.items in
     two_parts _ _ _ _ c.as_slice.result.now _ _
-    (whole ∙ ap (λ (t : List ℕ). t ++ end) (sym text) ∙ ap (λ (y : List ℕ). texts_after (step_line was.new.session.scenario) was.new.session.scenario first (c.steps.result - first) ++ y) (sym last))
+    (whole ∙ ap (λ (t : List ℕ). t ++ end) (sym text)
+    ∙ ap (λ (y : List ℕ). texts_after (step_line was.new.session.scenario) was.new.session.scenario first (c.steps.result - first) ++ y)
+    (sym last))
     (c.in_ok-retrace.ensures.written told) (c.write_all.ensures.written told)

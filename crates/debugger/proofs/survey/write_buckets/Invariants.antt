@@ -14,7 +14,9 @@ invariant-loop-left g l =
       done : l.done + l.left ≡ l.asked.buckets;
       surveyed : HasSurveyed l.fn.session from l.low l.session;
       failures : g.W.Write.failures l.out ≡ g.W.Write.failures l.fn.out;
-      told : g.W.Write.told ≡ true → LeftToWrite (bucket_lines l.fn.session.scenario l.asked.subjects width l.asked.last l.asked.buckets 0 from) (g.W.Write.written l.fn.out) (g.W.Write.written l.out) (bucket_lines l.fn.session.scenario l.asked.subjects width l.asked.last l.left l.done l.low);
+      told : g.W.Write.told ≡ true → LeftToWrite (bucket_lines l.fn.session.scenario l.asked.subjects width l.asked.last l.asked.buckets 0
+          from) (g.W.Write.written l.fn.out) (g.W.Write.written l.out)
+          (bucket_lines l.fn.session.scenario l.asked.subjects width l.asked.last l.left l.done l.low);
     }
 
 abbrev pub decreases-loop-left : goal.decreases-loop-left

@@ -23,5 +23,6 @@ unfolding history
 returns-then-cycles-clause-first g c =
     let s = c.args.session.now in
     let is_hit = λ (t : ℕ). nat_le c.args.cycles (run s.scenario t).cycles in
-    let fails : (t : ℕ) → t < 0 + (s.n + 1) → is_hit t ≡ false = λ t below. grind (arith, nat_tests, rise-run s.scenario t s.n (omega arith)) in
+    let fails : (t : ℕ) → t < 0 + (s.n + 1) → is_hit t
+    ≡ false = λ t below. grind (arith, nat_tests, rise-run s.scenario t s.n (omega arith)) in
     sym (never is_hit 0 (s.n + 1) fails)

@@ -10,11 +10,15 @@ returns-in-Some-clause-items g c =
     let scenario = c.args.session.now.scenario in
     let found = c.in-Some.ensures.last ∙ since_is (λ t. not (run scenario t).inside) c.args.since c.args.step in
     let inside = sym c.requires.known ∙ c.if-not-inside.false in
-    c.entered_mark.ensures.items ∙ ap (entered_since c.args.since) found ∙ ap (λ (b : Bool). cond b (entered_since c.args.since (since_step c.args.since (last_outside scenario c.args.step))) []) (sym inside)
+    c.entered_mark.ensures.items ∙ ap (entered_since c.args.since) found
+    ∙ ap (λ (b : Bool). cond b (entered_since c.args.since (since_step c.args.since (last_outside scenario c.args.step))) [])
+    (sym inside)
 
 pub returns-in-None-clause-items : goal.returns-in-None-clause-items
 returns-in-None-clause-items g c =
     let scenario = c.args.session.now.scenario in
     let found = c.in-None.ensures.last ∙ since_is (λ t. not (run scenario t).inside) c.args.since c.args.step in
     let inside = sym c.requires.known ∙ c.if-not-inside.false in
-    c.before_mark.ensures.items ∙ ap (entered_since c.args.since) found ∙ ap (λ (b : Bool). cond b (entered_since c.args.since (since_step c.args.since (last_outside scenario c.args.step))) []) (sym inside)
+    c.before_mark.ensures.items ∙ ap (entered_since c.args.since) found
+    ∙ ap (λ (b : Bool). cond b (entered_since c.args.since (since_step c.args.since (last_outside scenario c.args.step))) [])
+    (sym inside)

@@ -6,4 +6,5 @@ use Rattle.debugger.proofs.why_since.writer_since.Goals as goal
 pub returns-clause-writer : goal.returns-clause-writer
 returns-clause-writer g c = λ xs is.
     let scenario = c.args.session.now.scenario in
-    c.last_since.ensures.last ∙ since_is (step_writes scenario c.args.cells.now) c.args.since c.args.p ∙ writer_since_is scenario c.args.cells.now c.args.since c.args.p xs is
+    c.last_since.ensures.last ∙ since_is (step_writes scenario c.args.cells.now) c.args.since c.args.p
+    ∙ writer_since_is scenario c.args.cells.now c.args.since c.args.p xs is

@@ -16,25 +16,31 @@ loop-number-init c = record {
   other_past = omega arith;
   here = run_zero c.args.one.now.scenario _ _ c.at_start-here.ensures.machine c.at_start-here.ensures.done;
   there = run_zero c.args.other.now.scenario _ _ c.at_start-there.ensures.machine c.at_start-there.ensures.done;
-  left = apart_start c.args.one.now.scenario c.args.other.now.scenario c.args.steps _ _ c.at_start-here.ensures.done c.at_start-there.ensures.done;
+  left = apart_start c.args.one.now.scenario c.args.other.now.scenario c.args.steps _ _ c.at_start-here.ensures.done
+      c.at_start-there.ensures.done;
 }
 
 pub returns-then-both_none-clause-apart : goal.returns-then-both_none-clause-apart
 returns-then-both_none-clause-apart c =
     let first = rw c.loop-number.invariant.scenario at c.next_put-a.ensures.puts in
     let second = rw c.loop-number.invariant.other_scenario at c.next_put-b.ensures.puts in
-    sym (c.loop-number.invariant.left ∙ apart_none (c.loop-number.number + 1) _ _ _ _ c.next_put-a.result c.next_put-b.result first second (sym c.both_none.ensures ∙ c.if-both_none.true)
+    sym (c.loop-number.invariant.left ∙ apart_none (c.loop-number.number + 1) _ _ _ _ c.next_put-a.result c.next_put-b.result first second
+    (sym c.both_none.ensures ∙ c.if-both_none.true)
     (λ e. end_of _ _ _ (c.next_put-a.ensures.last e)) (λ e. end_of _ _ _ (c.next_put-b.ensures.last e)))
 
 pub returns-then-not-are_same-clause-apart : goal.returns-then-not-are_same-clause-apart
 returns-then-not-are_same-clause-apart c =
     let first = rw c.loop-number.invariant.scenario at c.next_put-a.ensures.puts in
     let second = rw c.loop-number.invariant.other_scenario at c.next_put-b.ensures.puts in
-    let told = c.loop-number.invariant.left ∙ apart_differs (c.loop-number.number + 1) _ _ _ _ c.next_put-a.result c.next_put-b.result first second (sym c.both_none.ensures ∙ c.if-both_none.false)
-    (sym c.are_same.ensures ∙ c.if-not-are_same.true) (λ e. end_of _ _ _ (c.next_put-a.ensures.last e)) (λ e. end_of _ _ _ (c.next_put-b.ensures.last e)) in
+    let told = c.loop-number.invariant.left ∙ apart_differs (c.loop-number.number + 1) _ _ _ _ c.next_put-a.result c.next_put-b.result first
+    second (sym c.both_none.ensures ∙ c.if-both_none.false)
+    (sym c.are_same.ensures ∙ c.if-not-are_same.true) (λ e. end_of _ _ _ (c.next_put-a.ensures.last e))
+    (λ e. end_of _ _ _ (c.next_put-b.ensures.last e)) in
     rw c.apart.ensures.apart (sym told)
 
 pub returns-clause-apart : goal.returns-clause-apart
 returns-clause-apart c =
-    sym (c.loop-number.invariant.left ∙ apart_end c.args.one.now.scenario c.args.other.now.scenario (c.loop-number.number + 1) c.args.steps _ _
-    (omega (arith, c.loop-number-test.false, c.loop-number.invariant.past)) (omega (arith, c.loop-number-test.false, c.loop-number.invariant.other_past)))
+    sym (c.loop-number.invariant.left ∙ apart_end c.args.one.now.scenario c.args.other.now.scenario (c.loop-number.number + 1) c.args.steps
+    _ _
+    (omega (arith, c.loop-number-test.false, c.loop-number.invariant.past))
+    (omega (arith, c.loop-number-test.false, c.loop-number.invariant.other_past)))

@@ -16,5 +16,6 @@ invariant-loop-number l = record {
   here : l.here.machine ≡ run l.fn.one.scenario l.here.done;
   there : l.there.machine ≡ run l.fn.other.scenario l.there.done;
   left : first_output l.fn.one.scenario l.fn.other.scenario l.steps
-      ≡ first_apart (l.number + 1) (puts l.fn.one.scenario l.here.done (l.steps - l.here.done)) (puts l.fn.other.scenario l.there.done (l.steps - l.there.done));
+      ≡ first_apart (l.number + 1) (puts l.fn.one.scenario l.here.done (l.steps - l.here.done))
+      (puts l.fn.other.scenario l.there.done (l.steps - l.there.done));
 }

@@ -10,7 +10,8 @@ returns-in-Ended-clause-parts c =
     let i = c.loop.invariant in
     let here = side_of c.args.one.now.scenario c.args.steps c.loop.here in
     let there = side_of c.args.other.now.scenario c.args.steps c.loop.there in
-    sym (i.left ∙ turned c.args.one.now.scenario c.args.other.now.scenario c.args.steps (2 * c.args.steps) c.loop.counter c.loop.here c.loop.there c.turn.result c.loop-test.true i.full i.other_full c.turn.ensures
+    sym (i.left ∙ turned c.args.one.now.scenario c.args.other.now.scenario c.args.steps (2 * c.args.steps) c.loop.counter c.loop.here
+    c.loop.there c.turn.result c.loop-test.true i.full i.other_full c.turn.ensures
     ∙ ap (parts_by (parts (2 * c.args.steps - (c.loop.counter + 1))) here there) c.in-Ended.is)
 
 pub returns-in-Parts-clause-parts : goal.returns-in-Parts-clause-parts
@@ -18,11 +19,13 @@ returns-in-Parts-clause-parts c =
     let i = c.loop.invariant in
     let here = side_of c.args.one.now.scenario c.args.steps c.loop.here in
     let there = side_of c.args.other.now.scenario c.args.steps c.loop.there in
-    sym (i.left ∙ turned c.args.one.now.scenario c.args.other.now.scenario c.args.steps (2 * c.args.steps) c.loop.counter c.loop.here c.loop.there c.turn.result c.loop-test.true i.full i.other_full c.turn.ensures
+    sym (i.left ∙ turned c.args.one.now.scenario c.args.other.now.scenario c.args.steps (2 * c.args.steps) c.loop.counter c.loop.here
+    c.loop.there c.turn.result c.loop-test.true i.full i.other_full c.turn.ensures
     ∙ ap (parts_by (parts (2 * c.args.steps - (c.loop.counter + 1))) here there) c.in-Parts.is)
 
 pub returns-in-Parts-clause-within : goal.returns-in-Parts-clause-within
-returns-in-Parts-clause-within c = parts_within c.args.steps _ _ _ _ c.turn.result c.in-Parts.a c.in-Parts.b c.loop.invariant.full.known c.loop.invariant.other_full.known c.turn.ensures c.in-Parts.is
+returns-in-Parts-clause-within c = parts_within c.args.steps _ _ _ _ c.turn.result c.in-Parts.a c.in-Parts.b c.loop.invariant.full.known
+    c.loop.invariant.other_full.known c.turn.ensures c.in-Parts.is
 
 pub loop-preserved : goal.loop-preserved
 loop-preserved c =
@@ -41,7 +44,8 @@ loop-preserved c =
       other_meter = omega (arith, i.other_meter, c.move_on-in-Moves.ensures.once);
       full = rw i.scenario at c.move_on.ensures.full;
       other_full = rw i.other_scenario at c.move_on-in-Moves.ensures.full;
-      left = i.left ∙ turned one other c.args.steps (2 * c.args.steps) c.loop.counter c.loop.here c.loop.there c.turn.result c.loop-test.true i.full i.other_full c.turn.ensures
+      left = i.left ∙ turned one other c.args.steps (2 * c.args.steps) c.loop.counter c.loop.here c.loop.there c.turn.result
+          c.loop-test.true i.full i.other_full c.turn.ensures
           ∙ ap (parts_by rest here there) c.in-Moves.is
           ∙ ap (λ (s : Side). rest s (moved c.in-Moves.m there)) (sym side)
           ∙ ap (λ (t : Side). rest (side_of one c.args.steps c.move_on.new.self) t) (sym other_side);
@@ -49,4 +53,5 @@ loop-preserved c =
 
 pub returns-clause-parts : goal.returns-clause-parts
 returns-clause-parts c =
-    sym (c.loop.invariant.left ∙ parts_none (2 * c.args.steps) c.loop.counter (side_of c.args.one.now.scenario c.args.steps c.loop.here) (side_of c.args.other.now.scenario c.args.steps c.loop.there) (omega (arith, c.loop-test.false)))
+    sym (c.loop.invariant.left ∙ parts_none (2 * c.args.steps) c.loop.counter (side_of c.args.one.now.scenario c.args.steps c.loop.here)
+    (side_of c.args.other.now.scenario c.args.steps c.loop.there) (omega (arith, c.loop-test.false)))

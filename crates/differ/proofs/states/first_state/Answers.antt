@@ -17,23 +17,28 @@ loop-done-init c = record {
 }
 
 pub step_both-requires-clause-cycles : goal.step_both-requires-clause-cycles
-step_both-requires-clause-cycles c = few_cycles c.args.one.now.scenario c.loop-done.done _ c.loop-done.invariant.here (omega (arith, c.loop-done-test.true, c.requires.few))
+step_both-requires-clause-cycles c = few_cycles c.args.one.now.scenario c.loop-done.done _ c.loop-done.invariant.here
+    (omega (arith, c.loop-done-test.true, c.requires.few))
 
 pub step_both-requires-clause-other_cycles : goal.step_both-requires-clause-other_cycles
-step_both-requires-clause-other_cycles c = few_cycles c.args.other.now.scenario c.loop-done.done _ c.loop-done.invariant.there (omega (arith, c.loop-done-test.true, c.requires.few))
+step_both-requires-clause-other_cycles c = few_cycles c.args.other.now.scenario c.loop-done.done _ c.loop-done.invariant.there
+    (omega (arith, c.loop-done-test.true, c.requires.few))
 
 pub step_both-requires-clause-fits : goal.step_both-requires-clause-fits
-step_both-requires-clause-fits c = fits_after c.args.one.now.scenario _ c.loop-done.done _ c.loop-done.invariant.scenario c.loop-done.invariant.here
+step_both-requires-clause-fits c = fits_after c.args.one.now.scenario _ c.loop-done.done _ c.loop-done.invariant.scenario
+    c.loop-done.invariant.here
 
 pub step_both-requires-clause-other_fits : goal.step_both-requires-clause-other_fits
-step_both-requires-clause-other_fits c = fits_after c.args.other.now.scenario _ c.loop-done.done _ c.loop-done.invariant.other_scenario c.loop-done.invariant.there
+step_both-requires-clause-other_fits c = fits_after c.args.other.now.scenario _ c.loop-done.done _ c.loop-done.invariant.other_scenario
+    c.loop-done.invariant.there
 
 pub returns-in-Some-clause-apart : goal.returns-in-Some-clause-apart
 returns-in-Some-clause-apart c =
     let one = c.args.one.now.scenario in
     let other = c.args.other.now.scenario in
     let i = c.loop-done.invariant in
-    let told = step_told one other c.loop-done.done _ _ _ _ c.step_both.result i.here i.there (rw i.scenario at c.step_both.ensures.here) (rw i.other_scenario at c.step_both.ensures.there) i.none
+    let told = step_told one other c.loop-done.done _ _ _ _ c.step_both.result i.here i.there (rw i.scenario at c.step_both.ensures.here)
+    (rw i.other_scenario at c.step_both.ensures.there) i.none
     (rw (i.scenario, i.other_scenario) at c.step_both.ensures.apart) in
     sym (i.left ∙ apart_here one other c.loop-done.done c.args.steps _ c.loop-done-test.true (sym told ∙ c.in-Some.is))
 
@@ -44,7 +49,8 @@ loop-done-preserved c =
     let i = c.loop-done.invariant in
     let here = state_more one _ c.loop-done.done _ _ i.scenario i.here c.step_both.ensures.here in
     let there = state_more other _ c.loop-done.done _ _ i.other_scenario i.there c.step_both.ensures.there in
-    let told = step_told one other c.loop-done.done _ _ _ _ c.step_both.result i.here i.there (rw i.scenario at c.step_both.ensures.here) (rw i.other_scenario at c.step_both.ensures.there) i.none
+    let told = step_told one other c.loop-done.done _ _ _ _ c.step_both.result i.here i.there (rw i.scenario at c.step_both.ensures.here)
+    (rw i.other_scenario at c.step_both.ensures.there) i.none
     (rw (i.scenario, i.other_scenario) at c.step_both.ensures.apart) in
     let none = sym told ∙ c.in-None.is in
     record {
@@ -59,4 +65,5 @@ loop-done-preserved c =
     }
 
 pub returns-clause-apart : goal.returns-clause-apart
-returns-clause-apart c = sym (c.loop-done.invariant.left ∙ apart_end c.args.one.now.scenario c.args.other.now.scenario c.loop-done.done c.args.steps (omega (arith, c.loop-done-test.false)))
+returns-clause-apart c = sym (c.loop-done.invariant.left
+    ∙ apart_end c.args.one.now.scenario c.args.other.now.scenario c.loop-done.done c.args.steps (omega (arith, c.loop-done-test.false)))

@@ -12,5 +12,6 @@ invariant-loop-done l = record {
   here : l.here ≡ run l.fn.one.scenario l.done;
   there : l.there ≡ run l.fn.other.scenario l.done;
   none : first_cell l.here.cells l.there.cells cell_count ≡ None;
-  left : first_state l.fn.one.scenario l.fn.other.scenario l.steps ≡ apart_from l.fn.one.scenario l.fn.other.scenario l.done (l.steps - l.done);
+  left : first_state l.fn.one.scenario l.fn.other.scenario l.steps
+      ≡ apart_from l.fn.one.scenario l.fn.other.scenario l.done (l.steps - l.done);
 }

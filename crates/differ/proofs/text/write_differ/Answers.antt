@@ -19,7 +19,8 @@ returns-in_err-write_state-clause-written g c = λ told.
     let third = step_part one other c.args.steps (mains.first_step one.scenario other.scenario c.args.steps) in
     rw p.1
     (beginning-after _ _ _ first (second ++ third) (e.written told)
-    (beginning-longer _ _ second third (rw (e.names, e.other_names, e.scenario, e.other_scenario) at (c.in_err-write_state.ensures.written told))))
+    (beginning-longer _ _ second third (rw (e.names, e.other_names, e.scenario, e.other_scenario) at
+    (c.in_err-write_state.ensures.written told))))
 
 pub returns-clause-written : goal.returns-clause-written
 unfolding differ_text
@@ -33,4 +34,5 @@ returns-clause-written g c = λ told.
     let third = step_part one other c.args.steps (mains.first_step one.scenario other.scenario c.args.steps) in
     Writes-after _ _ _ first (second ++ third) _ (e.written told)
     (Writes-after _ _ _ second third _ (rw (e.names, e.other_names, e.scenario, e.other_scenario) at (f.written told))
-    (rw (f.names, f.other_names, f.scenario, f.other_scenario, e.names, e.other_names, e.scenario, e.other_scenario) at (c.write_parting.ensures.written told)))
+    (rw (f.names, f.other_names, f.scenario, f.other_scenario, e.names, e.other_names, e.scenario, e.other_scenario) at
+    (c.write_parting.ensures.written told)))

@@ -13,21 +13,27 @@ loop-done-init c = record {
 }
 
 pub step_and_note-requires-clause-cycles : goal.step_and_note-requires-clause-cycles
-step_and_note-requires-clause-cycles c = few_cycles c.args.processor.now.scenario c.loop-done.done _ c.loop-done.invariant.state (omega (arith, c.loop-done-test.true, c.requires))
+step_and_note-requires-clause-cycles c = few_cycles c.args.processor.now.scenario c.loop-done.done _ c.loop-done.invariant.state
+    (omega (arith, c.loop-done-test.true, c.requires))
 
 pub step_and_note-requires-clause-fits : goal.step_and_note-requires-clause-fits
-step_and_note-requires-clause-fits c = fits_after c.args.processor.now.scenario _ c.loop-done.done _ c.loop-done.invariant.scenario c.loop-done.invariant.state
+step_and_note-requires-clause-fits c = fits_after c.args.processor.now.scenario _ c.loop-done.done _ c.loop-done.invariant.scenario
+    c.loop-done.invariant.state
 
 pub step_and_note-requires-clause-few : goal.step_and_note-requires-clause-few
 step_and_note-requires-clause-few c =
-    few_watches c.args.processor.now.scenario c.loop-done.done _ c.args.claims.now (omega (arith, c.loop-done-test.true, c.requires)) (c.deref_mut.ensures.value ∙ c.loop-done.invariant.watches)
+    few_watches c.args.processor.now.scenario c.loop-done.done _ c.args.claims.now (omega (arith, c.loop-done-test.true, c.requires))
+    (c.deref_mut.ensures.value ∙ c.loop-done.invariant.watches)
 
 pub loop-done-preserved : goal.loop-done-preserved
 loop-done-preserved c = record {
   scenario = c.step_and_note.ensures.scenario ∙ c.loop-done.invariant.scenario;
-  state = state_more c.args.processor.now.scenario _ c.loop-done.done _ _ c.loop-done.invariant.scenario c.loop-done.invariant.state c.step_and_note.ensures.state;
-  watches = put_back _ c.loop-done.watches.items c.deref_mut.result.now c.step_and_note.new.watches c.loop-done.watches.len c.deref_mut.ensures.value c.deref_mut.ensures.len c.step_and_note.ensures.watches
-      ∙ watches_more c.args.processor.now.scenario _ c.loop-done.done _ c.deref_mut.result.now _ c.args.claims.now c.loop-done.invariant.scenario c.loop-done.invariant.state
+  state = state_more c.args.processor.now.scenario _ c.loop-done.done _ _ c.loop-done.invariant.scenario c.loop-done.invariant.state
+      c.step_and_note.ensures.state;
+  watches = put_back _ c.loop-done.watches.items c.deref_mut.result.now c.step_and_note.new.watches c.loop-done.watches.len
+      c.deref_mut.ensures.value c.deref_mut.ensures.len c.step_and_note.ensures.watches
+      ∙ watches_more c.args.processor.now.scenario _ c.loop-done.done _ c.deref_mut.result.now _ c.args.claims.now
+      c.loop-done.invariant.scenario c.loop-done.invariant.state
       (c.deref_mut.ensures.value ∙ c.loop-done.invariant.watches) c.step_and_note.ensures.watches;
   within = omega (arith, c.loop-done-test.true);
   meter = omega (arith, c.step_and_note.ensures.meter, c.loop-done.invariant.meter);
@@ -36,6 +42,8 @@ loop-done-preserved c = record {
 pub returns-clause-judged : goal.returns-clause-judged
 returns-clause-judged c =
     let end : c.loop-done.done ≡ c.args.steps = omega (arith, c.loop-done-test.false, c.loop-done.invariant.within) in
-    put_back _ c.loop-done.watches.items c.deref_mut-2.result.now c.end_all.new.watches c.loop-done.watches.len c.deref_mut-2.ensures.value c.deref_mut-2.ensures.len c.end_all.ensures
-    ∙ watches_end c.args.processor.now.scenario c.args.steps c.loop-done.done _ c.deref_mut-2.result.now _ c.args.claims.now end c.loop-done.invariant.state
+    put_back _ c.loop-done.watches.items c.deref_mut-2.result.now c.end_all.new.watches c.loop-done.watches.len c.deref_mut-2.ensures.value
+    c.deref_mut-2.ensures.len c.end_all.ensures
+    ∙ watches_end c.args.processor.now.scenario c.args.steps c.loop-done.done _ c.deref_mut-2.result.now _ c.args.claims.now end
+    c.loop-done.invariant.state
     (c.deref_mut-2.ensures.value ∙ c.loop-done.invariant.watches) c.end_all.ensures

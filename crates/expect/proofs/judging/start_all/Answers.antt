@@ -7,4 +7,5 @@ pub loop-watch-preserved : goal.loop-watch-preserved
 loop-watch-preserved c =
     let f = started c.args.processor.now.scenario c.args.machine.now in
     rw c.start.ensures (ap (λ w. set c.loop-watch.watches c.loop-watch.watch-index (f w)) (sym c.watch-item.is)
-    ∙ map_over_more f c.args.watches.now c.loop-watch.watches c.loop-watch.watch-index c.watch-item.result (omega arith) c.loop-watch.invariant c.watch-item.is)
+    ∙ map_over_more f c.args.watches.now c.loop-watch.watches c.loop-watch.watch-index c.watch-item.result (omega arith)
+    c.loop-watch.invariant c.watch-item.is)

@@ -11,5 +11,6 @@ returns-in_err-tests-clause-fault c =
 pub returns-clause-claims : goal.returns-clause-claims
 unfolding claims_after
 returns-clause-claims c =
-    c.loop-statement.invariant.left ∙ ap (λ s. and_lines c.loop-statement.claims.items (claims_after c.args.symbols.now c.loop-statement.tests s)) c.in_default.ensures.statements
+    c.loop-statement.invariant.left ∙ ap (λ s. and_lines c.loop-statement.claims.items
+    (claims_after c.args.symbols.now c.loop-statement.tests s)) c.in_default.ensures.statements
     ∙ ap Ok (append-nil c.loop-statement.claims.items)

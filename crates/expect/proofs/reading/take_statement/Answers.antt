@@ -10,24 +10,36 @@ pub returns-then-place-eq0-clause-fault : goal.returns-then-place-eq0-clause-fau
 returns-then-place-eq0-clause-fault c = λ more.
     let s : Statement = record { line = c.args.place.line; fields = texts (runs c.args.fields.now) } in
     let zero : c.args.place.test ≡ 0 = omega arith in
-    rw (c.refused-then-place-eq0.ensures, c.wrong-then-place-eq0.ensures, at_no_test c.args.symbols.now c.args.place.test s more c.in-None.ensures zero) refl
+    rw (
+      c.refused-then-place-eq0.ensures,
+      c.wrong-then-place-eq0.ensures,
+      at_no_test c.args.symbols.now c.args.place.test s more
+          c.in-None.ensures zero,
+    ) refl
 
 pub returns-then-has_field-clause-taken : goal.returns-then-has_field-clause-taken
 returns-then-has_field-clause-taken c = λ more.
     let s : Statement = record { line = c.args.place.line; fields = texts (runs c.args.fields.now) } in
-    ap (and_lines c.args.claims.now.items) (at_test c.args.symbols.now c.args.place.test s more (texts (runs c.in-Some.name.now)) c.in-Some.ensures (sym c.has_field.ensures ∙ c.if-has_field.true))
+    ap (and_lines c.args.claims.now.items) (at_test c.args.symbols.now c.args.place.test s more (texts (runs c.in-Some.name.now))
+    c.in-Some.ensures (sym c.has_field.ensures ∙ c.if-has_field.true))
 
 pub returns-else-has_field-clause-fault : goal.returns-else-has_field-clause-fault
 returns-else-has_field-clause-fault c = λ more.
     let s : Statement = record { line = c.args.place.line; fields = texts (runs c.args.fields.now) } in
-    rw (c.refused.ensures, c.wrong.ensures, at_no_name c.args.symbols.now c.args.place.test s more (texts (runs c.in-Some.name.now)) c.in-Some.ensures (sym c.has_field.ensures ∙ c.if-has_field.false)) refl
+    rw (
+      c.refused.ensures,
+      c.wrong.ensures,
+      at_no_name c.args.symbols.now c.args.place.test s more (texts (runs c.in-Some.name.now))
+          c.in-Some.ensures (sym c.has_field.ensures ∙ c.if-has_field.false),
+    ) refl
 
 pub returns-in-Ok-clause-taken : goal.returns-in-Ok-clause-taken
 returns-in-Ok-clause-taken c = λ more.
     let s : Statement = record { line = c.args.place.line; fields = texts (runs c.args.fields.now) } in
     let some : c.args.place.test ≢ 0 = omega arith in
     ap (and_lines c.args.claims.now.items) (at_line c.args.symbols.now c.args.place.test s more c.in-None.ensures some)
-    ∙ line_adds (claims_of c.args.symbols.now (texts (runs c.args.fields.now))) c.args.place.test c.args.place.line c.args.claims.now.items c.add_line.new.claims.items _ c.in-Ok.field-0
+    ∙ line_adds (claims_of c.args.symbols.now (texts (runs c.args.fields.now))) c.args.place.test c.args.place.line c.args.claims.now.items
+    c.add_line.new.claims.items _ c.in-Ok.field-0
     (claims_after c.args.symbols.now c.args.place.test more) refl c.in-Ok.ensures
 
 pub returns-in-Err-clause-fault : goal.returns-in-Err-clause-fault
@@ -35,5 +47,6 @@ returns-in-Err-clause-fault c = λ more.
     let s : Statement = record { line = c.args.place.line; fields = texts (runs c.args.fields.now) } in
     let some : c.args.place.test ≢ 0 = omega arith in
     rw (at_line c.args.symbols.now c.args.place.test s more c.in-None.ensures some)
-    (line_refuses (claims_of c.args.symbols.now (texts (runs c.args.fields.now))) c.args.place.test c.args.place.line c.args.claims.now.items c.add_line.new.claims.items (Err c.in-Err.fault) c.in-Err.fault
+    (line_refuses (claims_of c.args.symbols.now (texts (runs c.args.fields.now))) c.args.place.test c.args.place.line
+    c.args.claims.now.items c.add_line.new.claims.items (Err c.in-Err.fault) c.in-Err.fault
     (claims_after c.args.symbols.now c.args.place.test more) refl c.in-Err.ensures)

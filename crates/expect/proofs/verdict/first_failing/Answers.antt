@@ -10,7 +10,8 @@ returns-then-is_some c =
     let more = drop (c.loop-watch.watch-index + 1) c.args.watches.now in
     let split : drop c.loop-watch.watch-index c.args.watches.now ≡ c.watch-item.result ∷ more =
     drop_more c.args.watches.now c.loop-watch.watch-index c.watch-item.result within ∙ ap (λ w. w ∷ more) (sym c.watch-item.is) in
-    at_failed c.args.test c.watch-item.result more c.failed_of-failed.result c.failed_of-failed.ensures (sym c.is_some.ensures ∙ c.if-is_some.true)
+    at_failed c.args.test c.watch-item.result more c.failed_of-failed.result c.failed_of-failed.ensures
+    (sym c.is_some.ensures ∙ c.if-is_some.true)
     ∙ sym (c.loop-watch.invariant ∙ ap (first_failing c.args.test) split)
 
 pub loop-watch-preserved : goal.loop-watch-preserved
@@ -20,8 +21,10 @@ loop-watch-preserved c =
     let split : drop c.loop-watch.watch-index c.args.watches.now ≡ c.watch-item.result ∷ more =
     drop_more c.args.watches.now c.loop-watch.watch-index c.watch-item.result within ∙ ap (λ w. w ∷ more) (sym c.watch-item.is) in
     c.loop-watch.invariant ∙ ap (first_failing c.args.test) split
-    ∙ past_failed c.args.test c.watch-item.result more c.failed_of-failed.result c.failed_of-failed.ensures (sym c.is_some.ensures ∙ c.if-is_some.false)
+    ∙ past_failed c.args.test c.watch-item.result more c.failed_of-failed.result c.failed_of-failed.ensures
+    (sym c.is_some.ensures ∙ c.if-is_some.false)
 
 pub returns : goal.returns
 unfolding first_failing
-returns c = sym (c.loop-watch.invariant ∙ ap (first_failing c.args.test) (drop_all c.loop-watch.watch-index c.args.watches.now (omega arith)))
+returns c = sym (c.loop-watch.invariant ∙ ap (first_failing c.args.test)
+    (drop_all c.loop-watch.watch-index c.args.watches.now (omega arith)))

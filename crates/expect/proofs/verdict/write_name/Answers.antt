@@ -10,11 +10,13 @@ loop-field-init g c = record { written = λ told. so_far_start _ _; failures = r
 pub returns-in_err-write_field-clause-written : goal.returns-in_err-write_field-clause-written
 returns-in_err-write_field-clause-written g c = λ told.
     let p = err_from_is_err_and c.from_residual.result c.from_residual.ensures.1 in
-    rw p.1 (so_far_breaks _ _ _ _ _ _ _ (c.loop-field.invariant.written told) (ap name_text c.in-Some.ensures) (c.in_err-write_field.ensures.written told))
+    rw p.1 (so_far_breaks _ _ _ _ _ _ _ (c.loop-field.invariant.written told) (ap name_text c.in-Some.ensures)
+    (c.in_err-write_field.ensures.written told))
 
 pub loop-field-preserved : goal.loop-field-preserved
 loop-field-preserved g c = record {
-  written = λ told. so_far_more _ _ _ _ _ _ _ (c.loop-field.invariant.written told) (ap name_text c.in-Some.ensures) (c.in_ok-write_field.ensures.written told);
+  written = λ told. so_far_more _ _ _ _ _ _ _ (c.loop-field.invariant.written told) (ap name_text c.in-Some.ensures)
+      (c.in_ok-write_field.ensures.written told);
   failures = c.in_ok-write_field.ensures.failures ∙ c.loop-field.invariant.failures;
 }
 

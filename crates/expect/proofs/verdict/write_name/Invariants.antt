@@ -6,7 +6,8 @@ use Rattle.expect.proofs.verdict.write_name.Given as goal
 
 abbrev pub invariant-loop-field : goal.invariant-loop-field
 invariant-loop-field g l = record {
-  written : g.W.Write.told ≡ true → SoFar (g.W.Write.written l.fn.out) (g.W.Write.written l.out) (name_text (texts (runs l.name))) (name_text (texts (runs l.rest)));
+  written : g.W.Write.told ≡ true → SoFar (g.W.Write.written l.fn.out) (g.W.Write.written l.out) (name_text (texts (runs l.name)))
+      (name_text (texts (runs l.rest)));
   failures : g.W.Write.failures l.out ≡ g.W.Write.failures l.fn.out;
 }
 

@@ -10,8 +10,10 @@ nothing = record { line = 0; number = 0; span = record { start = 0; width = 0 } 
 
 pub returns-then-line-warning-clause-value : goal.returns-then-line-warning-clause-value
 returns-then-line-warning-clause-value c =
-    sym (position_or_len_is (λ w. nat_le c.args.line w.line) c.args.warnings.now c.loop-index.index nothing (omega arith) (λ k lt. c.loop-index.invariant k nothing lt) (λ lt. grind (arith, nat_tests)))
+    sym (position_or_len_is (λ w. nat_le c.args.line w.line) c.args.warnings.now c.loop-index.index nothing (omega arith)
+    (λ k lt. c.loop-index.invariant k nothing lt) (λ lt. grind (arith, nat_tests)))
 
 pub returns-clause-value : goal.returns-clause-value
 returns-clause-value c =
-    sym (position_or_len_is (λ w. nat_le c.args.line w.line) c.args.warnings.now _ nothing (omega arith) (λ k lt. c.loop-index.invariant k nothing (omega arith)) (λ lt. absurd (omega arith)))
+    sym (position_or_len_is (λ w. nat_le c.args.line w.line) c.args.warnings.now _ nothing (omega arith)
+    (λ k lt. c.loop-index.invariant k nothing (omega arith)) (λ lt. absurd (omega arith)))

@@ -25,6 +25,7 @@ loop-fault-preserved c =
     let later = c.split_at.ensures.back ∙ ap (λ n. drop n rest) before in
     let warned = c.in_ok-push_warnings.ensures ∙ ap (λ (warnings : List Warning). out ++ flat_map warning warnings) earlier in
     ap (λ (warnings : List Warning). c.push_shown_error.new.out.items ++ merged error warning (drop (i + 1) faults) warnings) later
-    ∙ merged_step error warning (drop i faults) (drop (i + 1) faults) rest (get_or faults i nothing) out c.push_warnings.new.out.items c.push_shown_error.new.out.items
+    ∙ merged_step error warning (drop i faults) (drop (i + 1) faults) rest (get_or faults i nothing) out c.push_warnings.new.out.items
+    c.push_shown_error.new.out.items
     (drop_more faults i nothing (omega arith)) warned c.in_ok-push_shown_error.ensures
     ∙ c.loop-fault.invariant

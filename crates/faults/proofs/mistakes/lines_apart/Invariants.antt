@@ -7,6 +7,7 @@ use Rattle.faults.proofs.mistakes.lines_apart.Given as goal
 
 abbrev pub invariant-loop : goal.invariant-loop
 invariant-loop l = record {
-  left : map parts_in l.lines.items ++ map (parts_for l.language) (take (most_lines l.language + 1 - l.counter) (lines l.rest)) ≡ lines_apart l.language l.source;
+  left : map parts_in l.lines.items ++ map (parts_for l.language) (take (most_lines l.language + 1 - l.counter) (lines l.rest))
+      ≡ lines_apart l.language l.source;
   count : length l.lines.items ≡ l.counter;
 }

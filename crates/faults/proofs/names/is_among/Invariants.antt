@@ -3,4 +3,5 @@ use Rattle.faults.specs.Warnings.{is_among}
 use Rattle.faults.proofs.names.is_among.Given as goal
 
 abbrev pub invariant-loop-name : goal.invariant-loop-name
-invariant-loop-name l = is_among (map (λ name. name.now) l.names) l.text ≡ is_among (map (λ name. name.now) (drop l.name-index l.names)) l.text
+invariant-loop-name l = is_among (map (λ name. name.now) l.names) l.text
+    ≡ is_among (map (λ name. name.now) (drop l.name-index l.names)) l.text

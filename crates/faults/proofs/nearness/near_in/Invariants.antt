@@ -7,4 +7,5 @@ use Rattle.faults.proofs.nearness.near_in.Given as goal
 abbrev pub invariant-loop-name : goal.invariant-loop-name
 invariant-loop-name l =
     near_name (map (λ name. name.now) l.names) l.text
-    ≡ sought l.text (option_map (λ name. name.now) l.as_long) (option_map (λ name. name.now) l.near) (map (λ name. name.now) (drop l.name-index l.names))
+    ≡ sought l.text (option_map (λ name. name.now) l.as_long) (option_map (λ name. name.now) l.near)
+    (map (λ name. name.now) (drop l.name-index l.names))

@@ -11,4 +11,5 @@ returns c =
     let message = c.in_ok-push_message.ensures in
     let row = c.in_ok-push_row.ensures ∙ ap (λ (text : List ℕ). c.push_message.new.out.items ++ row_text text c.args.told.now) shown in
     let marks = c.in_ok-push_marks.ensures ∙ ap (λ (text : List ℕ). c.push_row.new.out.items ++ marks_text text c.args.told.now) shown in
-    on_ok_weaker c.push_cure.result (λ cure. five_appended c.args.out.now.items _ _ _ _ _ _ _ _ _ _ place message row marks cure) c.push_cure.ensures
+    on_ok_weaker c.push_cure.result (λ cure. five_appended c.args.out.now.items _ _ _ _ _ _ _ _ _ _ place message row marks cure)
+    c.push_cure.ensures

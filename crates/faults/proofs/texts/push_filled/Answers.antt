@@ -8,14 +8,18 @@ pub returns-in_default : goal.returns-in_default
 returns-in_default c =
     let rest = c.loop-rest.rest.now in
     let before = c.length_before_mark.ensures.value in
-    filled_out (parts_in c.args.parts.now) c.args.other.now c.args.label.now rest c.loop-rest.out.items _ _ _ (c.split_at.ensures.front ∙ ap (λ n. take n rest) before)
-    (c.split_at.ensures.back ∙ ap (λ n. drop n rest) before) (nil_from_length c.split_at.result.1.now c.in_default.ensures.cases) c.in_ok-extend_from_slice.ensures.items
+    filled_out (parts_in c.args.parts.now) c.args.other.now c.args.label.now rest c.loop-rest.out.items _ _ _
+    (c.split_at.ensures.front ∙ ap (λ n. take n rest) before)
+    (c.split_at.ensures.back ∙ ap (λ n. drop n rest) before) (nil_from_length c.split_at.result.1.now c.in_default.ensures.cases)
+    c.in_ok-extend_from_slice.ensures.items
     ∙ c.loop-rest.invariant
 
 pub loop-rest-preserved : goal.loop-rest-preserved
 loop-rest-preserved c =
     let rest = c.loop-rest.rest.now in
     let before = c.length_before_mark.ensures.value in
-    filled_on (parts_in c.args.parts.now) c.args.other.now c.args.label.now rest c.loop-rest.out.items _ _ _ _ _ _ (c.split_at.ensures.front ∙ ap (λ n. take n rest) before)
-    (c.split_at.ensures.back ∙ ap (λ n. drop n rest) before) c.in-Some.ensures.cases.0 c.in_ok-extend_from_slice.ensures.items c.in_ok-push_filled_byte.ensures
+    filled_on (parts_in c.args.parts.now) c.args.other.now c.args.label.now rest c.loop-rest.out.items _ _ _ _ _ _
+    (c.split_at.ensures.front ∙ ap (λ n. take n rest) before)
+    (c.split_at.ensures.back ∙ ap (λ n. drop n rest) before) c.in-Some.ensures.cases.0 c.in_ok-extend_from_slice.ensures.items
+    c.in_ok-push_filled_byte.ensures
     ∙ c.loop-rest.invariant

@@ -4,7 +4,8 @@ use Rattle.faults.specs.Causes.{filled}
 use Rattle.faults.proofs.texts.push_filled.Given as goal
 
 abbrev pub invariant-loop-rest : goal.invariant-loop-rest
-invariant-loop-rest l = l.out.items ++ filled (parts_in l.parts) l.other l.label l.rest ≡ l.initial.out.items ++ filled (parts_in l.parts) l.other l.label l.text
+invariant-loop-rest l = l.out.items ++ filled (parts_in l.parts) l.other l.label l.rest
+    ≡ l.initial.out.items ++ filled (parts_in l.parts) l.other l.label l.text
 
 abbrev pub decreases-loop-rest : goal.decreases-loop-rest
 decreases-loop-rest l = length l.rest

@@ -15,7 +15,8 @@ loop-first-preserved c =
     let good = c.in_ok-take_line.ensures.line in
     let same = c.in_ok-take_line.ensures.same_line in
     record {
-      left = left-next _ old.plain.items _ old.sources.items _ old.line _ _ _ _ c.loop-first.invariant.left (ap (map statement_of) c.in-Some.ensures.lines) good.faultless good.plain good.series (omega (arith, same));
+      left = left-next _ old.plain.items _ old.sources.items _ old.line _ _ _ _ c.loop-first.invariant.left
+          (ap (map statement_of) c.in-Some.ensures.lines) good.faultless good.plain good.series (omega (arith, same));
       gathered = rw same c.in_ok-take_line.ensures.gathered;
       lines = let l = c.loop-first.invariant.lines in omega (arith, l, same, c.in-Some.ensures.shorter);
     }
@@ -23,9 +24,11 @@ loop-first-preserved c =
 pub returns-clause-plain : goal.returns-clause-plain
 returns-clause-plain c =
     let given = c.loop-first.gathered in
-    (left-none _ given.plain.items given.sources.items given.line _ c.loop-first.invariant.left (ap (map statement_of) c.in_default.ensures.lines)).1
+    (left-none _ given.plain.items given.sources.items given.line _ c.loop-first.invariant.left
+    (ap (map statement_of) c.in_default.ensures.lines)).1
 
 pub returns-clause-series : goal.returns-clause-series
 returns-clause-series c =
     let given = c.loop-first.gathered in
-    (left-none _ given.plain.items given.sources.items given.line _ c.loop-first.invariant.left (ap (map statement_of) c.in_default.ensures.lines)).2
+    (left-none _ given.plain.items given.sources.items given.line _ c.loop-first.invariant.left
+    (ap (map statement_of) c.in_default.ensures.lines)).2

@@ -4,7 +4,8 @@ use Rattle.named_source.proofs.definitions.labels_of.Goals as goal
 
 pub loop-index-preserved : goal.loop-index-preserved
 loop-index-preserved c =
-    labels_next c.loop-index.labels _ _ c.args.names.now c.loop-index.index (c.in-Some.entry.0.now, c.in-Some.entry.1) c.loop-index.invariant (sym c.in-Some.ensures.value) c.in_ok-add_label.ensures
+    labels_next c.loop-index.labels _ _ c.args.names.now c.loop-index.index (c.in-Some.entry.0.now, c.in-Some.entry.1)
+    c.loop-index.invariant (sym c.in-Some.ensures.value) c.in_ok-add_label.ensures
 
 pub returns : goal.returns
 returns c =

@@ -4,4 +4,5 @@ use Rattle.named_source.proofs.lines.push_bank.Goals as goal
 
 pub returns : goal.returns
 unfolding said_bank
-returns c = append-then c.args.out.now.items _ _ _ _ (rw (c.as_slice.ensures.value, c.bank_line.ensures) at c.in_ok-extend_from_slice.ensures.items) c.in_ok-push_words.ensures
+returns c = append-then c.args.out.now.items _ _ _ _
+    (rw (c.as_slice.ensures.value, c.bank_line.ensures) at c.in_ok-extend_from_slice.ensures.items) c.in_ok-push_words.ensures

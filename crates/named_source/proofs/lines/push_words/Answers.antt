@@ -18,8 +18,10 @@ loop-number-preserved c = record {
       c.offset_of-offset.ensures c.loop-number.invariant.extra c.word.ensures c.extracode_after-extra.ensures;
   items =
       items_more (said_line c.args.labels.now c.args.rope.now c.args.bank) c.loop-number.number _ _ _ c.loop-number.invariant.items
-      (rw (c.as_slice.ensures.value, c.line_of-line.ensures, c.is_said_from-said.ensures, c.offset_of-offset.ensures) at c.in_ok-extend_from_slice.ensures.items);
+      (rw (c.as_slice.ensures.value, c.line_of-line.ensures, c.is_said_from-said.ensures, c.offset_of-offset.ensures) at
+      c.in_ok-extend_from_slice.ensures.items);
 }
 
 pub returns : goal.returns
-returns c = items_end (said_line c.args.labels.now c.args.rope.now c.args.bank) c.loop-number.number bank_words _ _ (omega arith) c.loop-number.invariant.items
+returns c = items_end (said_line c.args.labels.now c.args.rope.now c.args.bank) c.loop-number.number bank_words _ _ (omega arith)
+    c.loop-number.invariant.items

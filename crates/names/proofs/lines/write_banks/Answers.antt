@@ -8,7 +8,8 @@ use Rattle.names.proofs.lines.write_banks.Goals as goal
 pub returns-in_err-write_bank-clause-written : goal.returns-in_err-write_bank-clause-written
 returns-in_err-write_bank-clause-written g c = λ told.
     let p = err_from_is_err_and c.from_residual.result c.from_residual.ensures.1 in
-    rw p.1 (begins_parts (named_bank_lines c.args.names.now c.args.rope.now) c.loop-bank.bank banks _ _ _ c.loop-bank-test.true (c.loop-bank.invariant.written told)
+    rw p.1 (begins_parts (named_bank_lines c.args.names.now c.args.rope.now) c.loop-bank.bank banks _ _ _ c.loop-bank-test.true
+    (c.loop-bank.invariant.written told)
     (rw c.bank_of.ensures at (c.in_err-write_bank.ensures.written told)))
 
 pub loop-bank-preserved : goal.loop-bank-preserved

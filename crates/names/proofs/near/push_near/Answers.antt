@@ -7,6 +7,7 @@ use Rattle.names.proofs.near.push_near.Goals as goal
 pub loop-distance-preserved : goal.loop-distance-preserved
 loop-distance-preserved g c = record {
   line = c.loop-distance.invariant.line;
-  near = nearest_passed (g.N.Names.table c.args.names.now) c.args.place.now c.loop-distance.distance (places_before c.args.place.now + 1) _ (omega (arith, c.loop-distance-test.true, c.places_before-distance-end.ensures.value)) c.loop-distance.invariant.near
+  near = nearest_passed (g.N.Names.table c.args.names.now) c.args.place.now c.loop-distance.distance (places_before c.args.place.now + 1) _
+      (omega (arith, c.loop-distance-test.true, c.places_before-distance-end.ensures.value)) c.loop-distance.invariant.near
       (c.in_default.ensures.name ∙ ap (symbol_at (g.N.Names.table c.args.names.now)) c.place_before.ensures);
 }

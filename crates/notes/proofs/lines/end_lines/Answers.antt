@@ -13,7 +13,8 @@ loop-number-init c = record {
 pub loop-number-preserved : goal.loop-number-preserved
 loop-number-preserved c = record {
   low = omega arith;
-  text = kept_more c.args.notation c.args.cycles c.args.waits.now c.loop-number.number _ _ _ _ _ (omega arith) c.loop-number.invariant.text (c.push_wait.ensures.items) c.new-interrupt.ensures c.since.ensures;
+  text = kept_more c.args.notation c.args.cycles c.args.waits.now c.loop-number.number _ _ _ _ _ (omega arith) c.loop-number.invariant.text
+      (c.push_wait.ensures.items) c.new-interrupt.ensures c.since.ensures;
   short = omega (arith, c.loop-number.invariant.short, c.push_wait.ensures.short);
 }
 

@@ -28,29 +28,38 @@ loop-done-init g c = record {
 }
 
 pub write_step-requires-clause-cycles : goal.write_step-requires-clause-cycles
-write_step-requires-clause-cycles g c = few_cycles c.args.processor.now.scenario c.loop-done.done _ c.loop-done.invariant.state (omega (arith, c.loop-done.invariant.few))
+write_step-requires-clause-cycles g c = few_cycles c.args.processor.now.scenario c.loop-done.done _ c.loop-done.invariant.state
+    (omega (arith, c.loop-done.invariant.few))
 
 pub write_step-requires-clause-fits : goal.write_step-requires-clause-fits
-write_step-requires-clause-fits g c = fits_after c.args.processor.now.scenario _ c.loop-done.done _ c.loop-done.invariant.scenario c.loop-done.invariant.state
+write_step-requires-clause-fits g c = fits_after c.args.processor.now.scenario _ c.loop-done.done _ c.loop-done.invariant.scenario
+    c.loop-done.invariant.state
 
 pub returns-in_err-write_step-clause-written : goal.returns-in_err-write_step-clause-written
 unfolding notes_text
 returns-in_err-write_step-clause-written g c = λ told.
     let p = err_from_is_err_and c.from_residual.result c.from_residual.ensures.1 in
-    let text = text_is c.args.notation c.args.names.now c.args.notebook.now.named c.args.processor.now.scenario c.loop-done.processor.scenario c.loop-done.done c.args.steps c.loop-done.machine c.loop-done.notebook
+    let text = text_is c.args.notation c.args.names.now c.args.notebook.now.named c.args.processor.now.scenario
+    c.loop-done.processor.scenario c.loop-done.done c.args.steps c.loop-done.machine c.loop-done.notebook
     c.loop-done.invariant.scenario c.loop-done.invariant.state c.loop-done.invariant.left c.in_err-write_step.ensures.takes.known in
-    rw p.1 (beginning-longer _ _ _ _ (begins_parts (step_text c.args.notation c.args.names.now c.args.notebook.now.named c.args.processor.now.scenario c.args.steps) c.loop-done.done c.args.steps _ _ _ (omega (arith, c.loop-done-test.true, c.loop-done.invariant.few))
+    rw p.1 (beginning-longer _ _ _ _ (begins_parts
+    (step_text c.args.notation c.args.names.now c.args.notebook.now.named c.args.processor.now.scenario c.args.steps) c.loop-done.done
+    c.args.steps _ _ _ (omega (arith, c.loop-done-test.true, c.loop-done.invariant.few))
     (c.loop-done.invariant.written told) (rw text at (c.in_err-write_step.ensures.written told))))
 
 pub loop-done-preserved : goal.loop-done-preserved
 loop-done-preserved g c = record {
   scenario = c.in_ok-write_step.ensures.scenario ∙ c.loop-done.invariant.scenario;
-  state = state_more c.args.processor.now.scenario _ c.loop-done.done _ _ c.loop-done.invariant.scenario c.loop-done.invariant.state c.in_ok-write_step.ensures.state;
-  left = left_next c.args.notebook.now.named c.args.processor.now.scenario _ c.loop-done.done c.args.steps _ _ _ c.loop-done.invariant.scenario c.loop-done.invariant.state c.loop-done.invariant.left c.in_ok-write_step.ensures.takes;
+  state = state_more c.args.processor.now.scenario _ c.loop-done.done _ _ c.loop-done.invariant.scenario c.loop-done.invariant.state
+      c.in_ok-write_step.ensures.state;
+  left = left_next c.args.notebook.now.named c.args.processor.now.scenario _ c.loop-done.done c.args.steps _ _ _
+      c.loop-done.invariant.scenario c.loop-done.invariant.state c.loop-done.invariant.left c.in_ok-write_step.ensures.takes;
   written = λ told.
-      let text = text_is c.args.notation c.args.names.now c.args.notebook.now.named c.args.processor.now.scenario c.loop-done.processor.scenario c.loop-done.done c.args.steps c.loop-done.machine c.loop-done.notebook
+      let text = text_is c.args.notation c.args.names.now c.args.notebook.now.named c.args.processor.now.scenario
+      c.loop-done.processor.scenario c.loop-done.done c.args.steps c.loop-done.machine c.loop-done.notebook
       c.loop-done.invariant.scenario c.loop-done.invariant.state c.loop-done.invariant.left c.in_ok-write_step.ensures.takes.known in
-      writes_more (step_text c.args.notation c.args.names.now c.args.notebook.now.named c.args.processor.now.scenario c.args.steps) c.loop-done.done _ _ _ (c.loop-done.invariant.written told)
+      writes_more (step_text c.args.notation c.args.names.now c.args.notebook.now.named c.args.processor.now.scenario c.args.steps)
+      c.loop-done.done _ _ _ (c.loop-done.invariant.written told)
       (rw text at (c.in_ok-write_step.ensures.written told));
   failures = c.in_ok-write_step.ensures.failures ∙ c.loop-done.invariant.failures;
   within = omega arith;
@@ -66,9 +75,11 @@ returns-clause-written g c = λ told.
     let all : c.loop-done.done ≡ c.args.notebook.now.last = omega (arith, last, c.loop-done-test.false, c.loop-done.invariant.within) in
     let up = front_ends text c.loop-done.done c.args.notebook.now.last _ _ all (c.loop-done.invariant.written told) in
     let steps = up ∙ ap (λ items. g.W.Write.written c.args.out.now ++ items)
-    (texts_up_to_last c.args.notation c.args.names.now c.args.notebook.now.named c.args.processor.now.scenario c.args.steps c.args.notebook.now c.requires.counted) in
+    (texts_up_to_last c.args.notation c.args.names.now c.args.notebook.now.named c.args.processor.now.scenario c.args.steps
+    c.args.notebook.now c.requires.counted) in
     let cycles : c.args.end.now.cycles ≡ (run c.args.processor.now.scenario c.args.steps).cycles = ap (λ s. s.cycles) c.requires.end in
-    let waits = kept_is c.args.notation c.args.processor.now.scenario c.args.steps c.args.end.now.cycles c.loop-done.notebook.waits c.loop-done.invariant.left.waits cycles in
+    let waits = kept_is c.args.notation c.args.processor.now.scenario c.args.steps c.args.end.now.cycles c.loop-done.notebook.waits
+    c.loop-done.invariant.left.waits cycles in
     let past : c.past-past.result ≡ past c.args.processor.now.scenario c.args.steps = c.past-past.ensures ∙ c.requires.counted.past in
     Writes-after _ _ _ _ (ending_text c.args.notation c.args.processor.now.scenario c.args.steps) c.write_ending.result steps
     (rw (c.waits.ensures, waits, past, c.requires.end) at (c.write_ending.ensures.written told))

@@ -10,7 +10,8 @@ invariant-loop-done g l = record {
   scenario : l.processor.scenario ≡ l.fn.processor.scenario;
   state : l.machine ≡ run l.fn.processor.scenario l.done;
   left : Left l.fn.notebook.named l.fn.processor.scenario l.done l.steps l.notebook;
-  written : g.W.Write.told ≡ true → g.W.Write.written l.out ≡ g.W.Write.written l.fn.out ++ front (step_text l.notation l.names l.fn.notebook.named l.fn.processor.scenario l.steps) l.done;
+  written : g.W.Write.told ≡ true → g.W.Write.written l.out
+      ≡ g.W.Write.written l.fn.out ++ front (step_text l.notation l.names l.fn.notebook.named l.fn.processor.scenario l.steps) l.done;
   failures : g.W.Write.failures l.out ≡ g.W.Write.failures l.fn.out;
   within : l.done ≤ l.last;
   few : l.last ≤ l.steps;

@@ -9,4 +9,5 @@ returns-then-eq-clause-written g c = λ told.
     let zero = all_zero c.take-told.result (sym c.eq.ensures ∙ c.if-eq.true) in
     append-nothing (g.W.Write.written c.args.out.now) (g.W.Write.written c.args.out.now) refl
     ∙ ap (λ text. g.W.Write.written c.args.out.now ++ text)
-    (sym (nothing_told _ _ _ _ (taken_at c.args.processor.now.scenario c.args.machine.now c.args.notebook.now) (λ kind. sym (c.take-told.ensures.told kind) ∙ zero kind)))
+    (sym (nothing_told _ _ _ _ (taken_at c.args.processor.now.scenario c.args.machine.now c.args.notebook.now)
+    (λ kind. sym (c.take-told.ensures.told kind) ∙ zero kind)))

@@ -7,6 +7,7 @@ use Rattle.reach.proofs.image.write_bank.Given as goal
 abbrev pub invariant-loop-number : goal.invariant-loop-number
 invariant-loop-number g l = record {
   extra : l.extra ≡ extracode_at l.rope l.bank l.number;
-  written : g.W.Write.told ≡ true → g.W.Write.written l.out ≡ g.W.Write.written l.initial.out ++ front (image_row (g.M.Margin.text l.margin) l.names l.rope l.bank) l.number;
+  written : g.W.Write.told ≡ true → g.W.Write.written l.out
+      ≡ g.W.Write.written l.initial.out ++ front (image_row (g.M.Margin.text l.margin) l.names l.rope l.bank) l.number;
   failures : g.W.Write.failures l.out ≡ g.W.Write.failures l.initial.out;
 }

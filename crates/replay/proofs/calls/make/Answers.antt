@@ -14,8 +14,13 @@ returns-in-Err g c = rw c.in-Forward.is (Refused c.in-Err.refusal, rw c.in-Forwa
 pub returns-in-Ok-advance : goal.returns-in-Ok-advance
 returns-in-Ok-advance g c =
     let told = c.in-Ok-advance.ensures in
-    let gone = gone_on g.O.Watcher.sees g.K.Keeper.may_refuse c.args.session.now c.in-Advance.k c.in-Ok-advance.stop c.advance.new.self c.args.observer.now c.advance.new.watcher told.watched told.stopped told.advanced in
-    rw c.in-Advance.is (Advanced gone.0 c.in-Ok-advance.stop, (c.advance.new.watcher, gone.1, rw c.in-Advance.is (c.advanced.ensures gone.0)), gone.2)
+    let gone = gone_on g.O.Watcher.sees g.K.Keeper.may_refuse c.args.session.now c.in-Advance.k c.in-Ok-advance.stop c.advance.new.self
+    c.args.observer.now c.advance.new.watcher told.watched told.stopped told.advanced in
+    rw c.in-Advance.is (
+      Advanced gone.0 c.in-Ok-advance.stop,
+      (c.advance.new.watcher, gone.1, rw c.in-Advance.is (c.advanced.ensures gone.0)),
+      gone.2,
+    )
 
 pub returns-in-Err-advance : goal.returns-in-Err-advance
 returns-in-Err-advance g c =
@@ -29,10 +34,16 @@ pub returns-in-Err-show : goal.returns-in-Err-show
 returns-in-Err-show g c = rw c.in-Show.is (Refused c.in-Err-show.refusal, rw c.in-Show.is c.refused-in-Err-show.ensures, search rules)
 
 pub returns-in-Ok-with_present : goal.returns-in-Ok-with_present
-returns-in-Ok-with_present g c = rw c.in-WithPresent.is (ShownBeside c.in-Ok-with_present.machine.now c.in-Ok-with_present.present.now c.in-Ok-with_present.processor.now.scenario, rw c.in-WithPresent.is c.shown_beside.ensures, search rules)
+returns-in-Ok-with_present g c = rw c.in-WithPresent.is (
+  ShownBeside c.in-Ok-with_present.machine.now c.in-Ok-with_present.present.now c.in-Ok-with_present.processor.now.scenario,
+  rw
+      c.in-WithPresent.is c.shown_beside.ensures,
+  search rules,
+)
 
 pub returns-in-Err-with_present : goal.returns-in-Err-with_present
-returns-in-Err-with_present g c = rw c.in-WithPresent.is (Refused c.in-Err-with_present.refusal, rw c.in-WithPresent.is c.refused-in-Err-with_present.ensures, search rules)
+returns-in-Err-with_present g c = rw c.in-WithPresent.is
+    (Refused c.in-Err-with_present.refusal, rw c.in-WithPresent.is c.refused-in-Err-with_present.ensures, search rules)
 
 pub returns-in-SeekBack : goal.returns-in-SeekBack
 returns-in-SeekBack g c =
@@ -45,7 +56,8 @@ returns-in-SeekBack g c =
       (
         λ is_hit answers.
             let here : AnswersAs (FnReturnsAt g.F.Fn c.args.hit.now) s.scenario c.min-before.result is_hit = rw is answers in
-            rw is at (c.seek_back.ensures.last is_hit (λ t r below k. here t r below (record { shown = k.shown; shows = k.shows; says = record { met = k.says.met } }))),
+            rw is at (c.seek_back.ensures.last is_hit (λ t r below k. here t r below
+            (record { shown = k.shown; shows = k.shows; says = record { met = k.says.met } }))),
         rw is at c.seek_back.ensures.after,
       ),
     )

@@ -26,8 +26,10 @@ loop-preserved g c =
     let p = c.args.processor.now.scenario in
     let meter = ap (λ (q : Processing). q.meter) c.make_step.ensures.meter in
     record {
-      machine = steps_on p c.loop.counter c.loop.shown.machine c.make_step.new.machine c.make_step.result (omega arith) kept.machine (λ low. rw same at (c.make_step.ensures.step low));
-      looked = looked_more g.L.Onlooker.sees p c.loop.counter c.args.onlooker.now c.loop.onlooker c.look.new.self c.loop.shown.machine kept.looked kept.machine (rw same at c.look.ensures);
+      machine = steps_on p c.loop.counter c.loop.shown.machine c.make_step.new.machine c.make_step.result (omega arith) kept.machine
+          (λ low. rw same at (c.make_step.ensures.step low));
+      looked = looked_more g.L.Onlooker.sees p c.loop.counter c.args.onlooker.now c.loop.onlooker c.look.new.self c.loop.shown.machine
+          kept.looked kept.machine (rw same at c.look.ensures);
       scenario = ap (λ (q : Processing). q.scenario) c.make_step.ensures.meter ∙ same;
       metered = omega (arith, meter);
       least = omega (arith, c.make_step.ensures.growing kept.metered);

@@ -9,7 +9,8 @@ invariant-loop-at g l =
     record {
       machine : l.shown.machine ≡ run p l.at;
       step : l.shown.step ≡ l.at;
-      written : g.W.Write.told ≡ true → g.W.Write.written l.out ≡ g.W.Write.written l.fn.out ++ texts_after (g.T.StepWriter.text l.writer p) p l.low (l.at - l.low);
+      written : g.W.Write.told ≡ true → g.W.Write.written l.out
+          ≡ g.W.Write.written l.fn.out ++ texts_after (g.T.StepWriter.text l.writer p) p l.low (l.at - l.low);
       failures : g.W.Write.failures l.out ≡ g.W.Write.failures l.fn.out;
       scenario : l.processor.scenario ≡ p;
       metered : l.processor.meter < 2 ^ 128;

@@ -13,5 +13,6 @@ invariant-loop-at g l =
       metered : l.processor.meter < 2 ^ 128;
       least : l.fn.processor.meter ≤ l.processor.meter;
       most : l.processor.meter + l.low ≤ l.fn.processor.meter + l.at;
-      later : (is_hit : ℕ → Bool) → AnswersAs (FnReturnsAt g.F.Fn l.hit) p l.high is_hit → first_hit is_hit l.low (l.high - l.low) ≡ first_hit is_hit (l.at + 1) (l.high - (l.at + 1));
+      later : (is_hit : ℕ → Bool) → AnswersAs (FnReturnsAt g.F.Fn l.hit) p l.high is_hit
+          → first_hit is_hit l.low (l.high - l.low) ≡ first_hit is_hit (l.at + 1) (l.high - (l.at + 1));
     }

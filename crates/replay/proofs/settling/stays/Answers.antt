@@ -10,6 +10,7 @@ needed-gap-requires-clause-gap c = needed_starts c.args.n c.args.c c.requires.wi
 pub returns-then-c-last : goal.returns-then-c-last
 returns-then-c-last c =
     let gap = c.needed-gap.result in (
-      λ t. let zero_is : c.args.c % gap ≡ 0 = grind (arith, nat_tests) in (omega (arith, c.if-c-last.true), c.needed-gap.ensures.least.1 (dvd_of_mod-eq-zero gap zero_is)),
+      λ t. let zero_is : c.args.c % gap ≡ 0 = grind (arith, nat_tests) in
+          (omega (arith, c.if-c-last.true), c.needed-gap.ensures.least.1 (dvd_of_mod-eq-zero gap zero_is)),
       λ is. let zero_is : c.args.c % gap ≡ 0 = mod-eq-zero_of_dvd gap (c.needed-gap.ensures.least.0 is.1) in grind (arith, nat_tests),
     )

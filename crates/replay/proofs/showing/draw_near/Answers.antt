@@ -8,9 +8,11 @@ unreachable-requires g c =
     omega arith
 
 pub returns-then-shown-step-clause-near : goal.returns-then-shown-step-clause-near
-returns-then-shown-step-clause-near g c = λ k has early. All-step (λ s. s ≤ c.args.t → s ≤ c.in-Some.step) (g.K.Keeper.images c.args.keeper.now) c.in-Some.ensures.greatest k has early
+returns-then-shown-step-clause-near g c = λ k has early. All-step (λ s. s ≤ c.args.t → s ≤ c.in-Some.step)
+    (g.K.Keeper.images c.args.keeper.now) c.in-Some.ensures.greatest k has early
 
 pub returns-else-t-shown-clause-near : goal.returns-else-t-shown-clause-near
 returns-else-t-shown-clause-near g c = λ k has early.
-    let greatest = All-step (λ s. s ≤ c.args.t → s ≤ c.in-Some.step) (g.K.Keeper.images c.args.keeper.now) c.in-Some.ensures.greatest k has early in
+    let greatest = All-step (λ s. s ≤ c.args.t → s ≤ c.in-Some.step) (g.K.Keeper.images c.args.keeper.now) c.in-Some.ensures.greatest k has
+    early in
     omega (arith, greatest, c.if-shown-step.false)

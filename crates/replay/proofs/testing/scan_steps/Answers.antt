@@ -26,7 +26,8 @@ test_step-found-requires-clause-cycles g c =
     omega (arith, e, cycles-run c.args.processor.now.scenario c.loop-at.at)
 
 pub test_step-found-requires-clause-fits : goal.test_step-found-requires-clause-fits
-test_step-found-requires-clause-fits g c = rw (c.loop-at.invariant.scenario, c.loop-at.invariant.machine) (run-fits c.args.processor.now.scenario c.loop-at.at)
+test_step-found-requires-clause-fits g c = rw (c.loop-at.invariant.scenario, c.loop-at.invariant.machine)
+    (run-fits c.args.processor.now.scenario c.loop-at.at)
 
 pub loop-at-preserved : goal.loop-at-preserved
 loop-at-preserved g c =
@@ -36,13 +37,17 @@ loop-at-preserved g c =
     let find = found_by (g.T.StepTest.finds c.args.test.now) p in
     let told = c.test_step-found.ensures in
     let meter = ap (λ (q : Processing). q.meter) told.processor in
-    let found : c.test_step-found.result ≡ find at = told.found ∙ ap (λ (q : Scenario). g.T.StepTest.finds c.args.test.now q c.loop-at.machine) kept.scenario ∙ ap (λ (s : State). g.T.StepTest.finds c.args.test.now p s) kept.machine in
+    let found : c.test_step-found.result ≡ find at = told.found
+    ∙ ap (λ (q : Scenario). g.T.StepTest.finds c.args.test.now q c.loop-at.machine) kept.scenario
+    ∙ ap (λ (s : State). g.T.StepTest.finds c.args.test.now p s) kept.machine in
     record {
-      machine = told.state ∙ ap (λ (q : Scenario). (next q c.loop-at.machine).0) kept.scenario ∙ ap (λ (s : State). (next p s).0) kept.machine ∙ sym (run-add-one p at);
+      machine = told.state ∙ ap (λ (q : Scenario). (next q c.loop-at.machine).0) kept.scenario
+          ∙ ap (λ (s : State). (next p s).0) kept.machine ∙ sym (run-add-one p at);
       scenario = ap (λ (q : Processing). q.scenario) told.processor ∙ kept.scenario;
       metered = omega (arith, meter);
       least = omega (arith, kept.least, meter);
       most = omega (arith, kept.most, meter);
       between = rw c.or_other-last.ensures (found_within c.args.low at c.loop-at.last c.test_step-found.result (omega arith) kept.between);
-      last = c.or_other-last.ensures ∙ between_next find c.args.low at c.loop-at.last c.test_step-found.result (omega arith) kept.last found;
+      last = c.or_other-last.ensures ∙ between_next find c.args.low at c.loop-at.last c.test_step-found.result (omega arith) kept.last
+          found;
     }

@@ -8,7 +8,15 @@ pub loop-gap-init : goal.loop-gap-init
 loop-gap-init g c =
     let limit = c.gap_limit-gap.ensures in
     record {
-      thinned = (limit.0, limit.0, limit.1, omega arith, limit.2, thinning_starts c.args.n limit.0 (steps (g.K.Keeper.images c.args.keeper.now)) c.requires.stayed);
+      thinned = (
+        limit.0,
+        limit.0,
+        limit.1,
+        omega arith,
+        limit.2,
+        thinning_starts c.args.n limit.0
+            (steps (g.K.Keeper.images c.args.keeper.now)) c.requires.stayed,
+      );
       part = λ i h. h;
     }
 
@@ -41,7 +49,8 @@ loop-gap-preserved g c =
     let (i, low_is, half) = half_power c.loop-gap.gap low is c.loop-gap-test.true in
     let thinned_here : IsThinned n (suc i) high (steps images) = rw low_is at thinned in
     let removed : g.K.Keeper.images c.remove.new.self ≡ without images (n + 1 - 3 * 2 ^ i) = rw half at c.remove.ensures in
-    let next : IsThinned n i high (steps (g.K.Keeper.images c.remove.new.self)) = rw (removed, steps-without images (n + 1 - 3 * 2 ^ i)) (thinned_next n i high (steps images) out (omega arith) thinned_here) in
+    let next : IsThinned n i high (steps (g.K.Keeper.images c.remove.new.self)) = rw (removed, steps-without images (n + 1 - 3 * 2 ^ i))
+    (thinned_next n i high (steps images) out (omega arith) thinned_here) in
     record {
       thinned = (i, high, half, omega arith, out, next);
       part = λ j h. c.loop-gap.invariant.part j (Contains-without images (n + 1 - 3 * 2 ^ i) j (rw removed at h));

@@ -10,14 +10,17 @@ keep_sure-requires-clause-above g c =
 
 pub keep_sure-requires-clause-room : goal.keep_sure-requires-clause-room
 keep_sure-requires-clause-room g c =
-    room_of_staying c.args.low c.args.low (g.K.Keeper.images c.args.keeper.now) (omega arith) (omega arith) (g.met.K.Keeper.rising c.args.keeper.now) c.requires.staying
+    room_of_staying c.args.low c.args.low (g.K.Keeper.images c.args.keeper.now) (omega arith) (omega arith)
+    (g.met.K.Keeper.rising c.args.keeper.now) c.requires.staying
 
 pub settle-requires : goal.settle-requires
 settle-requires g c =
     let low = c.args.low in
     let images = g.K.Keeper.images in
-    let kept = staying_with low (images c.args.keeper.now) (images c.keep_sure.new.keeper) c.args.machine.now c.requires.staying c.keep_sure.ensures in
-    let of_run = of_run_kept c.args.processor.now.scenario low (images c.args.keeper.now) (images c.keep_sure.new.keeper) c.args.machine.now c.requires.of_run c.requires.stands c.keep_sure.ensures in
+    let kept = staying_with low (images c.args.keeper.now) (images c.keep_sure.new.keeper) c.args.machine.now c.requires.staying
+    c.keep_sure.ensures in
+    let of_run = of_run_kept c.args.processor.now.scenario low (images c.args.keeper.now) (images c.keep_sure.new.keeper) c.args.machine.now
+    c.requires.of_run c.requires.stands c.keep_sure.ensures in
     record {
       sure = c.requires.sure;
       order = c.walk-end.ensures.past;

@@ -3,7 +3,8 @@ use Rattle.std.specs.Int.{◌∣◌}
 use Rattle.replay.specs.Images.{steps}
 use Rattle.replay.proofs.ImageLemmas.{All-from_steps}
 use Rattle.replay.proofs.SettlingLemmas.{of_run_kept, of_run_part}
-use Rattle.replay.proofs.StridingLemmas.{IsBase, is_base, grid_starts, room_on_grid, steps_with, first_on_grid, first_with, grid_on, next_on_grid, base_kept, base_full}
+use Rattle.replay.proofs.StridingLemmas.{IsBase, is_base, grid_starts, room_on_grid, steps_with, first_on_grid, first_with, grid_on}
+use Rattle.replay.proofs.StridingLemmas.{next_on_grid, base_kept, base_full}
 use Rattle.replay.proofs.WalkedLemmas.{walked_none, walked_joined}
 use Rattle.replay.proofs.travelling.stride_on.Goals as goal
 use Rattle.replay.proofs.travelling.stride_on.Goals.{then-loop-at-test+else-not-ended, else-loop-at-test}
@@ -32,13 +33,15 @@ keep_sure-requires-clause-above g c =
 
 pub keep_sure-requires-clause-room : goal.keep_sure-requires-clause-room
 keep_sure-requires-clause-room g c =
-    room_on_grid c.args.low c.loop-at.at (g.K.Keeper.images c.loop-at.keeper) (omega (arith, c.loop-at.invariant.most_steps, c.requires.within)) (g.met.K.Keeper.rising c.loop-at.keeper) c.loop-at.invariant.kept
+    room_on_grid c.args.low c.loop-at.at (g.K.Keeper.images c.loop-at.keeper)
+    (omega (arith, c.loop-at.invariant.most_steps, c.requires.within)) (g.met.K.Keeper.rising c.loop-at.keeper) c.loop-at.invariant.kept
 
 pub thin_up_to-requires-clause-first : goal.thin_up_to-requires-clause-first
 thin_up_to-requires-clause-first g c =
     let images = g.K.Keeper.images in
     let at = c.loop-at.at in
-    first_with c.args.low at (steps (images c.loop-at.keeper)) (steps (images c.keep_sure.new.keeper)) (omega (arith, c.loop-at.invariant.most_steps, c.requires.within)) c.loop-at.invariant.kept
+    first_with c.args.low at (steps (images c.loop-at.keeper)) (steps (images c.keep_sure.new.keeper))
+    (omega (arith, c.loop-at.invariant.most_steps, c.requires.within)) c.loop-at.invariant.kept
     (steps_with (images c.loop-at.keeper) (images c.keep_sure.new.keeper) at c.loop-at.machine c.keep_sure.ensures)
 
 pub thin_up_to-requires-clause-before : goal.thin_up_to-requires-clause-before
@@ -63,18 +66,23 @@ loop-at-preserved g c =
     let on_grid : 2 ^ 14 ∣ at = kept.grid c.loop-at-test.true not_ended in
     let near : end ≤ at + 2 ^ 14 = omega (arith, told.within, c.min.ensures) in
     let walked_before : Walked g.S.Stepper.sees p low at false c.args.stepper.now c.loop-at.stepper = rw not_ended at kept.walked in
-    let walked_after : Walked g.S.Stepper.sees p at end c.walk-end.result.1 c.loop-at.stepper c.walk-end.new.stepper = rw kept.scenario at told.walked in
-    let of_run = of_run_kept p at (images c.loop-at.keeper) (images c.keep_sure.new.keeper) c.loop-at.machine kept.of_run kept.machine c.keep_sure.ensures in
+    let walked_after : Walked g.S.Stepper.sees p at end c.walk-end.result.1 c.loop-at.stepper c.walk-end.new.stepper = rw kept.scenario at
+    told.walked in
+    let of_run = of_run_kept p at (images c.loop-at.keeper) (images c.keep_sure.new.keeper) c.loop-at.machine kept.of_run kept.machine
+    c.keep_sure.ensures in
     record {
       from = omega (arith, kept.from, told.past);
       most_steps = omega (arith, told.within, c.min.ensures);
       some = λ _. omega (arith, kept.from, told.past);
       grid = λ less on. next_on_grid at end on_grid (omega (arith, told.all on, c.min.ensures, less));
       machine = rw kept.scenario at told.machine;
-      kept = grid_on low at end (steps (images c.loop-at.keeper)) (steps (images c.keep_sure.new.keeper)) (steps (images c.thin_up_to.new.keeper)) kept.from told.past near on_grid kept.kept
-          (steps_with (images c.loop-at.keeper) (images c.keep_sure.new.keeper) at c.loop-at.machine c.keep_sure.ensures) c.thin_up_to.ensures.stay;
+      kept = grid_on low at end (steps (images c.loop-at.keeper)) (steps (images c.keep_sure.new.keeper))
+          (steps (images c.thin_up_to.new.keeper)) kept.from told.past near on_grid kept.kept
+          (steps_with (images c.loop-at.keeper) (images c.keep_sure.new.keeper) at c.loop-at.machine c.keep_sure.ensures)
+          c.thin_up_to.ensures.stay;
       of_run = of_run_part p (images c.keep_sure.new.keeper) (images c.thin_up_to.new.keeper) of_run c.thin_up_to.ensures.part;
-      walked = walked_joined g.S.Stepper.sees p low at end c.walk-end.result.1 c.args.stepper.now c.loop-at.stepper c.walk-end.new.stepper walked_before walked_after;
+      walked = walked_joined g.S.Stepper.sees p low at end c.walk-end.result.1 c.args.stepper.now c.loop-at.stepper c.walk-end.new.stepper
+          walked_before walked_after;
       scenario = told.scenario ∙ kept.scenario;
       metered = told.metered;
       least = omega (arith, kept.least, told.least, kept.from, told.past);
@@ -91,7 +99,8 @@ settle-requires g c =
       | then-loop-at-test+else-not-ended w ↦ c.loop-at.invariant.some (inr w.if-not-ended.false)
       | else-loop-at-test w ↦ c.loop-at.invariant.some (inl (omega (arith, w.loop-at-test.false)))
     ] in
-    let base_is : c.max-base.result ≡ max low (((at + 1) / 16384 - 2) * 16384) = omega (arith, c.max-base.ensures, c.saturating_sub.ensures) in
+    let base_is : c.max-base.result ≡ max low (((at + 1) / 16384 - 2) * 16384) = omega (arith, c.max-base.ensures, c.saturating_sub.ensures)
+    in
     let is : IsBase low at c.max-base.result = is_base low at c.max-base.result c.requires.grid some base_is in
     record {
       sure = c.requires.sure;
@@ -99,7 +108,8 @@ settle-requires g c =
       within = omega (arith, kept.most_steps, c.requires.within);
       metered = kept.metered;
       of_run = rw kept.scenario kept.of_run;
-      first = first_on_grid low at (steps (images c.loop-at.keeper)) (omega (arith, kept.most_steps, c.requires.within)) (omega (arith, some)) kept.kept;
+      first = first_on_grid low at (steps (images c.loop-at.keeper)) (omega (arith, kept.most_steps, c.requires.within))
+          (omega (arith, some)) kept.kept;
       base = base_kept low at c.max-base.result (steps (images c.loop-at.keeper)) is kept.kept;
       before = kept.kept.below;
       full = base_full low at c.max-base.result (steps (images c.loop-at.keeper)) is kept.kept;

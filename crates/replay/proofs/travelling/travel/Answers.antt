@@ -22,6 +22,9 @@ stride_on-requires-2-clause-grid g c =
 pub returns-clause-walked : goal.returns-clause-walked
 returns-clause-walked g c =
     let p = c.args.processor.now.scenario in
-    let early : Walked g.S.Stepper.sees p c.args.low c.leap-end.result.0 false c.args.stepper.now c.leap-end.new.stepper = rw c.if-ended.false at c.leap-end.ensures.walked in
-    let late : Walked g.S.Stepper.sees p c.leap-end.result.0 c.stride_on-2.result.0 c.stride_on-2.result.1 c.leap-end.new.stepper c.stride_on-2.new.stepper = rw c.leap-end.ensures.scenario at c.stride_on-2.ensures.walked in
-    walked_joined g.S.Stepper.sees p c.args.low c.leap-end.result.0 c.stride_on-2.result.0 c.stride_on-2.result.1 c.args.stepper.now c.leap-end.new.stepper c.stride_on-2.new.stepper early late
+    let early : Walked g.S.Stepper.sees p c.args.low c.leap-end.result.0 false c.args.stepper.now c.leap-end.new.stepper = rw
+    c.if-ended.false at c.leap-end.ensures.walked in
+    let late : Walked g.S.Stepper.sees p c.leap-end.result.0 c.stride_on-2.result.0 c.stride_on-2.result.1 c.leap-end.new.stepper
+    c.stride_on-2.new.stepper = rw c.leap-end.ensures.scenario at c.stride_on-2.ensures.walked in
+    walked_joined g.S.Stepper.sees p c.args.low c.leap-end.result.0 c.stride_on-2.result.0 c.stride_on-2.result.1 c.args.stepper.now
+    c.leap-end.new.stepper c.stride_on-2.new.stepper early late

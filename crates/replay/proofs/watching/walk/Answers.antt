@@ -23,7 +23,8 @@ make_step-requires-clause-cycles g c =
     omega (arith, e, cycles-run c.args.processor.now.scenario c.loop-at.at)
 
 pub make_step-requires-clause-fits : goal.make_step-requires-clause-fits
-make_step-requires-clause-fits g c = rw (c.loop-at.invariant.scenario, c.loop-at.invariant.machine) (run-fits c.args.processor.now.scenario c.loop-at.at)
+make_step-requires-clause-fits g c = rw (c.loop-at.invariant.scenario, c.loop-at.invariant.machine)
+    (run-fits c.args.processor.now.scenario c.loop-at.at)
 
 pub loop-at-preserved : goal.loop-at-preserved
 loop-at-preserved g c =
@@ -33,8 +34,10 @@ loop-at-preserved g c =
     let told = c.make_step.ensures in
     let meter = ap (λ (q : Processing). q.meter) told.processor in
     record {
-      machine = told.state ∙ ap (λ (q : Scenario). (next q c.loop-at.machine).0) kept.scenario ∙ ap (λ (s : State). (next p s).0) kept.machine ∙ sym (run-add-one p at);
-      walked = walked_more g.S.Stepper.sees p c.args.low at false c.args.stepper.now c.loop-at.stepper c.make_step.new.self c.loop-at.machine kept.walked kept.machine (rw (kept.scenario, c.if-make_step.false) at told.sees);
+      machine = told.state ∙ ap (λ (q : Scenario). (next q c.loop-at.machine).0) kept.scenario
+          ∙ ap (λ (s : State). (next p s).0) kept.machine ∙ sym (run-add-one p at);
+      walked = walked_more g.S.Stepper.sees p c.args.low at false c.args.stepper.now c.loop-at.stepper c.make_step.new.self
+          c.loop-at.machine kept.walked kept.machine (rw (kept.scenario, c.if-make_step.false) at told.sees);
       scenario = ap (λ (q : Processing). q.scenario) told.processor ∙ kept.scenario;
       metered = omega (arith, meter);
       least = omega (arith, kept.least, meter);
@@ -52,8 +55,10 @@ returns-then-make_step g c =
       past = omega arith;
       within = omega arith;
       all = λ e. absurd (let bad : true ≡ false = e in cc);
-      machine = told.state ∙ ap (λ (q : Scenario). (next q c.loop-at.machine).0) kept.scenario ∙ ap (λ (s : State). (next p s).0) kept.machine ∙ sym (run-add-one p at);
-      walked = walked_more g.S.Stepper.sees p c.args.low at true c.args.stepper.now c.loop-at.stepper c.make_step.new.self c.loop-at.machine kept.walked kept.machine (rw (kept.scenario, c.if-make_step.true) at told.sees);
+      machine = told.state ∙ ap (λ (q : Scenario). (next q c.loop-at.machine).0) kept.scenario
+          ∙ ap (λ (s : State). (next p s).0) kept.machine ∙ sym (run-add-one p at);
+      walked = walked_more g.S.Stepper.sees p c.args.low at true c.args.stepper.now c.loop-at.stepper c.make_step.new.self c.loop-at.machine
+          kept.walked kept.machine (rw (kept.scenario, c.if-make_step.true) at told.sees);
       scenario = ap (λ (q : Processing). q.scenario) told.processor ∙ kept.scenario;
       metered = omega (arith, meter);
       least = omega (arith, kept.least, meter);

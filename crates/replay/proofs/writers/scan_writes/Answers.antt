@@ -22,7 +22,8 @@ loop-at-init c =
       least = omega arith;
       most = omega arith;
       between = rw is (between_more low low None c.writes_some.result (omega arith) tt);
-      last = rw is (last_more (step_writes p c.args.cells.now) low low None c.writes_some.result (omega arith) (last_none (step_writes p c.args.cells.now) low)
+      last = rw is (last_more (step_writes p c.args.cells.now) low low None c.writes_some.result (omega arith)
+          (last_none (step_writes p c.args.cells.now) low)
           (writes_on p low c.args.machine.now c.args.cells.now c.writes_some.result c.requires.stands c.writes_some.ensures));
     }
 
@@ -34,7 +35,8 @@ loop-at-preserved c =
     let same = kept.scenario in
     let meter = ap (λ (q : Processing). q.meter) c.make_step.ensures.meter in
     let after = ap (λ (q : Processing). q.scenario) c.make_step.ensures.meter ∙ same in
-    let stands = steps_on p at c.loop-at.machine c.make_step.new.machine c.make_step.result (omega arith) kept.machine (λ low. rw same at (c.make_step.ensures.step low)) in
+    let stands = steps_on p at c.loop-at.machine c.make_step.new.machine c.make_step.result (omega arith) kept.machine
+    (λ low. rw same at (c.make_step.ensures.step low)) in
     let is : c.if-writes_some-2.last ≡ cond c.writes_some-in-loop-at.result (Some (at + 1)) c.loop-at.last = elim c.if-writes_some-2.branch [
       | then-writes_some-2 w ↦ rw w.if-writes_some-2.true w.last-is
       | else-writes_some-2 w ↦ rw w.if-writes_some-2.false w.last-is
@@ -46,6 +48,8 @@ loop-at-preserved c =
       least = omega (arith, c.make_step.ensures.growing kept.metered);
       most = omega (arith, meter);
       between = rw is (between_more c.args.low (at + 1) c.loop-at.last c.writes_some-in-loop-at.result (omega arith) kept.between);
-      last = rw is (last_more (step_writes p c.args.cells.now) c.args.low (at + 1) c.loop-at.last c.writes_some-in-loop-at.result (omega arith) kept.last
-          (writes_on p (at + 1) c.make_step.new.machine c.args.cells.now c.writes_some-in-loop-at.result stands (rw after at c.writes_some-in-loop-at.ensures)));
+      last = rw is (last_more (step_writes p c.args.cells.now) c.args.low (at + 1) c.loop-at.last c.writes_some-in-loop-at.result
+          (omega arith) kept.last
+          (writes_on p (at + 1) c.make_step.new.machine c.args.cells.now c.writes_some-in-loop-at.result stands
+          (rw after at c.writes_some-in-loop-at.ensures)));
     }

@@ -27,7 +27,8 @@ loop-high-preserved g c =
     let low = c.step_before-low.result in
     let same = c.restore.ensures.scenario ∙ kept.scenario in
     let cost = c.restore.ensures.most low c.step_before-low.ensures.kept_too (omega arith) in
-    let none : IsLastHit (step_writes c.args.processor.now.scenario c.args.cells.now) low high None = rw same at c.in_default.ensures.last in
+    let none : IsLastHit (step_writes c.args.processor.now.scenario c.args.cells.now) low high None = rw same at c.in_default.ensures.last
+    in
     record {
       high = omega (arith, c.step_before-low.ensures.before);
       scenario = c.in_default.ensures.scenario ∙ same;

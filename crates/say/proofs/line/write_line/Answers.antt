@@ -12,24 +12,29 @@ returns-in_err-write_head-clause-written g c = λ told.
     let p = err_from_is_err_and c.from_residual.result c.from_residual.ensures.1 in
     let scene = c.args.scene in
     rw p.1 (beginning-longer _ _ (field 8 (decimal c.args.number) ++ scene.what.items)
-    (filled scene.called scene.places.channel scene.before (values_after c.args.rope.now c.args.machine.now scene.places) scene.sentence.items ++ codes "\n") (c.in_err-write_head.ensures.written told))
+    (filled scene.called scene.places.channel scene.before (values_after c.args.rope.now c.args.machine.now scene.places)
+    scene.sentence.items ++ codes "\n") (c.in_err-write_head.ensures.written told))
 
 pub returns-in_err-write_filled-clause-written : goal.returns-in_err-write_filled-clause-written
 returns-in_err-write_filled-clause-written g c = λ told.
     let p = err_from_is_err_and c.from_residual-in_err-write_filled.result c.from_residual-in_err-write_filled.ensures.1 in
     let scene = c.args.scene in
     rw p.1 (beginning-after _ _ _ (field 8 (decimal c.args.number) ++ scene.what.items)
-    (filled scene.called scene.places.channel scene.before (values_after c.args.rope.now c.args.machine.now scene.places) scene.sentence.items ++ codes "\n")
+    (filled scene.called scene.places.channel scene.before (values_after c.args.rope.now c.args.machine.now scene.places)
+    scene.sentence.items ++ codes "\n")
     (c.in_ok-write_head.ensures.written told)
-    (beginning-longer _ _ (filled scene.called scene.places.channel scene.before (values_after c.args.rope.now c.args.machine.now scene.places) scene.sentence.items) (codes "\n")
+    (beginning-longer _ _ (filled scene.called scene.places.channel scene.before
+    (values_after c.args.rope.now c.args.machine.now scene.places) scene.sentence.items) (codes "\n")
     (rw (c.as_slice.ensures.value, c.values_after-after.ensures) at (c.in_err-write_filled.ensures.written told))))
 
 pub returns-clause-written : goal.returns-clause-written
 returns-clause-written g c = λ told.
     let scene = c.args.scene in
     Writes-after _ _ _ (field 8 (decimal c.args.number) ++ scene.what.items)
-    (filled scene.called scene.places.channel scene.before (values_after c.args.rope.now c.args.machine.now scene.places) scene.sentence.items ++ codes "\n") _
+    (filled scene.called scene.places.channel scene.before (values_after c.args.rope.now c.args.machine.now scene.places)
+    scene.sentence.items ++ codes "\n") _
     (c.in_ok-write_head.ensures.written told)
-    (Writes-after _ _ _ (filled scene.called scene.places.channel scene.before (values_after c.args.rope.now c.args.machine.now scene.places) scene.sentence.items) (codes "\n") _
+    (Writes-after _ _ _ (filled scene.called scene.places.channel scene.before
+    (values_after c.args.rope.now c.args.machine.now scene.places) scene.sentence.items) (codes "\n") _
     (rw (c.as_slice.ensures.value, c.values_after-after.ensures) at (c.in_ok-write_filled.ensures.written told))
     (c.write_all.ensures.written told))

@@ -1,8 +1,10 @@
 use Rattle.std.proofs.Common.{◌≡◌, ◌+◌, ◌*◌, ◌/◌, ◌%◌, ◌^◌, ◌==◌, true, false, arith}
 use Rattle.space.specs.Cells.{get}
-use Rattle.space.proofs.ChangedLemmas.{HandsOver-none, HandsOver-changed, HandsOver-unchanged, HandsOver-passed, HandsOver-at, differs, bit-differs, bit-same, no-bits}
+use Rattle.space.proofs.ChangedLemmas.{HandsOver-none, HandsOver-changed, HandsOver-unchanged, HandsOver-passed, HandsOver-at, differs}
+use Rattle.space.proofs.ChangedLemmas.{bit-differs, bit-same, no-bits}
 use Rattle.space.proofs.store.changed.Goals as goal
-use Rattle.space.proofs.store.changed.Goals.{then-differs, else-differs, then-differing-lane-eq1, else-differing-lane-eq1, then-differing-ne0+else-loop-lane-test, else-differing-ne0}
+use Rattle.space.proofs.store.changed.Goals.{then-differs, else-differs, then-differing-lane-eq1, else-differing-lane-eq1}
+use Rattle.space.proofs.store.changed.Goals.{then-differing-ne0+else-loop-lane-test, else-differing-ne0}
 
 pub loop-number-init : goal.loop-number-init
 loop-number-init c = HandsOver-none c.args.one.now c.args.other.now c.args.places.now c.told-places
@@ -35,11 +37,15 @@ loop-lane-preserved c =
     let bit = c.differing-differing.ensures lane (omega arith) in
     elim c.if-differing-lane-eq1.branch [
       | then-differing-lane-eq1 w ↦
-          let apart : differs s t n ≡ true = bit-differs (get s n == get t n) (c.differing-differing.result / 2 ^ lane % 2) bit (omega arith) in
-          rw (w.count-is, w.places-is) (HandsOver-at s t (n + 1) (first + (lane + 1)) _ old _ (omega arith) (HandsOver-changed s t n c.loop-lane.count old c.loop-lane.places before (omega arith) apart))
+          let apart : differs s t n ≡ true = bit-differs (get s n == get t n) (c.differing-differing.result / 2 ^ lane % 2) bit
+          (omega arith) in
+          rw (w.count-is, w.places-is) (HandsOver-at s t (n + 1) (first + (lane + 1)) _ old _ (omega arith)
+          (HandsOver-changed s t n c.loop-lane.count old c.loop-lane.places before (omega arith) apart))
       | else-differing-lane-eq1 w ↦
-          let same : differs s t n ≡ false = bit-same (get s n == get t n) (c.differing-differing.result / 2 ^ lane % 2) bit (omega arith) in
-          rw (w.count-is, w.places-is) (HandsOver-at s t (n + 1) (first + (lane + 1)) _ old _ (omega arith) (HandsOver-unchanged s t n c.loop-lane.count old c.loop-lane.places before same))
+          let same : differs s t n ≡ false = bit-same (get s n == get t n) (c.differing-differing.result / 2 ^ lane % 2) bit (omega arith)
+          in
+          rw (w.count-is, w.places-is) (HandsOver-at s t (n + 1) (first + (lane + 1)) _ old _ (omega arith)
+          (HandsOver-unchanged s t n c.loop-lane.count old c.loop-lane.places before same))
     ]
 
 pub loop-chunk-preserved : goal.loop-chunk-preserved
@@ -51,8 +57,10 @@ loop-chunk-preserved c =
     let old = c.args.places.now in
     elim c.if-differing-ne0.branch [
       | then-differing-ne0+else-loop-lane-test w ↦
-          rw (w.count-is, w.places-is) (HandsOver-at s t (first + w.loop-lane.lane) next w.loop-lane.count old w.loop-lane.places (omega arith) w.loop-lane.invariant)
+          rw (w.count-is, w.places-is) (HandsOver-at s t (first + w.loop-lane.lane) next w.loop-lane.count old w.loop-lane.places
+          (omega arith) w.loop-lane.invariant)
       | else-differing-ne0 w ↦
           let same = no-bits s t first c.differing-differing.result w.if-differing-ne0.false c.differing-differing.ensures in
-          rw (w.count-is, w.places-is) (HandsOver-at s t (first + 32) next c.loop-chunk.count old c.loop-chunk.places (omega arith) (HandsOver-passed s t first c.loop-chunk.count 32 old c.loop-chunk.places c.loop-chunk.invariant same))
+          rw (w.count-is, w.places-is) (HandsOver-at s t (first + 32) next c.loop-chunk.count old c.loop-chunk.places (omega arith)
+          (HandsOver-passed s t first c.loop-chunk.count 32 old c.loop-chunk.places c.loop-chunk.invariant same))
     ]

@@ -24,4 +24,5 @@ loop-number-preserved c =
     c.loop-number.invariant ∙ found_later differs n 0o4000 (omega arith) fails
 
 pub returns : goal.returns
-returns c = sym (c.loop-number.invariant ∙ found_none (differs_at c.args.without.now c.args.now.now) c.loop-number.number 0o4000 (omega arith))
+returns c = sym (c.loop-number.invariant ∙ found_none (differs_at c.args.without.now c.args.now.now) c.loop-number.number 0o4000
+    (omega arith))

@@ -15,7 +15,8 @@ returns-in_err-write_sent-clause-written g c = λ told.
     let split : drop c.loop-sent.sent-index c.args.others.now ≡ c.sent-item.result ∷ more =
     drop_more c.args.others.now c.loop-sent.sent-index c.sent-item.result within ∙ ap (λ w. w ∷ more) (sym c.sent-item.is) in
     let p = err_from_is_err_and c.from_residual.result c.from_residual.ensures.1 in
-    rw p.1 (so_far_breaks _ _ _ _ _ _ _ (c.loop-sent.invariant.written told) (ap others_text split) (c.in_err-write_sent.ensures.written told))
+    rw p.1 (so_far_breaks _ _ _ _ _ _ _ (c.loop-sent.invariant.written told) (ap others_text split)
+    (c.in_err-write_sent.ensures.written told))
 
 pub loop-sent-preserved : goal.loop-sent-preserved
 loop-sent-preserved g c =
@@ -24,9 +25,11 @@ loop-sent-preserved g c =
     let split : drop c.loop-sent.sent-index c.args.others.now ≡ c.sent-item.result ∷ more =
     drop_more c.args.others.now c.loop-sent.sent-index c.sent-item.result within ∙ ap (λ w. w ∷ more) (sym c.sent-item.is) in
     record {
-      written = λ told. so_far_more _ _ _ _ _ _ _ (c.loop-sent.invariant.written told) (ap others_text split) (c.in_ok-write_sent.ensures.written told);
+      written = λ told. so_far_more _ _ _ _ _ _ _ (c.loop-sent.invariant.written told) (ap others_text split)
+          (c.in_ok-write_sent.ensures.written told);
       failures = c.in_ok-write_sent.ensures.failures ∙ c.loop-sent.invariant.failures;
     }
 
 pub returns-clause-written : goal.returns-clause-written
-returns-clause-written g c = λ told. so_far_ends _ _ _ _ (c.loop-sent.invariant.written told) (ap others_text (drop_all c.loop-sent.sent-index c.args.others.now (omega arith)))
+returns-clause-written g c = λ told. so_far_ends _ _ _ _ (c.loop-sent.invariant.written told)
+    (ap others_text (drop_all c.loop-sent.sent-index c.args.others.now (omega arith)))

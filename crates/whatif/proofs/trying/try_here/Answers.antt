@@ -6,4 +6,5 @@ pub try_after-requires-clause-before : goal.try_after-requires-clause-before
 try_after-requires-clause-before c =
     let scenario = c.args.processor.now.scenario in
     let here : c.args.machine.now.cycles ≤ c.cycles-first.result = omega (arith, c.cycles-first.ensures) in
-    rw (c.in-Ok.ensures, c.after-start.ensures.done) (before_here scenario c.args.done c.cycles-first.result c.args.machine.now c.requires.stands here)
+    rw (c.in-Ok.ensures, c.after-start.ensures.done)
+    (before_here scenario c.args.done c.cycles-first.result c.args.machine.now c.requires.stands here)

@@ -2,4 +2,5 @@ use Rattle.whatif.proofs.Steps.{run_zero}
 use Rattle.whatif.proofs.trying.try_inputs.Goals as goal
 
 pub try_after-requires-clause-machine : goal.try_after-requires-clause-machine
-try_after-requires-clause-machine g c = run_zero c.args.processor.now.scenario _ _ c.at_start-start.ensures.machine c.at_start-start.ensures.done
+try_after-requires-clause-machine g c = run_zero c.args.processor.now.scenario _ _ c.at_start-start.ensures.machine
+    c.at_start-start.ensures.done

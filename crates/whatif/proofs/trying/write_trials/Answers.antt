@@ -18,8 +18,10 @@ loop-trial-init g c = record {
   from = c.in-Ok.ensures.from;
   begun = omega (arith, c.in-Ok.ensures.done, c.in-Ok.ensures.from, c.requires.from);
   machine = rw c.in-Ok.ensures.done (c.in-Ok.ensures.machine ∙ c.requires.machine);
-  answer = rw c.in-Ok.ensures.done (outcome_begins _ c.args.processor.now.scenario _ _ _ (c.in-Ok.ensures.answer ∙ c.requires.begun) c.requires.from);
-  way = first_way c.args.processor.now.scenario c.args.start.now.done _ c.args.first c.args.trials.now c.in-Ok.ensures.done c.requires.before c.requires.rising;
+  answer = rw c.in-Ok.ensures.done (outcome_begins _ c.args.processor.now.scenario _ _ _ (c.in-Ok.ensures.answer ∙ c.requires.begun)
+      c.requires.from);
+  way = first_way c.args.processor.now.scenario c.args.start.now.done _ c.args.first c.args.trials.now c.in-Ok.ensures.done
+      c.requires.before c.requires.rising;
   few = omega arith;
   once = omega (arith, c.in-Ok.ensures.done);
 }
@@ -36,7 +38,8 @@ try_next-requires-clause-before g c =
     let more = drop (c.loop-trial.trial-index + 1) c.args.trials.now in
     let split : drop c.loop-trial.trial-index c.args.trials.now ≡ c.trial-item.result ∷ more =
     drop_more c.args.trials.now c.loop-trial.trial-index c.trial-item.result within ∙ ap (λ w. w ∷ more) (sym c.trial-item.is) in
-    rw c.loop-trial.invariant.scenario (next_before c.args.processor.now.scenario c.loop-trial.trunk.done _ c.trial-item.result more split c.loop-trial.invariant.way)
+    rw c.loop-trial.invariant.scenario (next_before c.args.processor.now.scenario c.loop-trial.trunk.done _ c.trial-item.result more split
+    c.loop-trial.invariant.way)
 
 pub returns-in_err-finish-clause-failures : goal.returns-in_err-finish-clause-failures
 returns-in_err-finish-clause-failures g c =
@@ -53,7 +56,9 @@ returns-in_err-with_trial-clause-written g c = λ told.
     let p = err_from_is_err_and c.from_residual-in_err-with_trial.result c.from_residual-in_err-with_trial.ensures.1 in
     rw p.1
     (so_far_breaks _ _ _ _ _ _ _ (c.loop-trial.invariant.written told)
-    (trial_told c.args.without.now.answer.others c.args.without.now.machine.cells c.args.start.now.from c.args.processor.now.scenario c.args.steps c.args.told c.loop-trial.pending _ c.trial-item.result more _ split (rw (c.loop-trial.invariant.scenario, c.loop-trial.invariant.from) at c.in_ok-finish.ensures.finish))
+    (trial_told c.args.without.now.answer.others c.args.without.now.machine.cells c.args.start.now.from c.args.processor.now.scenario
+    c.args.steps c.args.told c.loop-trial.pending _ c.trial-item.result more _ split
+    (rw (c.loop-trial.invariant.scenario, c.loop-trial.invariant.from) at c.in_ok-finish.ensures.finish))
     (c.in_err-with_trial.ensures.written told))
 
 pub loop-trial-preserved : goal.loop-trial-preserved
@@ -65,7 +70,9 @@ loop-trial-preserved g c =
     record {
       written = λ told.
           so_far_more _ _ _ _ _ _ _ (c.loop-trial.invariant.written told)
-          (span_told c.args.without.now.answer.others c.args.without.now.machine.cells c.args.start.now.from c.args.processor.now.scenario c.args.steps c.args.told c.loop-trial.pending _ c.trial-item.result more _ _ split (rw (c.loop-trial.invariant.scenario, c.loop-trial.invariant.from) at c.in_ok-finish.ensures.finish)
+          (span_told c.args.without.now.answer.others c.args.without.now.machine.cells c.args.start.now.from c.args.processor.now.scenario
+          c.args.steps c.args.told c.loop-trial.pending _ c.trial-item.result more _ _ split
+          (rw (c.loop-trial.invariant.scenario, c.loop-trial.invariant.from) at c.in_ok-finish.ensures.finish)
           c.in_ok-with_trial.ensures.span)
           (c.in_ok-with_trial.ensures.written told);
       failures = c.in_ok-with_trial.ensures.failures ∙ c.loop-trial.invariant.failures;
@@ -75,12 +82,16 @@ loop-trial-preserved g c =
       begun = omega (arith, c.loop-trial.invariant.begun, c.in_ok-finish.ensures.begun, c.in_ok-finish.ensures.from);
       machine = rw c.loop-trial.invariant.scenario at c.in_ok-finish.ensures.trunk;
       answer = rw (c.loop-trial.invariant.scenario, c.loop-trial.invariant.from) at c.in_ok-finish.ensures.seen;
-      way = next_way c.args.processor.now.scenario c.loop-trial.trunk.done _ _ c.trial-item.result more split c.loop-trial.invariant.way (rw c.loop-trial.invariant.scenario at c.in_ok-finish.ensures.before);
-      few = few_span c.loop-trial.pending c.trial-item.result.cycle _ _ c.loop-trial.trial-index c.loop-trial.invariant.few c.in_ok-with_trial.ensures.span;
+      way = next_way c.args.processor.now.scenario c.loop-trial.trunk.done _ _ c.trial-item.result more split c.loop-trial.invariant.way
+          (rw c.loop-trial.invariant.scenario at c.in_ok-finish.ensures.before);
+      few = few_span c.loop-trial.pending c.trial-item.result.cycle _ _ c.loop-trial.trial-index c.loop-trial.invariant.few
+          c.in_ok-with_trial.ensures.span;
       once = omega (arith, c.loop-trial.invariant.once, c.in_ok-finish.ensures.once);
     }
 
 pub returns-clause-written : goal.returns-clause-written
 returns-clause-written g c = λ told.
     so_far_last _ _ _ _ (open_text c.args.told c.loop-trial.pending) _ _ (c.loop-trial.invariant.written told)
-    (last_told c.args.without.now.answer.others c.args.without.now.machine.cells c.args.start.now.from c.args.processor.now.scenario c.args.steps c.args.told c.loop-trial.pending _ (drop_all c.loop-trial.trial-index c.args.trials.now (omega arith))) (c.write_open.ensures.written told)
+    (last_told c.args.without.now.answer.others c.args.without.now.machine.cells c.args.start.now.from c.args.processor.now.scenario
+    c.args.steps c.args.told c.loop-trial.pending _ (drop_all c.loop-trial.trial-index c.args.trials.now (omega arith)))
+    (c.write_open.ensures.written told)

@@ -10,7 +10,9 @@ use Rattle.whatif.proofs.trying.write_trials.Given as goal
 abbrev pub invariant-loop-trial : goal.invariant-loop-trial
 invariant-loop-trial g l = record {
   written : g.W.Write.told ≡ true → SoFar (g.W.Write.written l.fn.out) (g.W.Write.written l.out)
-      (spans_text l.told None (finishes l.without.answer.others l.without.machine.cells l.start.from l.fn.processor.scenario l.steps l.trials)) (spans_text l.told l.pending (finishes l.without.answer.others l.without.machine.cells l.start.from l.fn.processor.scenario l.steps (drop l.trial-index l.trials)));
+      (spans_text l.told None (finishes l.without.answer.others l.without.machine.cells l.start.from l.fn.processor.scenario l.steps
+      l.trials)) (spans_text l.told l.pending (finishes l.without.answer.others l.without.machine.cells l.start.from
+      l.fn.processor.scenario l.steps (drop l.trial-index l.trials)));
   failures : g.W.Write.failures l.out ≡ g.W.Write.failures l.fn.out;
   scenario : l.processor.scenario ≡ l.fn.processor.scenario;
   within : l.trunk.done ≤ l.steps;

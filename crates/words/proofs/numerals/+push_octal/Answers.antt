@@ -4,7 +4,8 @@ use Rattle.words.proofs.numerals.+push_octal.Goals as goal
 
 pub returns-then-digits-gt0-clause-items : goal.returns-then-digits-gt0-clause-items
 returns-then-digits-gt0-clause-items g t c =
-    rw c.last_octal_digit.ensures at c.push.ensures.items ∙ octal_pushed _ _ c.args.digits c.args.number (omega arith) c.push_octal.ensures.items
+    rw c.last_octal_digit.ensures at c.push.ensures.items
+    ∙ octal_pushed _ _ c.args.digits c.args.number (omega arith) c.push_octal.ensures.items
 
 pub returns-else-digits-gt0-clause-items : goal.returns-else-digits-gt0-clause-items
 returns-else-digits-gt0-clause-items g t c =

@@ -12,4 +12,5 @@ count-requires-clause-none g c =
 pub returns-clause-counts : goal.returns-clause-counts
 returns-clause-counts g c =
     let counts = c.in-Ok-new.ensures c.new-processor.result.scenario in
-    counts_some _ _ _ _ c.in-Some.view _ _ _ (sym c.in-Some.ensures) (rw (counts.same, c.in-Ok.ensures, c.new-processor.ensures.value) at c.count.ensures.counts)
+    counts_some _ _ _ _ c.in-Some.view _ _ _ (sym c.in-Some.ensures)
+    (rw (counts.same, c.in-Ok.ensures, c.new-processor.ensures.value) at c.count.ensures.counts)

@@ -23,19 +23,22 @@ make_steps-requires-clause-state g c = rw c.loop-done.invariant.scenario c.loop-
 pub make_steps-requires-clause-counts : goal.make_steps-requires-clause-counts
 make_steps-requires-clause-counts g c =
     rw c.loop-done.invariant.scenario
-    (subst (λ (v : View). Counts v c.args.processor.now.scenario c.loop-done.done c.loop-done.tally) (sym c.loop-done.invariant.view) c.loop-done.invariant.counts)
+    (subst (λ (v : View). Counts v c.args.processor.now.scenario c.loop-done.done c.loop-done.tally) (sym c.loop-done.invariant.view)
+    c.loop-done.invariant.counts)
 
 pub loop-done-preserved : goal.loop-done-preserved
 loop-done-preserved g c =
     let whole = c.loop-done.invariant.whole c.loop-done-test.true in
-    let counts : Counts c.args.tally.now.view c.args.processor.now.scenario c.min-stop.result c.make_steps.new.self = rw (c.loop-done.invariant.scenario, c.loop-done.invariant.view) at c.make_steps.ensures.counts in
+    let counts : Counts c.args.tally.now.view c.args.processor.now.scenario c.min-stop.result c.make_steps.new.self = rw
+    (c.loop-done.invariant.scenario, c.loop-done.invariant.view) at c.make_steps.ensures.counts in
     record {
       scenario = c.make_steps.ensures.scenario ∙ c.loop-done.invariant.scenario;
       state = rw c.loop-done.invariant.scenario at c.make_steps.ensures.state;
       view = counts.same;
       counts = counts;
       within = omega arith;
-      tells = tells_more c.loop-done.done c.min-stop.result _ _ _ _ _ whole (omega arith) (omega arith) refl c.loop-done.invariant.tells c.tell-told.ensures;
+      tells = tells_more c.loop-done.done c.min-stop.result _ _ _ _ _ whole (omega arith) (omega arith) refl c.loop-done.invariant.tells
+          c.tell-told.ensures;
       whole = λ more. omega (arith, whole, more);
     }
 
@@ -47,7 +50,8 @@ returns-clause-counts g c =
 pub returns-clause-adds_up : goal.returns-clause-adds_up
 returns-clause-adds_up g c =
     let end : c.loop-done.done ≡ c.args.steps = omega (arith, c.loop-done-test.false, c.loop-done.invariant.within) in
-    let counts : Counts c.args.tally.now.view c.args.processor.now.scenario c.args.steps c.loop-done.tally = rw end at c.loop-done.invariant.counts in
+    let counts : Counts c.args.tally.now.view c.args.processor.now.scenario c.args.steps c.loop-done.tally = rw end at
+    c.loop-done.invariant.counts in
     adds_up_in c.args.tally.now.view c.args.processor.now.scenario c.args.steps c.loop-done.tally counts
 
 pub returns-clause-progress : goal.returns-clause-progress

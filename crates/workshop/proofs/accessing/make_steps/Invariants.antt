@@ -12,7 +12,8 @@ invariant-loop-done g l = record {
   view : l.tally.view ≡ l.initial.tally.view;
   counts : Counts l.initial.tally.view l.initial.processor.scenario l.done l.tally;
   within : l.done ≤ l.steps;
-  tells : Tells l.done (writer g.T.Write.told g.T.Write.written g.T.Write.failures l.initial.progress) (writer g.T.Write.told g.T.Write.written g.T.Write.failures l.progress) l.told;
+  tells : Tells l.done (writer g.T.Write.told g.T.Write.written g.T.Write.failures l.initial.progress)
+      (writer g.T.Write.told g.T.Write.written g.T.Write.failures l.progress) l.told;
   whole : l.done < l.steps → l.done % 2 ^ 20 ≡ 0;
 }
 

@@ -8,19 +8,30 @@ use Rattle.workshop.proofs.covering.cover.Goals as goal
 pub returns-in_err-write_profile-clause-covers : goal.returns-in_err-write_profile-clause-covers
 returns-in_err-write_profile-clause-covers g c =
     let p = err_from_is_err_and c.from_residual.result c.from_residual.ensures.1 in
-    let text = text_is c.args.notation c.args.processor.now.scenario c.args.steps c.make_steps-cycles.new.tally (record { count = c.args.steps; cycles = c.make_steps-cycles.result }) c.rope.result.now c.args.rows.now
+    let text = text_is c.args.notation c.args.processor.now.scenario c.args.steps c.make_steps-cycles.new.tally
+    (record { count = c.args.steps; cycles = c.make_steps-cycles.result }) c.rope.result.now c.args.rows.now
     c.make_steps-cycles.ensures.counts (ap (λ k. record { count = c.args.steps; cycles = k }) c.make_steps-cycles.ensures.cycles)
     (c.rope.ensures ∙ ap (λ s. s.rope) c.make_steps-cycles.ensures.scenario) in
-    let breaks : g.W.Write.told ≡ true → WritesBeginning (g.W.Write.written c.args.out.now) (g.W.Write.written c.write_profile.new.out) (cover_text c.args.notation c.args.rows.now c.args.processor.now.scenario c.args.steps) = λ told.
+    let breaks : g.W.Write.told ≡ true → WritesBeginning (g.W.Write.written c.args.out.now) (g.W.Write.written c.write_profile.new.out)
+    (cover_text c.args.notation c.args.rows.now c.args.processor.now.scenario c.args.steps) = λ told.
     rw text at (c.in_err-write_profile.ensures.written told) in
-    rw (p.1, p.2) (inr ((breaks, c.in_err-write_profile.ensures.failures), c.make_steps-cycles.ensures.adds_up, c.make_steps-cycles.ensures.shown_add_up))
+    rw (p.1, p.2) (inr (
+      (breaks, c.in_err-write_profile.ensures.failures),
+      c.make_steps-cycles.ensures.adds_up,
+      c.make_steps-cycles.ensures.shown_add_up,
+    ))
 
 pub returns-clause-covers : goal.returns-clause-covers
 returns-clause-covers g c =
-    let text = text_is c.args.notation c.args.processor.now.scenario c.args.steps c.make_steps-cycles.new.tally (record { count = c.args.steps; cycles = c.make_steps-cycles.result }) c.rope.result.now c.args.rows.now
+    let text = text_is c.args.notation c.args.processor.now.scenario c.args.steps c.make_steps-cycles.new.tally
+    (record { count = c.args.steps; cycles = c.make_steps-cycles.result }) c.rope.result.now c.args.rows.now
     c.make_steps-cycles.ensures.counts (ap (λ k. record { count = c.args.steps; cycles = k }) c.make_steps-cycles.ensures.cycles)
     (c.rope.ensures ∙ ap (λ s. s.rope) c.make_steps-cycles.ensures.scenario) in
-    inr ((λ told. rw text at (c.in_ok-write_profile.ensures.written told), c.in_ok-write_profile.ensures.failures), c.make_steps-cycles.ensures.adds_up, c.make_steps-cycles.ensures.shown_add_up)
+    inr (
+      (λ told. rw text at (c.in_ok-write_profile.ensures.written told), c.in_ok-write_profile.ensures.failures),
+      c.make_steps-cycles.ensures.adds_up,
+      c.make_steps-cycles.ensures.shown_add_up,
+    )
 
 pub returns-in_default-clause-progress : goal.returns-in_default-clause-progress
 returns-in_default-clause-progress g c = refl

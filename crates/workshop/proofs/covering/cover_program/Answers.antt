@@ -15,5 +15,6 @@ returns-in_err-read_feed-clause-progress g c =
 
 pub returns-clause-covers : goal.returns-clause-covers
 returns-clause-covers g c =
-    covers_by c.args.notation c.args.origin c.args.steps _ _ (c.in_ok-rope.rope, c.in_ok-rope.rows) c.in_ok-read_feed.field-0 _ _ _ c.in_ok-rope.was c.in_ok-read_feed.was c.read_subject.ensures c.read_feed.ensures
+    covers_by c.args.notation c.args.origin c.args.steps _ _ (c.in_ok-rope.rope, c.in_ok-rope.rows) c.in_ok-read_feed.field-0 _ _ _
+    c.in_ok-rope.was c.in_ok-read_feed.was c.read_subject.ensures c.read_feed.ensures
     (rw c.new-processor.ensures.value at c.cover.ensures.covers)

@@ -10,7 +10,8 @@ returns-in_err-debug_session g c =
     rw (p.1, p.2) (record {
       opened = Ok c.in_ok-opened.opened;
       opens = c.in_ok-opened.ensures.opens;
-      next = answers c.in_ok-opened.opened _ _ (Err c.in_err-debug_session.field-0.0) (λ rt wt. (e.answer rt wt).0) e.reader e.writer e.read;
+      next = answers c.in_ok-opened.opened _ _ (Err c.in_err-debug_session.field-0.0) (λ rt wt. (e.answer rt wt).0) e.reader e.writer
+          e.read;
     })
 
 pub returns : goal.returns

@@ -15,6 +15,15 @@ returns-in_err-opened-clause-fault g c = λ st ft.
 pub returns-clause-travel : goal.returns-clause-travel
 returns-clause-travel g c = λ st ft.
     let t = c.follow.ensures.travel in
-    of_opened _ _ c.in_ok-opened.opened (λ l. Travels l (Hears g.O.Watcher.sees g.O.Observer.sees) (FnReturnsAt g.H.Fn c.args.hit.now) c.args.calls.now c.args.observer.now c.follow.new.observer c.follow.result)
+    of_opened _ _ c.in_ok-opened.opened (λ l. Travels l (Hears g.O.Watcher.sees g.O.Observer.sees) (FnReturnsAt g.H.Fn c.args.hit.now)
+    c.args.calls.now c.args.observer.now c.follow.new.observer c.follow.result)
     c.in_ok-opened.ensures.opens st ft
-    (λ l e. record { events = t.0; session = c.follow.new.session; saw = t.1; travel = subst (λ (v : SessionView). TimeTravel false (FnReturnsAt g.H.Fn c.args.hit.now) v c.args.calls.now t.0 c.follow.new.session) e t.2; steps = c.follow.ensures.steps })
+    (λ l e. record {
+      events = t.0;
+      session = c.follow.new.session;
+      saw = t.1;
+      travel = subst
+          (λ (v : SessionView). TimeTravel false (FnReturnsAt g.H.Fn c.args.hit.now) v c.args.calls.now t.0 c.follow.new.session) e t.2;
+      steps
+          = c.follow.ensures.steps;
+    })

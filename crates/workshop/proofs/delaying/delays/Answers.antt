@@ -17,11 +17,14 @@ returns-in_err-write_delays-clause-delays g c =
     let p = err_from_is_err_and c.from_residual.result c.from_residual.ensures.1 in
     let text = text_is c.in-Ok.names c.new-processor.result.scenario c.args.steps c.make_steps.new.kept c.rope.result.now
     c.make_steps.ensures.measures (c.rope.ensures ∙ ap (λ s. s.rope) c.make_steps.ensures.scenario) in
-    let same : delays_text c.in-Ok.names c.new-processor.result.scenario c.args.steps ≡ delays_text c.args.loaded.symbols (scenario_of c.args.loaded) c.args.steps =
+    let same : delays_text c.in-Ok.names c.new-processor.result.scenario c.args.steps
+    ≡ delays_text c.args.loaded.symbols (scenario_of c.args.loaded) c.args.steps =
     ap (λ (names : SymbolTable). delays_text names c.new-processor.result.scenario c.args.steps) c.in-Ok.ensures
     ∙ ap (λ (q : Processing). delays_text c.args.loaded.symbols q.scenario c.args.steps) c.new-processor.ensures.value in
-    let sums : CyclesAddUp (scenario_of c.args.loaded) c.args.steps = subst (λ (q : Processing). CyclesAddUp q.scenario c.args.steps) c.new-processor.ensures.value c.make_steps.ensures.adds_up in
-    let breaks : g.W.Write.told ≡ true → WritesBeginning (g.W.Write.written c.args.out.now) (g.W.Write.written c.write_delays.new.out) (delays_text c.args.loaded.symbols (scenario_of c.args.loaded) c.args.steps) = λ told.
+    let sums : CyclesAddUp (scenario_of c.args.loaded) c.args.steps = subst (λ (q : Processing). CyclesAddUp q.scenario c.args.steps)
+    c.new-processor.ensures.value c.make_steps.ensures.adds_up in
+    let breaks : g.W.Write.told ≡ true → WritesBeginning (g.W.Write.written c.args.out.now) (g.W.Write.written c.write_delays.new.out)
+    (delays_text c.args.loaded.symbols (scenario_of c.args.loaded) c.args.steps) = λ told.
     rw (text ∙ same) at (c.in_err-write_delays.ensures.written told) in
     rw (p.1, p.2) (inr ((breaks, c.in_err-write_delays.ensures.failures), sums))
 
@@ -29,10 +32,12 @@ pub returns-clause-delays : goal.returns-clause-delays
 returns-clause-delays g c =
     let text = text_is c.in-Ok.names c.new-processor.result.scenario c.args.steps c.make_steps.new.kept c.rope.result.now
     c.make_steps.ensures.measures (c.rope.ensures ∙ ap (λ s. s.rope) c.make_steps.ensures.scenario) in
-    let same : delays_text c.in-Ok.names c.new-processor.result.scenario c.args.steps ≡ delays_text c.args.loaded.symbols (scenario_of c.args.loaded) c.args.steps =
+    let same : delays_text c.in-Ok.names c.new-processor.result.scenario c.args.steps
+    ≡ delays_text c.args.loaded.symbols (scenario_of c.args.loaded) c.args.steps =
     ap (λ (names : SymbolTable). delays_text names c.new-processor.result.scenario c.args.steps) c.in-Ok.ensures
     ∙ ap (λ (q : Processing). delays_text c.args.loaded.symbols q.scenario c.args.steps) c.new-processor.ensures.value in
-    let sums : CyclesAddUp (scenario_of c.args.loaded) c.args.steps = subst (λ (q : Processing). CyclesAddUp q.scenario c.args.steps) c.new-processor.ensures.value c.make_steps.ensures.adds_up in
+    let sums : CyclesAddUp (scenario_of c.args.loaded) c.args.steps = subst (λ (q : Processing). CyclesAddUp q.scenario c.args.steps)
+    c.new-processor.ensures.value c.make_steps.ensures.adds_up in
     inr ((λ told. rw (text ∙ same) at (c.in_ok-write_delays.ensures.written told), c.in_ok-write_delays.ensures.failures), sums)
 
 pub returns-in_err-write_delays-clause-progress : goal.returns-in_err-write_delays-clause-progress

@@ -29,7 +29,8 @@ loop-done-preserved g c =
       state = rw c.loop-done.invariant.scenario at c.make_steps.ensures.state;
       measures = rw c.loop-done.invariant.scenario at c.make_steps.ensures.measures;
       within = omega arith;
-      tells = tells_more c.loop-done.done c.min-stop.result _ _ _ _ _ whole (omega arith) (omega arith) refl c.loop-done.invariant.tells c.tell-told.ensures;
+      tells = tells_more c.loop-done.done c.min-stop.result _ _ _ _ _ whole (omega arith) (omega arith) refl c.loop-done.invariant.tells
+          c.tell-told.ensures;
       whole = λ more. omega (arith, whole, more);
     }
 

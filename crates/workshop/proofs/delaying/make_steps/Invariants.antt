@@ -11,7 +11,8 @@ invariant-loop-done g l = record {
   state : l.machine ≡ run l.initial.processor.scenario l.done;
   measures : Measures l.initial.processor.scenario l.done l.kept;
   within : l.done ≤ l.steps;
-  tells : Tells l.done (writer g.T.Write.told g.T.Write.written g.T.Write.failures l.initial.progress) (writer g.T.Write.told g.T.Write.written g.T.Write.failures l.progress) l.told;
+  tells : Tells l.done (writer g.T.Write.told g.T.Write.written g.T.Write.failures l.initial.progress)
+      (writer g.T.Write.told g.T.Write.written g.T.Write.failures l.progress) l.told;
   whole : l.done < l.steps → l.done % 2 ^ 20 ≡ 0;
 }
 

@@ -6,7 +6,8 @@ use Rattle.words.specs.Devices.{one_more}
 use Rattle.workshop.specs.Runs.{BreaksOff}
 use Rattle.workshop.specs.Progress.{run_text}
 use Rattle.workshop.proofs.Telling.{tells_at_start, tells_more, told_after_step, told_in_step}
-use Rattle.workshop.proofs.RunSteps.{few_cycles, fits_after, stands_at_start, stands_breaks_off, stands_broken, stands_whole, breaks_off_after, run_text_grows}
+use Rattle.workshop.proofs.RunSteps.{few_cycles, fits_after, stands_at_start, stands_breaks_off, stands_broken, stands_whole}
+use Rattle.workshop.proofs.RunSteps.{breaks_off_after, run_text_grows}
 use Rattle.notes.proofs.Counting.{small}
 use Rattle.workshop.proofs.NotedSteps.{noted_after_step}
 use Rattle.workshop.proofs.noting.run_noting.Goals as goal
@@ -48,24 +49,33 @@ step_and_write-requires-clause-cycles g c =
 pub step_and_write-requires-clause-fits : goal.step_and_write-requires-clause-fits
 step_and_write-requires-clause-fits g c =
     let here = c.loop-done-2.invariant.stands _ _ _ c.loop-done.invariant.scenario c.loop-done.invariant.stands in
-    fits_after c.args.processor.now.scenario _ c.loop-done-2.done _ (c.loop-done-2.invariant.scenario ∙ c.loop-done.invariant.scenario) here.run.state
+    fits_after c.args.processor.now.scenario _ c.loop-done-2.done _ (c.loop-done-2.invariant.scenario ∙ c.loop-done.invariant.scenario)
+    here.run.state
 
 pub returns-in_err-step_and_write-clause-makes : goal.returns-in_err-step_and_write-clause-makes
 returns-in_err-step_and_write-clause-makes g c =
     let p = err_from_is_err_and c.from_residual.result c.from_residual.ensures.1 in
-    let breaks : g.W.Write.told ≡ true → BreaksOff c.args.processor.now.scenario c.args.steps (g.W.Write.written c.args.out.now) (g.W.Write.written c.step_and_write.new.out) = λ told.
+    let breaks : g.W.Write.told ≡ true → BreaksOff c.args.processor.now.scenario c.args.steps (g.W.Write.written c.args.out.now)
+    (g.W.Write.written c.step_and_write.new.out) = λ told.
     stands_breaks_off _ c.args.processor.now.scenario _ c.args.steps c.loop-done-2.done _ _ _ _ _ (omega arith)
     (c.loop-done-2.invariant.scenario ∙ c.loop-done.invariant.scenario)
-    (c.loop-done-2.invariant.stands _ _ _ c.loop-done.invariant.scenario c.loop-done.invariant.stands).run told (c.in_err-step_and_write.ensures.written told) in
-    rw (p.1, p.2) (breaks, c.in_err-step_and_write.ensures.failures ∙ ap one_more (c.loop-done-2.invariant.failures ∙ c.loop-done.invariant.failures))
+    (c.loop-done-2.invariant.stands _ _ _ c.loop-done.invariant.scenario c.loop-done.invariant.stands).run told
+    (c.in_err-step_and_write.ensures.written told) in
+    rw (p.1, p.2) (
+      breaks,
+      c.in_err-step_and_write.ensures.failures
+          ∙ ap one_more (c.loop-done-2.invariant.failures ∙ c.loop-done.invariant.failures),
+    )
 
 pub loop-done-2-preserved : goal.loop-done-2-preserved
 loop-done-2-preserved g c =
     record {
       scenario = c.in_ok-step_and_write.ensures.scenario ∙ c.loop-done-2.invariant.scenario;
       stands = λ named scenario old e before.
-          noted_after_step _ named scenario _ c.loop-done-2.done _ _ old _ _ c.loop-done-2.outputs c.step_and_write.new.lines _ _ (c.loop-done-2.invariant.scenario ∙ e)
-          (c.loop-done-2.invariant.stands named scenario old e before) c.note.ensures c.in_ok-step_and_write.ensures.state c.in_ok-step_and_write.ensures.written c.in_ok-step_and_write.ensures.count;
+          noted_after_step _ named scenario _ c.loop-done-2.done _ _ old _ _ c.loop-done-2.outputs c.step_and_write.new.lines _ _
+          (c.loop-done-2.invariant.scenario ∙ e)
+          (c.loop-done-2.invariant.stands named scenario old e before) c.note.ensures c.in_ok-step_and_write.ensures.state
+          c.in_ok-step_and_write.ensures.written c.in_ok-step_and_write.ensures.count;
       failures = c.in_ok-step_and_write.ensures.failures ∙ c.loop-done-2.invariant.failures;
       few_outputs = omega (arith, c.in_ok-step_and_write.ensures.at_most_one, c.loop-done-2.invariant.few_outputs);
       within = omega arith;
@@ -77,18 +87,26 @@ pub returns-in_err-hand_on-clause-makes : goal.returns-in_err-hand_on-clause-mak
 returns-in_err-hand_on-clause-makes g c =
     let p = err_from_is_err_and c.from_residual-in_err-hand_on.result c.from_residual-in_err-hand_on.ensures.1 in
     let here = c.loop-done-2.invariant.stands _ _ _ c.loop-done.invariant.scenario c.loop-done.invariant.stands in
-    let breaks : g.W.Write.told ≡ true → BreaksOff c.args.processor.now.scenario c.args.steps (g.W.Write.written c.args.out.now) (g.W.Write.written c.hand_on.new.out) = λ told.
-    breaks_off_after c.args.processor.now.scenario c.args.steps c.loop-done-2.done _ _ _ (omega arith) (here.run.written told) (c.in_err-hand_on.ensures.written told) in
-    rw (p.1, p.2) (breaks, c.in_err-hand_on.ensures.failures ∙ ap one_more (c.loop-done-2.invariant.failures ∙ c.loop-done.invariant.failures))
+    let breaks : g.W.Write.told ≡ true → BreaksOff c.args.processor.now.scenario c.args.steps (g.W.Write.written c.args.out.now)
+    (g.W.Write.written c.hand_on.new.out) = λ told.
+    breaks_off_after c.args.processor.now.scenario c.args.steps c.loop-done-2.done _ _ _ (omega arith) (here.run.written told)
+    (c.in_err-hand_on.ensures.written told) in
+    rw (p.1, p.2) (
+      breaks,
+      c.in_err-hand_on.ensures.failures
+          ∙ ap one_more (c.loop-done-2.invariant.failures ∙ c.loop-done.invariant.failures),
+    )
 
 pub returns-in_err-step_and_write-clause-progress : goal.returns-in_err-step_and_write-clause-progress
 returns-in_err-step_and_write-clause-progress g c =
     let p = err_from_is_err_and c.from_residual.result c.from_residual.ensures.1 in
     let here = (c.loop-done-2.invariant.stands _ _ _ c.loop-done.invariant.scenario c.loop-done.invariant.stands).run in
     let whole = c.loop-done.invariant.whole c.loop-done-test.true in
-    rw (p.1, p.2) (told_in_step (run_text c.args.processor.now.scenario) c.args.steps c.loop-done.done c.loop-done-2.done _ _ c.loop-done.told whole (omega arith) (omega arith) (omega arith)
+    rw (p.1, p.2) (told_in_step (run_text c.args.processor.now.scenario) c.args.steps c.loop-done.done c.loop-done-2.done _ _
+    c.loop-done.told whole (omega arith) (omega arith) (omega arith)
     (λ told. stands_whole _ c.args.processor.now.scenario _ _ _ _ _ _ _ here told (c.in_err-step_and_write.ensures.written told))
-    (λ told. stands_broken _ c.args.processor.now.scenario _ _ _ _ _ _ _ (c.loop-done-2.invariant.scenario ∙ c.loop-done.invariant.scenario) here told (c.in_err-step_and_write.ensures.written told))
+    (λ told. stands_broken _ c.args.processor.now.scenario _ _ _ _ _ _ _ (c.loop-done-2.invariant.scenario ∙ c.loop-done.invariant.scenario)
+    here told (c.in_err-step_and_write.ensures.written told))
     c.loop-done.invariant.tells)
 
 pub returns-in_err-hand_on-clause-progress : goal.returns-in_err-hand_on-clause-progress
@@ -96,8 +114,10 @@ returns-in_err-hand_on-clause-progress g c =
     let p = err_from_is_err_and c.from_residual-in_err-hand_on.result c.from_residual-in_err-hand_on.ensures.1 in
     let here = (c.loop-done-2.invariant.stands _ _ _ c.loop-done.invariant.scenario c.loop-done.invariant.stands).run in
     let whole = c.loop-done.invariant.whole c.loop-done-test.true in
-    rw (p.1, p.2) (told_after_step (run_text c.args.processor.now.scenario) c.args.steps c.loop-done.done c.loop-done-2.done _ _ c.loop-done.told whole (omega arith) (omega arith) (omega arith)
-    (run_text_grows c.args.processor.now.scenario) (λ told. c.in_err-hand_on.ensures.written told ∙ here.written told) c.loop-done.invariant.tells)
+    rw (p.1, p.2) (told_after_step (run_text c.args.processor.now.scenario) c.args.steps c.loop-done.done c.loop-done-2.done _ _
+    c.loop-done.told whole (omega arith) (omega arith) (omega arith)
+    (run_text_grows c.args.processor.now.scenario) (λ told. c.in_err-hand_on.ensures.written told ∙ here.written told)
+    c.loop-done.invariant.tells)
 
 pub loop-done-preserved : goal.loop-done-preserved
 loop-done-preserved g c =
@@ -106,14 +126,20 @@ loop-done-preserved g c =
     record {
       scenario = search rules;
       stands = record {
-        run = record { state = here.run.state; written = λ told. c.in_ok-hand_on.ensures.written told ∙ here.run.written told; outputs = here.run.outputs };
+        run = record {
+          state = here.run.state;
+          written = λ told. c.in_ok-hand_on.ensures.written told
+              ∙ here.run.written told;
+          outputs = here.run.outputs;
+        };
         counted = here.counted;
       };
       failures = search rules;
       few_outputs = search rules;
       within = omega arith;
       handed_on = search rules;
-      tells = tells_more c.loop-done.done c.loop-done-2.done _ _ _ _ _ whole (omega arith) (omega arith) refl c.loop-done.invariant.tells c.tell-told.ensures;
+      tells = tells_more c.loop-done.done c.loop-done-2.done _ _ _ _ _ whole (omega arith) (omega arith) refl c.loop-done.invariant.tells
+          c.tell-told.ensures;
       whole = λ more. omega (arith, whole, more);
       meter = c.loop-done-2.invariant.meter _ c.loop-done.invariant.meter;
     }
@@ -126,7 +152,8 @@ returns-clause-progress g c =
 pub note-requires-clause-fits : goal.note-requires-clause-fits
 note-requires-clause-fits g c =
     let here = c.loop-done-2.invariant.stands _ _ _ c.loop-done.invariant.scenario c.loop-done.invariant.stands in
-    fits_after c.args.processor.now.scenario _ c.loop-done-2.done _ (c.loop-done-2.invariant.scenario ∙ c.loop-done.invariant.scenario) here.run.state
+    fits_after c.args.processor.now.scenario _ c.loop-done-2.done _ (c.loop-done-2.invariant.scenario ∙ c.loop-done.invariant.scenario)
+    here.run.state
 
 pub note-requires-clause-cycles : goal.note-requires-clause-cycles
 note-requires-clause-cycles g c =

@@ -9,12 +9,14 @@ use Rattle.workshop.proofs.noting.run_noting.Given as goal
 abbrev pub invariant-loop-done : goal.invariant-loop-done
 invariant-loop-done g l = record {
   scenario : l.processor.scenario ≡ l.initial.processor.scenario;
-  stands : StandsNoted g.W.Write.told l.initial.notebook.named l.initial.processor.scenario l.done l.machine (g.W.Write.written l.initial.out) (g.W.Write.written l.out) l.outputs l.notebook;
+  stands : StandsNoted g.W.Write.told l.initial.notebook.named l.initial.processor.scenario l.done l.machine
+      (g.W.Write.written l.initial.out) (g.W.Write.written l.out) l.outputs l.notebook;
   failures : g.W.Write.failures l.out ≡ g.W.Write.failures l.initial.out;
   few_outputs : l.outputs ≤ l.done;
   within : l.done ≤ l.steps;
   handed_on : g.W.Write.told ≡ true → 0 < l.done → g.W.Write.handed_on l.out ≡ g.W.Write.written l.out;
-  tells : Tells l.done (writer g.T.Write.told g.T.Write.written g.T.Write.failures l.initial.progress) (writer g.T.Write.told g.T.Write.written g.T.Write.failures l.progress) l.told;
+  tells : Tells l.done (writer g.T.Write.told g.T.Write.written g.T.Write.failures l.initial.progress)
+      (writer g.T.Write.told g.T.Write.written g.T.Write.failures l.progress) l.told;
   whole : l.done < l.steps → l.done % 2 ^ 20 ≡ 0;
   meter : l.processor.meter ≤ l.fn.processor.meter + l.done;
 }
@@ -27,7 +29,8 @@ abbrev pub invariant-loop-done-2 : goal.invariant-loop-done-2
 invariant-loop-done-2 g l = record {
   scenario : l.processor.scenario ≡ l.initial.processor.scenario;
   stands : (named : Named) (scenario : Scenario) (old : List ℕ) → l.initial.processor.scenario ≡ scenario
-      → StandsNoted g.W.Write.told named scenario l.initial.done l.initial.machine old (g.W.Write.written l.initial.out) l.initial.outputs l.initial.notebook
+      → StandsNoted g.W.Write.told named scenario l.initial.done l.initial.machine old (g.W.Write.written l.initial.out) l.initial.outputs
+      l.initial.notebook
       → StandsNoted g.W.Write.told named scenario l.done l.machine old (g.W.Write.written l.out) l.outputs l.notebook;
   failures : g.W.Write.failures l.out ≡ g.W.Write.failures l.initial.out;
   few_outputs : l.outputs ≤ l.done;

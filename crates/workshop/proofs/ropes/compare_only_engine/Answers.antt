@@ -12,7 +12,13 @@ returns-in_err-write_differences g c =
         record {
           read = Ok c.in_ok-words.words;
           reads = record { bytes = c.in_ok-words.ensures.bytes; failures = c.in_ok-words.ensures.failures };
-          next = ((λ told. rw c.rope.ensures at (c.in_err-write_differences.ensures.written told), c.in_err-write_differences.ensures.failures), tt);
+          next = (
+            (
+              λ told. rw c.rope.ensures at (c.in_err-write_differences.ensures.written told),
+              c.in_err-write_differences.ensures.failures,
+            ),
+            tt,
+          );
         },
         refl,
       );

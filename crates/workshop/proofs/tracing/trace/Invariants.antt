@@ -8,11 +8,13 @@ use Rattle.workshop.proofs.tracing.trace.Given as goal
 abbrev pub invariant-loop-done : goal.invariant-loop-done
 invariant-loop-done g l = record {
   scenario : l.processor.scenario ≡ l.initial.processor.scenario;
-  stands : Stands g.W.Write.told l.form l.names l.initial.processor.scenario l.first l.done l.machine (g.W.Write.written l.initial.out) (g.W.Write.written l.out);
+  stands : Stands g.W.Write.told l.form l.names l.initial.processor.scenario l.first l.done l.machine (g.W.Write.written l.initial.out)
+      (g.W.Write.written l.out);
   failures : g.W.Write.failures l.out ≡ g.W.Write.failures l.initial.out;
   within : l.done ≤ l.steps;
   handed_on : g.W.Write.told ≡ true → 0 < l.done → g.W.Write.handed_on l.out ≡ g.W.Write.written l.out;
-  tells : Tells l.done (writer g.T.Write.told g.T.Write.written g.T.Write.failures l.initial.progress) (writer g.T.Write.told g.T.Write.written g.T.Write.failures l.progress) l.told;
+  tells : Tells l.done (writer g.T.Write.told g.T.Write.written g.T.Write.failures l.initial.progress)
+      (writer g.T.Write.told g.T.Write.written g.T.Write.failures l.progress) l.told;
   whole : l.done < l.steps → l.done % 2 ^ 20 ≡ 0;
 }
 

@@ -7,20 +7,38 @@ use Rattle.workshop.proofs.tracing.trace_program.Goals as goal
 
 pub returns-in_default-clause-traces : goal.returns-in_default-clause-traces
 returns-in_default-clause-traces g c =
-    let before : Files = record { program = reader g.P.Read.told g.P.Read.left g.P.Read.failures c.args.program.now; feed = reader g.F.Read.told g.F.Read.left g.F.Read.failures c.args.feed.now } in
-    let after : Files = record { program = reader g.P.Read.told g.P.Read.left g.P.Read.failures c.load.new.program; feed = reader g.F.Read.told g.F.Read.left g.F.Read.failures c.load.new.feed } in
+    let before : Files = record {
+      program = reader g.P.Read.told g.P.Read.left g.P.Read.failures c.args.program.now;
+      feed = reader
+          g.F.Read.told g.F.Read.left g.F.Read.failures c.args.feed.now;
+    } in
+    let after : Files = record {
+      program = reader g.P.Read.told g.P.Read.left g.P.Read.failures c.load.new.program;
+      feed = reader
+          g.F.Read.told g.F.Read.left g.F.Read.failures c.load.new.feed;
+    } in
     record {
       loaded = Err NoMemory;
-      loads = no_memory_left c.args.origin before after c.in_ok-loaded.loaded (subst (Loads c.args.origin before after) c.in_ok-loaded.was c.load.ensures);
+      loads = no_memory_left c.args.origin before after c.in_ok-loaded.loaded
+          (subst (Loads c.args.origin before after) c.in_ok-loaded.was c.load.ensures);
       next = (refl, refl);
     }
 
 pub returns-in_default-clause-progress : goal.returns-in_default-clause-progress
 returns-in_default-clause-progress g c =
-    let before : Files = record { program = reader g.P.Read.told g.P.Read.left g.P.Read.failures c.args.program.now; feed = reader g.F.Read.told g.F.Read.left g.F.Read.failures c.args.feed.now } in
-    let after : Files = record { program = reader g.P.Read.told g.P.Read.left g.P.Read.failures c.load.new.program; feed = reader g.F.Read.told g.F.Read.left g.F.Read.failures c.load.new.feed } in
+    let before : Files = record {
+      program = reader g.P.Read.told g.P.Read.left g.P.Read.failures c.args.program.now;
+      feed = reader
+          g.F.Read.told g.F.Read.left g.F.Read.failures c.args.feed.now;
+    } in
+    let after : Files = record {
+      program = reader g.P.Read.told g.P.Read.left g.P.Read.failures c.load.new.program;
+      feed = reader
+          g.F.Read.told g.F.Read.left g.F.Read.failures c.load.new.feed;
+    } in
     record {
       loaded = Err NoMemory;
-      loads = no_memory_left c.args.origin before after c.in_ok-loaded.loaded (subst (Loads c.args.origin before after) c.in_ok-loaded.was c.load.ensures);
+      loads = no_memory_left c.args.origin before after c.in_ok-loaded.loaded
+          (subst (Loads c.args.origin before after) c.in_ok-loaded.was c.load.ensures);
       next = refl;
     }

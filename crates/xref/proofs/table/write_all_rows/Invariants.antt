@@ -5,6 +5,7 @@ use Rattle.xref.proofs.table.write_all_rows.Given as goal
 
 abbrev pub invariant-loop-index : goal.invariant-loop-index
 invariant-loop-index g l = record {
-  written : g.W.Write.told ≡ true → Left (rows_in (map told l.mentions) (map told l.mentions)) (g.W.Write.written l.initial.out) (g.W.Write.written l.out) (rows_in (map told l.mentions) (map told (drop l.index l.mentions)));
+  written : g.W.Write.told ≡ true → Left (rows_in (map told l.mentions) (map told l.mentions)) (g.W.Write.written l.initial.out)
+      (g.W.Write.written l.out) (rows_in (map told l.mentions) (map told (drop l.index l.mentions)));
   failures : g.W.Write.failures l.out ≡ g.W.Write.failures l.initial.out;
 }

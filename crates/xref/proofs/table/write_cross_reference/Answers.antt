@@ -9,4 +9,5 @@ unfolding xref_text
 returns-in_err-write_all-clause-written g c = λ is_told.
     let failed = err_from_is_err_and c.from_residual.result c.from_residual.ensures.1 in
     let ms = map told c.args.mentions.now in
-    rw failed.1 (beginning-longer _ _ _ (rows_in ms ms) (rw (c.as_slice.ensures.value, c.head.ensures) at (c.in_err-write_all.ensures.written is_told)))
+    rw failed.1 (beginning-longer _ _ _ (rows_in ms ms)
+    (rw (c.as_slice.ensures.value, c.head.ensures) at (c.in_err-write_all.ensures.written is_told)))

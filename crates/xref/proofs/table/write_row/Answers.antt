@@ -8,4 +8,5 @@ pub returns-in_err-write_all-clause-written : goal.returns-in_err-write_all-clau
 returns-in_err-write_all-clause-written g c = λ told.
     let failed = err_from_is_err_and c.from_residual.result c.from_residual.ensures.1 in
     let m = c.args.mention.now in
-    rw failed.1 (beginning-longer _ _ _ (m.name.now ++ use_column m.name.now m.used) (rw (c.as_slice.ensures.value, c.number_column.ensures) at (c.in_err-write_all.ensures.written told)))
+    rw failed.1 (beginning-longer _ _ _ (m.name.now ++ use_column m.name.now m.used)
+    (rw (c.as_slice.ensures.value, c.number_column.ensures) at (c.in_err-write_all.ensures.written told)))

@@ -7,7 +7,9 @@ use Rattle.yayul.proofs.assembly.assemble.Goals as goal
 
 pub returns : goal.returns
 returns c =
-    answers_same (program c.args.language c.args.source.now) (finished (layout_after 1 (start c.args.language) (lines c.args.source.now)) (record { language = c.args.language; text = c.args.source.now })) c.finish.result
+    answers_same (program c.args.language c.args.source.now)
+    (finished (layout_after 1 (start c.args.language) (lines c.args.source.now))
+    (record { language = c.args.language; text = c.args.source.now })) c.finish.result
     (program_ok c.args.language c.args.source.now c.in_ok-layout.ensures.lays_out.0) c.finish.ensures
 
 pub returns-in_err-layout : goal.returns-in_err-layout

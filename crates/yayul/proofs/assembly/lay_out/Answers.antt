@@ -13,16 +13,22 @@ loop-text-preserved c =
     let t : Layout = (line_effect c.loop-text.line s c.in-Some.text.now).after in
     let leads = c.in-Ok.ensures s c.loop-text.invariant.agrees in
     let none : line_faults c.loop-text.line s c.in-Some.text.now ≡ [] = leads.0 in
-    let few : c.loop-text.line ≢ most_lines c.args.language + 1 = subst (λ (spoken : Language). c.loop-text.line ≢ most_lines spoken + 1) c.loop-text.invariant.language (few_lines c.loop-text.line s c.in-Some.text.now none) in
+    let few : c.loop-text.line ≢ most_lines c.args.language
+    + 1 = subst (λ (spoken : Language). c.loop-text.line ≢ most_lines spoken + 1) c.loop-text.invariant.language
+    (few_lines c.loop-text.line s c.in-Some.text.now none) in
     record {
       state = t;
       agrees = leads.1.0;
       same_faults = c.loop-text.invariant.same_faults
-          ∙ faults_passed c.loop-text.line s t c.in-Some.text.now (lines c.loop-text.rest.now) (lines c.in-Some.after.now) c.in-Some.ensures.lines none refl;
+          ∙ faults_passed c.loop-text.line s t c.in-Some.text.now (lines c.loop-text.rest.now) (lines c.in-Some.after.now)
+          c.in-Some.ensures.lines none refl;
       same_layout = c.loop-text.invariant.same_layout
-          ∙ layout_passed c.loop-text.line s t c.in-Some.text.now (lines c.loop-text.rest.now) (lines c.in-Some.after.now) c.in-Some.ensures.lines refl;
-      same_shown = shown_passed c.loop-text.line s t c.in-Some.text.now (lines c.loop-text.rest.now) (lines c.in-Some.after.now) c.in-Ok.mark
-          (map shown_by_mark c.args.marks.now ++ lines_show 1 (start c.args.language) (lines c.args.source.now)) c.loop-text.marks c.push.new.self
+          ∙ layout_passed c.loop-text.line s t c.in-Some.text.now (lines c.loop-text.rest.now) (lines c.in-Some.after.now)
+          c.in-Some.ensures.lines refl;
+      same_shown = shown_passed c.loop-text.line s t c.in-Some.text.now (lines c.loop-text.rest.now) (lines c.in-Some.after.now)
+          c.in-Ok.mark
+          (map shown_by_mark c.args.marks.now ++ lines_show 1 (start c.args.language) (lines c.args.source.now)) c.loop-text.marks
+          c.push.new.self
           c.in-Some.ensures.lines refl leads.1.1 c.in-Ok-push.ensures c.loop-text.invariant.same_shown;
       language = same_language c.loop-text.line s c.in-Some.text.now ∙ c.loop-text.invariant.language;
       few = omega (arith, few);
@@ -30,6 +36,8 @@ loop-text-preserved c =
 
 pub returns-in-Err-clause-lays_out : goal.returns-in-Err-clause-lays_out
 returns-in-Err-clause-lays_out c =
-    told_on (layout_faults 1 (start c.args.language) (lines c.args.source.now)) c.loop-text.line c.loop-text.invariant.state c.in-Some.text.now
+    told_on (layout_faults 1 (start c.args.language) (lines c.args.source.now)) c.loop-text.line c.loop-text.invariant.state
+    c.in-Some.text.now
     (lines c.loop-text.rest.now) (lines c.in-Some.after.now) c.in-Err.kind c.fault_on.result
-    c.loop-text.invariant.same_faults c.in-Some.ensures.lines (c.in-Err.ensures c.loop-text.invariant.state c.loop-text.invariant.agrees) c.fault_on.ensures
+    c.loop-text.invariant.same_faults c.in-Some.ensures.lines (c.in-Err.ensures c.loop-text.invariant.state c.loop-text.invariant.agrees)
+    c.fault_on.ensures

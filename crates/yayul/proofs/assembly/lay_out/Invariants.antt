@@ -12,7 +12,8 @@ invariant-loop-text l = record {
   agrees : Agrees l.line state l.layout l.placing;
   same_faults : layout_faults 1 (start l.fn.language) (lines l.source) ≡ layout_faults l.line state (lines l.rest);
   same_layout : layout_after 1 (start l.fn.language) (lines l.source) ≡ layout_after l.line state (lines l.rest);
-  same_shown : map shown_by_mark l.initial.marks ++ lines_show 1 (start l.fn.language) (lines l.source) ≡ map shown_by_mark l.marks ++ lines_show l.line state (lines l.rest);
+  same_shown : map shown_by_mark l.initial.marks ++ lines_show 1 (start l.fn.language) (lines l.source)
+      ≡ map shown_by_mark l.marks ++ lines_show l.line state (lines l.rest);
   language : state.language ≡ l.fn.language;
   few : l.line ≤ most_lines l.fn.language + 1;
 }

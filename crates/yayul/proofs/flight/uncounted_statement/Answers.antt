@@ -11,5 +11,6 @@ returns c =
     let says = c.of-line.ensures in
     λ j. record {
       label = (c.flight_label_in.ensures ∙ ap flight_label_in (text_of_piece line.label (label_of (fields c.args.text.now)) says.label)) j;
-      operation = (c.operation_by.ensures ∙ flight_operation_by-pieces c.args.here c.args.text.now line (others_of (fields c.args.text.now)) says.operator says.operand says.offset says.more) j;
+      operation = (c.operation_by.ensures ∙ flight_operation_by-pieces c.args.here c.args.text.now line (others_of (fields c.args.text.now))
+          says.operator says.operand says.offset says.more) j;
     }

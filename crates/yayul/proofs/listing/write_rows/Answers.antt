@@ -9,10 +9,13 @@ pub returns-in_err-write_line_in-clause-written : goal.returns-in_err-write_line
 returns-in_err-write_line_in-clause-written g c = λ told.
     let p = err_from_is_err_and c.from_residual.result c.from_residual.ensures.1 in
     rw p.1 (front-fails _ _ _ _ _ _ _ (c.loop-mark.invariant.written told)
-    (rows-more (line_in c.args.notation (g.M.Margin.text c.args.margin.now)) c.loop-mark.number c.args.rope.now _ c.in-Some.text.now _ _ c.mark-item.result _ c.in-Some.ensures.lines (from_one c.args.marks.now c.loop-mark.mark-index c.mark-item.result c.loop-mark-test.true c.mark-item.is))
+    (rows-more (line_in c.args.notation (g.M.Margin.text c.args.margin.now)) c.loop-mark.number c.args.rope.now _ c.in-Some.text.now _ _
+    c.mark-item.result _ c.in-Some.ensures.lines
+    (from_one c.args.marks.now c.loop-mark.mark-index c.mark-item.result c.loop-mark-test.true c.mark-item.is))
     (c.in_err-write_line_in.ensures.written told))
 
 pub returns-clause-written : goal.returns-clause-written
 returns-clause-written g c = λ told.
     front-ends _ _ _ _ (c.loop-mark.invariant.written told)
-    (rows-no_marks (line_in c.args.notation (g.M.Margin.text c.args.margin.now)) c.loop-mark.number c.args.rope.now _ _ (drop_all c.loop-mark.mark-index c.args.marks.now (omega arith)))
+    (rows-no_marks (line_in c.args.notation (g.M.Margin.text c.args.margin.now)) c.loop-mark.number c.args.rope.now _ _
+    (drop_all c.loop-mark.mark-index c.args.marks.now (omega arith)))

@@ -15,7 +15,8 @@ pub loop-index-preserved : goal.loop-index-preserved
 loop-index-preserved g c = record {
   written = λ told.
       front-more _ _ _ _ _ _ _ (c.loop-index.invariant.written told)
-      (texts_from symbol_row c.args.symbols.now c.loop-index.index (c.in-Some.symbol.0.now, c.in-Some.symbol.1) (sym c.in-Some.ensures.value))
+      (texts_from symbol_row c.args.symbols.now c.loop-index.index (c.in-Some.symbol.0.now, c.in-Some.symbol.1)
+      (sym c.in-Some.ensures.value))
       (rw (c.as_slice.ensures.value, c.symbol_row.ensures) at (c.in_ok-write_all.ensures.written told));
   failures = c.in_ok-write_all.ensures.failures ∙ c.loop-index.invariant.failures;
 }

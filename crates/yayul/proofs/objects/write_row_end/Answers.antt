@@ -11,4 +11,5 @@ pub returns-in_err-write_all-clause-written : goal.returns-in_err-write_all-clau
 unfolding row_end
 returns-in_err-write_all-clause-written g c = λ told.
     let p = err_from_is_err_and c.from_residual.result c.from_residual.ensures.1 in
-    rw p.1 (beginning-longer _ _ (codes ",\"text\":") (string_or_null (option_map (λ t. t.now) c.args.text) ++ codes "}\n") (c.in_err-write_all.ensures.written told))
+    rw p.1 (beginning-longer _ _ (codes ",\"text\":") (string_or_null (option_map (λ t. t.now) c.args.text) ++ codes "}\n")
+    (c.in_err-write_all.ensures.written told))

@@ -12,9 +12,11 @@ returns-then-shows-clause-first c =
     let it = c.index-marks-index.result in
     let i = c.loop-index.index in
     let here : p (get_or c.args.marks.now i it) ≡ true = ap p (sym c.index-marks-index.is) ∙ sym c.if-shows.ensures in
-    sym (position_or_len_is p c.args.marks.now i it (omega (arith, c.loop-index-test.true)) (λ k h. c.loop-index.invariant k it h) (λ _. here))
+    sym (position_or_len_is p c.args.marks.now i it (omega (arith, c.loop-index-test.true)) (λ k h. c.loop-index.invariant k it h)
+    (λ _. here))
 
 pub returns-clause-first : goal.returns-clause-first
 returns-clause-first c =
     let p : Mark → Bool = λ mark. shows c.args.place.now (shown_by_mark mark) in
-    sym (position_or_len_is p c.args.marks.now (length c.args.marks.now) Nothing (omega arith) (λ k h. c.loop-index.invariant k Nothing (omega (arith, h, c.loop-index-test.false))) (λ h. absurd (omega (arith, h))))
+    sym (position_or_len_is p c.args.marks.now (length c.args.marks.now) Nothing (omega arith)
+    (λ k h. c.loop-index.invariant k Nothing (omega (arith, h, c.loop-index-test.false))) (λ h. absurd (omega (arith, h))))

@@ -11,5 +11,6 @@ returns c =
     let says = c.of-line.ensures in
     λ j. record {
       label = (c.label_in.ensures ∙ ap label_in (text_of_piece line.label (label_of (fields c.args.line.now)) says.label)) j;
-      operation = (c.operation_by.ensures ∙ operation_by-pieces line (others_of (fields c.args.line.now)) says.operator says.operand says.offset says.more) j;
+      operation = (c.operation_by.ensures ∙ operation_by-pieces line (others_of (fields c.args.line.now)) says.operator says.operand
+          says.offset says.more) j;
     }

@@ -10,7 +10,8 @@ pub returns-then-line-most_lines-clause-passed : goal.returns-then-line-most_lin
 returns-then-line-most_lines-clause-passed c = (
   c.loop-text.line,
   subst (λ s. Surveys c.loop-text.line s c.loop-text.survey)
-      (sym (c.loop-text.invariant.same ∙ ap (passed_lines c.loop-text.line c.loop-text.invariant.state) (none_left (most_lines c.args.language + 2 - c.loop-text.line) (lines c.loop-text.rest.now) (omega arith))))
+      (sym (c.loop-text.invariant.same ∙ ap (passed_lines c.loop-text.line c.loop-text.invariant.state)
+      (none_left (most_lines c.args.language + 2 - c.loop-text.line) (lines c.loop-text.rest.now) (omega arith))))
       c.loop-text.invariant.stands,
 )
 
@@ -18,7 +19,8 @@ pub returns-clause-passed : goal.returns-clause-passed
 returns-clause-passed c = (
   c.loop-text.line,
   subst (λ s. Surveys c.loop-text.line s c.loop-text.survey)
-      (sym (c.loop-text.invariant.same ∙ ap (passed_lines c.loop-text.line c.loop-text.invariant.state) (take_none (most_lines c.args.language + 2 - c.loop-text.line) (lines c.loop-text.rest.now) c.in_default.ensures.lines)))
+      (sym (c.loop-text.invariant.same ∙ ap (passed_lines c.loop-text.line c.loop-text.invariant.state)
+      (take_none (most_lines c.args.language + 2 - c.loop-text.line) (lines c.loop-text.rest.now) c.in_default.ensures.lines)))
       c.loop-text.invariant.stands,
 )
 
@@ -30,6 +32,7 @@ loop-text-preserved c =
       state = passed_line line s c.in-Some.text.now;
       stands = c.in_ok-pass.ensures.leads s c.loop-text.invariant.stands;
       same = c.loop-text.invariant.same
-          ∙ lines_passed line (most_lines c.args.language + 2 - line) (most_lines c.args.language + 2 - (line + 1)) s (lines c.loop-text.rest.now) (lines c.in-Some.after.now) c.in-Some.text.now (omega arith) c.in-Some.ensures.lines;
+          ∙ lines_passed line (most_lines c.args.language + 2 - line) (most_lines c.args.language + 2 - (line + 1)) s
+          (lines c.loop-text.rest.now) (lines c.in-Some.after.now) c.in-Some.text.now (omega arith) c.in-Some.ensures.lines;
       few = omega arith;
     }

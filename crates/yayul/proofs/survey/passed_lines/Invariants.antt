@@ -9,7 +9,8 @@ abbrev pub invariant-loop-text : goal.invariant-loop-text
 invariant-loop-text l = record {
   state : Survey;
   stands : Surveys l.line state l.survey;
-  same : passed_lines 1 (unmarked l.fn.language) (looked_at l.fn.language l.source) ≡ passed_lines l.line state (take (most_lines l.fn.language + 2 - l.line) (lines l.rest));
+  same : passed_lines 1 (unmarked l.fn.language) (looked_at l.fn.language l.source)
+      ≡ passed_lines l.line state (take (most_lines l.fn.language + 2 - l.line) (lines l.rest));
   few : l.line ≤ most_lines l.fn.language + 2;
 }
 

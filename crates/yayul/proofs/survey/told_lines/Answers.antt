@@ -29,7 +29,8 @@ loop-text-preserved c =
     record {
       state = passed_line line s c.in-Some.text.now;
       stands = c.in_ok-pass-in-Ok.ensures.leads s c.loop-text.invariant.stands;
-      same = lines_told line (most_lines c.args.language + 2 - line) (most_lines c.args.language + 2 - (line + 1)) s whole (lines c.loop-text.rest.now) (lines c.in-Some.after.now) c.in-Some.text.now _
+      same = lines_told line (most_lines c.args.language + 2 - line) (most_lines c.args.language + 2 - (line + 1)) s whole
+          (lines c.loop-text.rest.now) (lines c.in-Some.after.now) c.in-Some.text.now _
           c.loop-text.told.items c.tell.new.told.items (omega arith) c.in-Some.ensures.lines c.loop-text.invariant.same
           (c.in-Ok.ensures s whole c.requires.0 c.loop-text.invariant.stands c.requires.1);
       few = omega arith;

@@ -9,8 +9,10 @@ abbrev pub invariant-loop-text : goal.invariant-loop-text
 invariant-loop-text l = record {
   state : Survey;
   stands : Surveys l.line state l.survey;
-  same : told_lines (settled_survey (passed_lines 1 (unmarked l.fn.language) (looked_at l.fn.language l.source))) 1 (unmarked l.fn.language) (looked_at l.fn.language l.source)
-      ≡ l.told.items ++ told_lines (settled_survey (passed_lines 1 (unmarked l.fn.language) (looked_at l.fn.language l.source))) l.line state (take (most_lines l.fn.language + 2 - l.line) (lines l.rest));
+  same : told_lines (settled_survey (passed_lines 1 (unmarked l.fn.language) (looked_at l.fn.language l.source))) 1 (unmarked l.fn.language)
+      (looked_at l.fn.language l.source)
+      ≡ l.told.items ++ told_lines (settled_survey (passed_lines 1 (unmarked l.fn.language) (looked_at l.fn.language l.source))) l.line
+      state (take (most_lines l.fn.language + 2 - l.line) (lines l.rest));
   few : l.line ≤ most_lines l.fn.language + 2;
 }
 

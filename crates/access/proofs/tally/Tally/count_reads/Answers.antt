@@ -20,8 +20,11 @@ loop-spot-preserved c =
     record {
       view = c.count_spot.ensures.view ∙ c.loop-spot.invariant.view;
       last = c.count_spot.ensures.last ∙ c.loop-spot.invariant.last;
-      counts = counts_on _ _ _ before part all c.loop-spot.invariant.counts (rw c.loop-spot.invariant.view at c.count_spot.ensures.counts) parts;
-      known = below_on (slot_count view) before part all c.loop-spot.invariant.known (rw c.loop-spot.invariant.view at c.count_spot.ensures.known) parts;
+      counts = counts_on _ _ _ before part all c.loop-spot.invariant.counts (rw c.loop-spot.invariant.view at c.count_spot.ensures.counts)
+          parts;
+      known = below_on (slot_count view) before part all c.loop-spot.invariant.known
+          (rw c.loop-spot.invariant.view at c.count_spot.ensures.known) parts;
       short = short_on before part all i c.loop-spot.invariant.short (rw c.loop-spot.invariant.view at c.count_spot.ensures.short) parts;
-      small = at_most_longer _ (2 ^ 62 + i + 1) (2 ^ 62 + (i + 1)) (omega arith) (c.count_spot.ensures.small (2 ^ 62 + i) c.loop-spot.invariant.small);
+      small = at_most_longer _ (2 ^ 62 + i + 1) (2 ^ 62 + (i + 1)) (omega arith)
+          (c.count_spot.ensures.small (2 ^ 62 + i) c.loop-spot.invariant.small);
     }

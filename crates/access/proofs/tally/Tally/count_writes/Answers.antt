@@ -20,8 +20,11 @@ loop-cell-preserved c =
     record {
       view = c.count_cell.ensures.view ∙ c.loop-cell.invariant.view;
       last = c.count_cell.ensures.last ∙ c.loop-cell.invariant.last;
-      counts = counts_on _ _ _ before part all c.loop-cell.invariant.counts (rw c.loop-cell.invariant.view at c.count_cell.ensures.counts) parts;
-      known = below_on (slot_count view) before part all c.loop-cell.invariant.known (rw c.loop-cell.invariant.view at c.count_cell.ensures.known) parts;
+      counts = counts_on _ _ _ before part all c.loop-cell.invariant.counts (rw c.loop-cell.invariant.view at c.count_cell.ensures.counts)
+          parts;
+      known = below_on (slot_count view) before part all c.loop-cell.invariant.known
+          (rw c.loop-cell.invariant.view at c.count_cell.ensures.known) parts;
       short = short_on before part all i c.loop-cell.invariant.short (rw c.loop-cell.invariant.view at c.count_cell.ensures.short) parts;
-      small = at_most_longer _ (2 ^ 62 + 8 + i + 1) (2 ^ 62 + 8 + (i + 1)) (omega arith) (c.count_cell.ensures.small (2 ^ 62 + 8 + i) c.loop-cell.invariant.small);
+      small = at_most_longer _ (2 ^ 62 + 8 + i + 1) (2 ^ 62 + 8 + (i + 1)) (omega arith)
+          (c.count_cell.ensures.small (2 ^ 62 + 8 + i) c.loop-cell.invariant.small);
     }

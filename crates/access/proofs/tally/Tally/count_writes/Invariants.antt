@@ -8,7 +8,8 @@ abbrev pub invariant-loop-cell : goal.invariant-loop-cell
 invariant-loop-cell l = record {
   view : l.self.view ≡ l.initial.self.view;
   last : l.self.last ≡ l.initial.self.last;
-  counts : l.self.counts ≡ all_counted l.initial.self.counts (flat_map (slots l.initial.self.view l.number l.level 1) (take l.cell-index l.cells));
+  counts : l.self.counts ≡ all_counted l.initial.self.counts
+      (flat_map (slots l.initial.self.view l.number l.level 1) (take l.cell-index l.cells));
   known : AreBelow (slot_count l.initial.self.view) (flat_map (slots l.initial.self.view l.number l.level 1) (take l.cell-index l.cells));
   short : length (flat_map (slots l.initial.self.view l.number l.level 1) (take l.cell-index l.cells)) ≤ l.cell-index;
   small : AreAtMost l.self.counts (2 ^ 62 + 8 + l.cell-index);

@@ -7,7 +7,8 @@ abbrev pub invariant-bytes : goal.invariant-bytes
 invariant-bytes g l = record {
   most : most_ahead l.self ≤ most_ahead l.fn.self;
   less : l.begun ≡ true → most_ahead l.self < most_ahead l.fn.self;
-  reading : g.R.Read.told ≡ true → Reading (text_ahead l.fn.self (g.R.Read.left l.fn.reader)) (most_ahead l.fn.self) l.line (text_ahead l.self (g.R.Read.left l.reader)) (most_ahead l.self) l.begun;
+  reading : g.R.Read.told ≡ true → Reading (text_ahead l.fn.self (g.R.Read.left l.fn.reader)) (most_ahead l.fn.self) l.line
+      (text_ahead l.self (g.R.Read.left l.reader)) (most_ahead l.self) l.begun;
   reads : g.R.Read.told ≡ true → ReadsWithin (g.R.Read.left l.fn.reader) (g.R.Read.left l.reader) l.fn.self.more l.self.more;
   read_failures : g.R.Read.failures l.reader ≡ g.R.Read.failures l.fn.reader;
 }

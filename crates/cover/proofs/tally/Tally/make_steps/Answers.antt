@@ -3,20 +3,24 @@ use Rattle.cover.proofs.Counting.{adds_up, counts_more, few_cycles, fits_after, 
 use Rattle.cover.proofs.tally.Tally.make_steps.Goals as goal
 
 pub step-requires-clause-cycles : goal.step-requires-clause-cycles
-step-requires-clause-cycles c = few_cycles c.args.processor.now.scenario c.loop.counter _ c.loop.invariant.state (omega (arith, c.loop-test.true))
+step-requires-clause-cycles c = few_cycles c.args.processor.now.scenario c.loop.counter _ c.loop.invariant.state
+    (omega (arith, c.loop-test.true))
 
 pub step-requires-clause-fits : goal.step-requires-clause-fits
 step-requires-clause-fits c = fits_after c.args.processor.now.scenario _ c.loop.counter _ c.loop.invariant.scenario c.loop.invariant.state
 
 pub step-requires-clause-small : goal.step-requires-clause-small
-step-requires-clause-small c = small c.args.processor.now.scenario c.loop.counter _ (omega (arith, c.loop-test.true)) c.loop.invariant.counts
+step-requires-clause-small c = small c.args.processor.now.scenario c.loop.counter _ (omega (arith, c.loop-test.true))
+    c.loop.invariant.counts
 
 pub loop-preserved : goal.loop-preserved
 loop-preserved c = record {
   scenario = c.step.ensures.scenario ∙ c.loop.invariant.scenario;
   meter = omega (arith, c.step.ensures.meter, c.loop.invariant.meter);
-  state = state_more c.args.processor.now.scenario _ c.loop.counter _ _ c.loop.invariant.scenario c.loop.invariant.state c.step.ensures.state;
-  counts = counts_more c.args.processor.now.scenario _ c.loop.counter _ _ _ c.loop.invariant.scenario c.loop.invariant.state c.loop.invariant.counts c.step.ensures.known c.step.ensures.counted;
+  state = state_more c.args.processor.now.scenario _ c.loop.counter _ _ c.loop.invariant.scenario c.loop.invariant.state
+      c.step.ensures.state;
+  counts = counts_more c.args.processor.now.scenario _ c.loop.counter _ _ _ c.loop.invariant.scenario c.loop.invariant.state
+      c.loop.invariant.counts c.step.ensures.known c.step.ensures.counted;
 }
 
 pub returns-clause-adds_up : goal.returns-clause-adds_up

@@ -12,5 +12,16 @@ returns c =
     let low : 1 ≤ k = omega (arith, c.index.ensures.number) in
     let high : k ≤ 10 = omega (arith, c.index.ensures.number, c.index.ensures.range) in
     let e = ap (λ n. requests_of (set i.requests n true)) c.index.ensures.value ∙ requests-set i.requests k low high c.self.told.0 in
-    let s : State = record { cells = i.store; extra = i.extra; inhibit = i.inhibit; inside = i.inside; waiting_sum = i.waiting_sum; waiting_word = i.waiting_word; requests = requests_of i.requests; taken = i.taken; counts = i.counts; cycles = i.cycles } in
+    let s : State = record {
+      cells = i.store;
+      extra = i.extra;
+      inhibit = i.inhibit;
+      inside = i.inside;
+      waiting_sum = i.waiting_sum;
+      waiting_word = i.waiting_word;
+      requests = requests_of i.requests;
+      taken = i.taken;
+      counts = i.counts;
+      cycles = i.cycles;
+    } in
     ap (λ r. record s { requests = r }) e ∙ ap (λ (t : State). record t { requests = insert t.requests k }) c.self.view_is

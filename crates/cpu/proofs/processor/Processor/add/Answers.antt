@@ -19,5 +19,6 @@ pub returns-clause-fits : goal.returns-clause-fits
 returns-clause-fits c =
     let added : Scenario = record { rope = c.self.inside.rope; inputs = c.add.new.self } in
     on_ok_weaker c.add.result
-    (λ fits (s : State). subst (λ (p : Processing). TakenBelow p.scenario.inputs s.taken c.args.cycle → FitsRun p.scenario s → FitsRun added s) c.self.view_is (fits s.taken s.counts))
+    (λ fits (s : State). subst (λ (p : Processing). TakenBelow p.scenario.inputs s.taken c.args.cycle → FitsRun p.scenario s
+    → FitsRun added s) c.self.view_is (fits s.taken s.counts))
     c.add.ensures.fits

@@ -22,7 +22,8 @@ returns-in-Some-step_uncounted-clause-put c =
     let same : c.loop-at.self.scenario ≡ p = ap (λ (q : Processing). q.scenario) c.loop-at.invariant.same in
     let stands : c.run_silent-to.new.machine ≡ run p to = c.run_silent-to.ensures.state ∙ ap (λ (q : Scenario). run q to) same in
     let step = c.step_uncounted.ensures.step (few_at p to _ stands (omega arith)) (rw same (fits_at p to _ stands)) in
-    sym c.in-Some-step_uncounted.is ∙ out_next p to c.run_silent-to.new.machine _ _ stands (step ∙ ap (λ (q : Scenario). next q c.run_silent-to.new.machine) same)
+    sym c.in-Some-step_uncounted.is ∙ out_next p to c.run_silent-to.new.machine _ _ stands
+    (step ∙ ap (λ (q : Scenario). next q c.run_silent-to.new.machine) same)
 
 pub loop-at-preserved-in_default-step_uncounted : goal.loop-at-preserved-in_default-step_uncounted
 loop-at-preserved-in_default-step_uncounted c =
@@ -39,5 +40,6 @@ loop-at-preserved-in_default-step_uncounted c =
       high = omega arith;
       same = c.step_uncounted.ensures.same ∙ c.loop-at.invariant.same;
       stands = state_next p to c.run_silent-to.new.machine _ _ stands made;
-      silent = silent_more p c.args.done to before (sym (out_next p to c.run_silent-to.new.machine _ _ stands made) ∙ c.in_default-step_uncounted.is);
+      silent = silent_more p c.args.done to before
+          (sym (out_next p to c.run_silent-to.new.machine _ _ stands made) ∙ c.in_default-step_uncounted.is);
     }

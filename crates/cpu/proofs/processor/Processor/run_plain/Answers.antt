@@ -15,8 +15,17 @@ execute_extracode-requires-clause-few c =
     let p = c.args.self.now.scenario in
     let m = c.loop-at.machine in
     let t = c.execute_basic.new.self in
-    let come = comes_on p c.args.machine.now c.args.done c.loop-at.at c.args.silent m t c.loop-at.invariant.come c.loop-at.invariant.low c.requires.silent
-    (omega (arith, c.loop-at-test.true, c.min.ensures, c.saturating_sub-room.ensures, c.cycles.ensures, c.loop-at.invariant.come.cycles, c.loop-at.invariant.low))
+    let come = comes_on p c.args.machine.now c.args.done c.loop-at.at c.args.silent m t c.loop-at.invariant.come c.loop-at.invariant.low
+    c.requires.silent
+    (omega (
+      arith,
+      c.loop-at-test.true,
+      c.min.ensures,
+      c.saturating_sub-room.ensures,
+      c.cycles.ensures,
+      c.loop-at.invariant.come.cycles,
+      c.loop-at.invariant.low,
+    ))
     (ap (λ (r : Words). execute r m) (sym c.rope-rope.ensures) ∙ sym c.in-Some.ensures.made) c.execute_basic.ensures.still in
     few_at p (c.loop-at.at + 1) t come.stands (omega arith)
 
@@ -25,8 +34,17 @@ returns-then-at-end-clause-state c =
     let p = c.args.self.now.scenario in
     let m = c.loop-at.machine in
     let t = c.execute_basic.new.self in
-    let come = comes_on p c.args.machine.now c.args.done c.loop-at.at c.args.silent m t c.loop-at.invariant.come c.loop-at.invariant.low c.requires.silent
-    (omega (arith, c.loop-at-test.true, c.min.ensures, c.saturating_sub-room.ensures, c.cycles.ensures, c.loop-at.invariant.come.cycles, c.loop-at.invariant.low))
+    let come = comes_on p c.args.machine.now c.args.done c.loop-at.at c.args.silent m t c.loop-at.invariant.come c.loop-at.invariant.low
+    c.requires.silent
+    (omega (
+      arith,
+      c.loop-at-test.true,
+      c.min.ensures,
+      c.saturating_sub-room.ensures,
+      c.cycles.ensures,
+      c.loop-at.invariant.come.cycles,
+      c.loop-at.invariant.low,
+    ))
     (ap (λ (r : Words). execute r m) (sym c.rope-rope.ensures) ∙ sym c.in-Some.ensures.made) c.execute_basic.ensures.still in
     come.stands
 
@@ -35,8 +53,17 @@ returns-then-at-end-clause-taken c =
     let p = c.args.self.now.scenario in
     let m = c.loop-at.machine in
     let t = c.execute_basic.new.self in
-    let come = comes_on p c.args.machine.now c.args.done c.loop-at.at c.args.silent m t c.loop-at.invariant.come c.loop-at.invariant.low c.requires.silent
-    (omega (arith, c.loop-at-test.true, c.min.ensures, c.saturating_sub-room.ensures, c.cycles.ensures, c.loop-at.invariant.come.cycles, c.loop-at.invariant.low))
+    let come = comes_on p c.args.machine.now c.args.done c.loop-at.at c.args.silent m t c.loop-at.invariant.come c.loop-at.invariant.low
+    c.requires.silent
+    (omega (
+      arith,
+      c.loop-at-test.true,
+      c.min.ensures,
+      c.saturating_sub-room.ensures,
+      c.cycles.ensures,
+      c.loop-at.invariant.come.cycles,
+      c.loop-at.invariant.low,
+    ))
     (ap (λ (r : Words). execute r m) (sym c.rope-rope.ensures) ∙ sym c.in-Some.ensures.made) c.execute_basic.ensures.still in
     come.taken
 
@@ -45,8 +72,17 @@ returns-then-at-end-clause-none c =
     let p = c.args.self.now.scenario in
     let m = c.loop-at.machine in
     let t = c.execute_basic.new.self in
-    let come = comes_on p c.args.machine.now c.args.done c.loop-at.at c.args.silent m t c.loop-at.invariant.come c.loop-at.invariant.low c.requires.silent
-    (omega (arith, c.loop-at-test.true, c.min.ensures, c.saturating_sub-room.ensures, c.cycles.ensures, c.loop-at.invariant.come.cycles, c.loop-at.invariant.low))
+    let come = comes_on p c.args.machine.now c.args.done c.loop-at.at c.args.silent m t c.loop-at.invariant.come c.loop-at.invariant.low
+    c.requires.silent
+    (omega (
+      arith,
+      c.loop-at-test.true,
+      c.min.ensures,
+      c.saturating_sub-room.ensures,
+      c.cycles.ensures,
+      c.loop-at.invariant.come.cycles,
+      c.loop-at.invariant.low,
+    ))
     (ap (λ (r : Words). execute r m) (sym c.rope-rope.ensures) ∙ sym c.in-Some.ensures.made) c.execute_basic.ensures.still in
     come.silent
 
@@ -55,8 +91,17 @@ returns-then-not-execute_extracode-clause-state c =
     let p = c.args.self.now.scenario in
     let m = c.loop-at.machine in
     let t = c.execute_basic.new.self in
-    let come = comes_on p c.args.machine.now c.args.done c.loop-at.at c.args.silent m t c.loop-at.invariant.come c.loop-at.invariant.low c.requires.silent
-    (omega (arith, c.loop-at-test.true, c.min.ensures, c.saturating_sub-room.ensures, c.cycles.ensures, c.loop-at.invariant.come.cycles, c.loop-at.invariant.low))
+    let come = comes_on p c.args.machine.now c.args.done c.loop-at.at c.args.silent m t c.loop-at.invariant.come c.loop-at.invariant.low
+    c.requires.silent
+    (omega (
+      arith,
+      c.loop-at-test.true,
+      c.min.ensures,
+      c.saturating_sub-room.ensures,
+      c.cycles.ensures,
+      c.loop-at.invariant.come.cycles,
+      c.loop-at.invariant.low,
+    ))
     (ap (λ (r : Words). execute r m) (sym c.rope-rope.ensures) ∙ sym c.in-Some.ensures.made) c.execute_basic.ensures.still in
     c.execute_extracode.ensures.left (search rules) ∙ come.stands
 
@@ -65,8 +110,17 @@ returns-then-not-execute_extracode-clause-taken c =
     let p = c.args.self.now.scenario in
     let m = c.loop-at.machine in
     let t = c.execute_basic.new.self in
-    let come = comes_on p c.args.machine.now c.args.done c.loop-at.at c.args.silent m t c.loop-at.invariant.come c.loop-at.invariant.low c.requires.silent
-    (omega (arith, c.loop-at-test.true, c.min.ensures, c.saturating_sub-room.ensures, c.cycles.ensures, c.loop-at.invariant.come.cycles, c.loop-at.invariant.low))
+    let come = comes_on p c.args.machine.now c.args.done c.loop-at.at c.args.silent m t c.loop-at.invariant.come c.loop-at.invariant.low
+    c.requires.silent
+    (omega (
+      arith,
+      c.loop-at-test.true,
+      c.min.ensures,
+      c.saturating_sub-room.ensures,
+      c.cycles.ensures,
+      c.loop-at.invariant.come.cycles,
+      c.loop-at.invariant.low,
+    ))
     (ap (λ (r : Words). execute r m) (sym c.rope-rope.ensures) ∙ sym c.in-Some.ensures.made) c.execute_basic.ensures.still in
     ap (λ (u : State). u.taken) (c.execute_extracode.ensures.left (search rules)) ∙ come.taken
 
@@ -75,8 +129,17 @@ returns-then-not-execute_extracode-clause-none c =
     let p = c.args.self.now.scenario in
     let m = c.loop-at.machine in
     let t = c.execute_basic.new.self in
-    let come = comes_on p c.args.machine.now c.args.done c.loop-at.at c.args.silent m t c.loop-at.invariant.come c.loop-at.invariant.low c.requires.silent
-    (omega (arith, c.loop-at-test.true, c.min.ensures, c.saturating_sub-room.ensures, c.cycles.ensures, c.loop-at.invariant.come.cycles, c.loop-at.invariant.low))
+    let come = comes_on p c.args.machine.now c.args.done c.loop-at.at c.args.silent m t c.loop-at.invariant.come c.loop-at.invariant.low
+    c.requires.silent
+    (omega (
+      arith,
+      c.loop-at-test.true,
+      c.min.ensures,
+      c.saturating_sub-room.ensures,
+      c.cycles.ensures,
+      c.loop-at.invariant.come.cycles,
+      c.loop-at.invariant.low,
+    ))
     (ap (λ (r : Words). execute r m) (sym c.rope-rope.ensures) ∙ sym c.in-Some.ensures.made) c.execute_basic.ensures.still in
     come.silent
 
@@ -85,21 +148,62 @@ loop-at-preserved c =
     let p = c.args.self.now.scenario in
     let m = c.loop-at.machine in
     let t = c.execute_basic.new.self in
-    let come = comes_on p c.args.machine.now c.args.done c.loop-at.at c.args.silent m t c.loop-at.invariant.come c.loop-at.invariant.low c.requires.silent
-    (omega (arith, c.loop-at-test.true, c.min.ensures, c.saturating_sub-room.ensures, c.cycles.ensures, c.loop-at.invariant.come.cycles, c.loop-at.invariant.low))
+    let come = comes_on p c.args.machine.now c.args.done c.loop-at.at c.args.silent m t c.loop-at.invariant.come c.loop-at.invariant.low
+    c.requires.silent
+    (omega (
+      arith,
+      c.loop-at-test.true,
+      c.min.ensures,
+      c.saturating_sub-room.ensures,
+      c.cycles.ensures,
+      c.loop-at.invariant.come.cycles,
+      c.loop-at.invariant.low,
+    ))
     (ap (λ (r : Words). execute r m) (sym c.rope-rope.ensures) ∙ sym c.in-Some.ensures.made) c.execute_basic.ensures.still in
-    record { low = omega (arith, c.loop-at.invariant.low); high = omega arith; come = come; basic = c.in-Some.ensures.extra ∙ c.if-extra-2.false }
+    record {
+      low = omega (arith, c.loop-at.invariant.low);
+      high = omega arith;
+      come = come;
+      basic = c.in-Some.ensures.extra
+          ∙ c.if-extra-2.false;
+    }
 
 pub loop-at-preserved-then-extra-2 : goal.loop-at-preserved-then-extra-2
 loop-at-preserved-then-extra-2 c =
     let p = c.args.self.now.scenario in
     let m = c.loop-at.machine in
     let t = c.execute_basic.new.self in
-    let come = comes_on p c.args.machine.now c.args.done c.loop-at.at c.args.silent m t c.loop-at.invariant.come c.loop-at.invariant.low c.requires.silent
-    (omega (arith, c.loop-at-test.true, c.min.ensures, c.saturating_sub-room.ensures, c.cycles.ensures, c.loop-at.invariant.come.cycles, c.loop-at.invariant.low))
+    let come = comes_on p c.args.machine.now c.args.done c.loop-at.at c.args.silent m t c.loop-at.invariant.come c.loop-at.invariant.low
+    c.requires.silent
+    (omega (
+      arith,
+      c.loop-at-test.true,
+      c.min.ensures,
+      c.saturating_sub-room.ensures,
+      c.cycles.ensures,
+      c.loop-at.invariant.come.cycles,
+      c.loop-at.invariant.low,
+    ))
     (ap (λ (r : Words). execute r m) (sym c.rope-rope.ensures) ∙ sym c.in-Some.ensures.made) c.execute_basic.ensures.still in
     let u = c.execute_extracode.new.self in
-    let more = comes_on p c.args.machine.now c.args.done (c.loop-at.at + 1) c.args.silent t u come (omega (arith, c.loop-at.invariant.low)) c.requires.silent
-    (omega (arith, c.if-at-end.false, c.loop-at-test.true, c.min.ensures, c.saturating_sub-room.ensures, c.cycles.ensures, come.cycles, c.loop-at.invariant.low))
-    (ap (λ (r : Words). execute r t) (sym c.rope-rope.ensures) ∙ sym (c.execute_extracode.ensures.made (search rules))) c.execute_extracode.ensures.still in
-    record { low = omega (arith, c.loop-at.invariant.low); high = omega arith; come = more; basic = c.execute_extracode.ensures.basic (search rules) }
+    let more = comes_on p c.args.machine.now c.args.done (c.loop-at.at + 1) c.args.silent t u come (omega (arith, c.loop-at.invariant.low))
+    c.requires.silent
+    (omega (
+      arith,
+      c.if-at-end.false,
+      c.loop-at-test.true,
+      c.min.ensures,
+      c.saturating_sub-room.ensures,
+      c.cycles.ensures,
+      come.cycles,
+      c.loop-at.invariant.low,
+    ))
+    (ap (λ (r : Words). execute r t) (sym c.rope-rope.ensures) ∙ sym (c.execute_extracode.ensures.made (search rules)))
+    c.execute_extracode.ensures.still in
+    record {
+      low = omega (arith, c.loop-at.invariant.low);
+      high = omega arith;
+      come = more;
+      basic = c.execute_extracode.ensures.basic
+          (search rules);
+    }

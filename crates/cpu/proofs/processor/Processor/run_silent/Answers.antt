@@ -31,7 +31,8 @@ run_plain-at-requires-clause-silent c = λ cycles before.
     let m = c.loop-at.machine in
     let none_due : due p.inputs m.taken m.cycles ≡ None =
     rw c.loop-at.invariant.taken (c.requires.silent m.cycles (omega (arith, c.cycles.ensures, c.if-cycles-silent.true))) in
-    let taken = ap (λ (q : State × Option Output). q.0.taken) c.step_silent.ensures ∙ (takes_in_turn p m).none none_due ∙ c.loop-at.invariant.taken in
+    let taken = ap (λ (q : State × Option Output). q.0.taken) c.step_silent.ensures ∙ (takes_in_turn p m).none none_due
+    ∙ c.loop-at.invariant.taken in
     rw taken (c.requires.silent cycles before)
 
 pub loop-at-preserved : goal.loop-at-preserved
@@ -41,7 +42,8 @@ loop-at-preserved c =
     let to = c.run_plain-at.result in
     let none_due : due p.inputs m.taken m.cycles ≡ None =
     rw c.loop-at.invariant.taken (c.requires.silent m.cycles (omega (arith, c.cycles.ensures, c.if-cycles-silent.true))) in
-    let taken = ap (λ (q : State × Option Output). q.0.taken) c.step_silent.ensures ∙ (takes_in_turn p m).none none_due ∙ c.loop-at.invariant.taken in
+    let taken = ap (λ (q : State × Option Output). q.0.taken) c.step_silent.ensures ∙ (takes_in_turn p m).none none_due
+    ∙ c.loop-at.invariant.taken in
     let one = silent_more p c.args.done c.loop-at.at c.loop-at.invariant.silent
     (sym (out_next p c.loop-at.at m _ _ c.loop-at.invariant.stands c.step_silent.ensures) ∙ c.in_default.is) in
     record {

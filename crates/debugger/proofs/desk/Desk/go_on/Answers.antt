@@ -16,14 +16,19 @@ returns-in-Some-clause-executes g c = λ told terms.
     let shown = c.stop_text.ensures.looked in
     let scene = shown.scenario ∙ looked.scenario in
     let steps = shown.steps ∙ looked.steps in
-    let some : Some c.in-Some.step ≡ next_stop (history s.scenario) (desk s c.args.self.now.position c.args.self.now.breakpoints) c.args.steps = c.in-Some.ensures.next in
+    let some : Some c.in-Some.step ≡ next_stop (history s.scenario) (desk s c.args.self.now.position c.args.self.now.breakpoints)
+    c.args.steps = c.in-Some.ensures.next in
     let hit : Some c.in-Some.number ≡ hit_at (history s.scenario) c.args.self.now.breakpoints c.in-Some.step = c.in-Some.ensures.hit in
-    replies-text g.K.Keeper.may_refuse (to_asked terms (On c.args.steps)) _ _ _ _ c.stop_text.result.items _ _ (λ answers additions. rw (← some, ← hit, scene, steps, c.stop_text.ensures.text, looked.scenario) refl) c.as_slice.ensures.value (c.write_all.ensures.written told)
+    replies-text g.K.Keeper.may_refuse (to_asked terms (On c.args.steps)) _ _ _ _ c.stop_text.result.items _ _
+    (λ answers additions. rw (← some, ← hit, scene, steps, c.stop_text.ensures.text, looked.scenario) refl) c.as_slice.ensures.value
+    (c.write_all.ensures.written told)
 
 pub returns-in-None-clause-executes : goal.returns-in-None-clause-executes
 unfolding extended_reply
 returns-in-None-clause-executes g c = λ told terms.
     let s = c.args.session.now in
     let looked = c.in-None.ensures.looked in
-    let none : next_stop (history s.scenario) (desk s c.args.self.now.position c.args.self.now.breakpoints) c.args.steps ≡ None = sym c.in-None.ensures.next in
-    replies-same g.K.Keeper.may_refuse (to_asked terms (On c.args.steps)) (grows_on c.args.steps) _ _ _ _ _ (λ answers additions. rw none refl) (rw (looked.scenario, looked.steps) at (c.grow_on.ensures.executes told))
+    let none : next_stop (history s.scenario) (desk s c.args.self.now.position c.args.self.now.breakpoints) c.args.steps
+    ≡ None = sym c.in-None.ensures.next in
+    replies-same g.K.Keeper.may_refuse (to_asked terms (On c.args.steps)) (grows_on c.args.steps) _ _ _ _ _
+    (λ answers additions. rw none refl) (rw (looked.scenario, looked.steps) at (c.grow_on.ensures.executes told))

@@ -15,7 +15,8 @@ returns-in-Some-clause-executes g c = λ told terms.
     let p = c.args.self.now.position in
     let looked = c.out_end-end.ensures.looked in
     let some : out_end (run s.scenario p) (routines s.scenario p) ≡ Some c.in-Some.end = sym c.out_end-end.ensures.end ∙ c.in-Some.is in
-    replies-same g.K.Keeper.may_refuse (to_asked terms (Out c.args.steps)) (goes_to_end c.in-Some.end c.args.steps) _ _ _ _ _ (λ answers additions. rw some refl) (rw (looked.scenario, looked.steps) at (c.go_to.ensures.executes told))
+    replies-same g.K.Keeper.may_refuse (to_asked terms (Out c.args.steps)) (goes_to_end c.in-Some.end c.args.steps) _ _ _ _ _
+    (λ answers additions. rw some refl) (rw (looked.scenario, looked.steps) at (c.go_to.ensures.executes told))
 
 pub returns-in-None-clause-executes : goal.returns-in-None-clause-executes
 unfolding extended_reply
@@ -24,4 +25,5 @@ returns-in-None-clause-executes g c = λ told terms.
     let p = c.args.self.now.position in
     let looked = c.out_end-end.ensures.looked in
     let none : out_end (run s.scenario p) (routines s.scenario p) ≡ None = sym c.out_end-end.ensures.end ∙ c.in-None.is in
-    replies-text g.K.Keeper.may_refuse (to_asked terms (Out c.args.steps)) _ _ _ _ _ _ _ (λ answers additions. rw (none, looked.scenario, looked.steps) refl) refl (c.write_all.ensures.written told)
+    replies-text g.K.Keeper.may_refuse (to_asked terms (Out c.args.steps)) _ _ _ _ _ _ _
+    (λ answers additions. rw (none, looked.scenario, looked.steps) refl) refl (c.write_all.ensures.written told)

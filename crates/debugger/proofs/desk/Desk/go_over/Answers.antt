@@ -14,4 +14,5 @@ returns-clause-executes g c = λ told terms.
     let s = c.args.session.now in
     let looked = c.over_end-end.ensures.looked in
     let end = over_end s.scenario (run s.scenario c.args.self.now.position) in
-    replies-same g.K.Keeper.may_refuse (to_asked terms (Over c.args.steps)) (goes_to_end end c.args.steps) _ _ _ _ _ (λ answers additions. refl) (rw (looked.scenario, looked.steps, c.over_end-end.ensures.end) at (c.go_to.ensures.executes told))
+    replies-same g.K.Keeper.may_refuse (to_asked terms (Over c.args.steps)) (goes_to_end end c.args.steps) _ _ _ _ _
+    (λ answers additions. refl) (rw (looked.scenario, looked.steps, c.over_end-end.ensures.end) at (c.go_to.ensures.executes told))

@@ -16,9 +16,11 @@ returns-clause-last g c =
     let place = c.args.place in
     let p = c.args.self.now.position in
     let scene : shown.scenario ≡ s.scenario = ap (λ (v : SessionView). v.scenario) c.show.follows.holds-at-none.same in
-    let word : c.word-word.result ≡ correct (get (run s.scenario p).cells place) = c.word-word.ensures ∙ ap (λ (m : State). correct (get m.cells place)) c.in-Ok.ensures.shown in
+    let word : c.word-word.result ≡ correct (get (run s.scenario p).cells place) = c.word-word.ensures
+    ∙ ap (λ (m : State). correct (get m.cells place)) c.in-Ok.ensures.shown in
     let found : c.seek_back.result ≡ last_hit (λ t. not (correct (get (run shown.scenario t).cells place) == c.word-word.result)) p =
-    c.seek_back.ensures.last (λ t. not (correct (get (run shown.scenario t).cells place) == c.word-word.result)) (λ t r below returns. search rules) in
+    c.seek_back.ensures.last (λ t. not (correct (get (run shown.scenario t).cells place) == c.word-word.result))
+    (λ t r below returns. search rules) in
     found
     ∙ ap (λ (q : Scenario). last_hit (λ t. not (correct (get (run q t).cells place) == c.word-word.result)) p) scene
     ∙ ap (λ (w : ℕ). last_hit (λ t. not (correct (get (run s.scenario t).cells place) == w)) p) word

@@ -9,7 +9,8 @@ unfolding routines
 returns-clause-outside g c =
     let s = c.args.session.now in
     let p = c.args.self.now.position in
-    let shown : c.in-Ok.machine.now ≡ run s.scenario p = c.in-Ok.ensures.shown ∙ ap (λ (q : Scenario). run q p) c.routines_before-routines.ensures.looked.scenario in
+    let shown : c.in-Ok.machine.now ≡ run s.scenario p = c.in-Ok.ensures.shown
+    ∙ ap (λ (q : Scenario). run q p) c.routines_before-routines.ensures.looked.scenario in
     c.arrive.ensures.outside ∙ rw (shown, c.routines_before-routines.ensures.outside) refl
 
 pub returns-clause-inside : goal.returns-clause-inside
@@ -17,5 +18,6 @@ unfolding routines_inside
 returns-clause-inside g c =
     let s = c.args.session.now in
     let p = c.args.self.now.position in
-    let shown : c.in-Ok.machine.now ≡ run s.scenario p = c.in-Ok.ensures.shown ∙ ap (λ (q : Scenario). run q p) c.routines_before-routines.ensures.looked.scenario in
+    let shown : c.in-Ok.machine.now ≡ run s.scenario p = c.in-Ok.ensures.shown
+    ∙ ap (λ (q : Scenario). run q p) c.routines_before-routines.ensures.looked.scenario in
     c.arrive.ensures.inside ∙ rw (shown, c.routines_before-routines.ensures.inside) refl

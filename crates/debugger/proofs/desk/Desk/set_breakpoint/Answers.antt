@@ -19,5 +19,11 @@ pub returns-clause-brings : goal.returns-clause-brings
 unfolding answer reply
 returns-clause-brings c = λ s m answers additions.
     let count : c.len.result ≡ length c.args.self.now.breakpoints + 1 =
-    c.len.ensures.value ∙ ap (λ (bs : List Breakpoint). length bs) c.push.ensures ∙ length-append c.args.self.now.breakpoints (c.args.breakpoint ∷ []) in
-    rw (room (length c.args.self.now.breakpoints) c.if-is_full.ensures.few c.if-is_full.ensures.value, c.number_line.ensures.items, count, c.push.ensures) refl
+    c.len.ensures.value ∙ ap (λ (bs : List Breakpoint). length bs) c.push.ensures
+    ∙ length-append c.args.self.now.breakpoints (c.args.breakpoint ∷ []) in
+    rw (
+      room (length c.args.self.now.breakpoints) c.if-is_full.ensures.few c.if-is_full.ensures.value,
+      c.number_line.ensures.items,
+      count,
+      c.push.ensures,
+    ) refl

@@ -5,7 +5,8 @@ use Rattle.debugger.proofs.desk.Desk.trace.Goals as goal
 
 pub returns-clause-writes : goal.returns-clause-writes
 returns-clause-writes g c = λ told.
-    rw (traced c.args.form c.args.symbols.now c.args.session.now.scenario c.args.self.now.position c.args.steps c.min-count.result (c.args.self.now.position - c.min-count.result) (omega (arith, c.min-count.ensures)) refl) at (c.retrace.ensures.written told)
+    rw (traced c.args.form c.args.symbols.now c.args.session.now.scenario c.args.self.now.position c.args.steps c.min-count.result
+    (c.args.self.now.position - c.min-count.result) (omega (arith, c.min-count.ensures)) refl) at (c.retrace.ensures.written told)
 
 pub returns-clause-looked : goal.returns-clause-looked
 returns-clause-looked g c =

@@ -16,7 +16,9 @@ returns-in-Some-clause-executes g c = λ told terms.
     let scene = shown.scenario ∙ looked.scenario in
     let steps = shown.steps ∙ looked.steps in
     let some : first_at (history s.scenario) s.n c.args.cycles ≡ Some c.in-Some.step = sym c.first_at.ensures.first ∙ c.in-Some.is in
-    replies-text g.K.Keeper.may_refuse (to_asked terms (Until c.args.cycles)) _ _ _ _ c.position_text.result.items _ _ (λ answers additions. rw (some, scene, steps, c.position_text.ensures.text, looked.scenario) refl) c.as_slice.ensures.value (c.write_all.ensures.written told)
+    replies-text g.K.Keeper.may_refuse (to_asked terms (Until c.args.cycles)) _ _ _ _ c.position_text.result.items _ _
+    (λ answers additions. rw (some, scene, steps, c.position_text.ensures.text, looked.scenario) refl) c.as_slice.ensures.value
+    (c.write_all.ensures.written told)
 
 pub returns-in-None-clause-executes : goal.returns-in-None-clause-executes
 unfolding extended_reply
@@ -24,4 +26,5 @@ returns-in-None-clause-executes g c = λ told terms.
     let s = c.args.session.now in
     let looked = c.first_at.ensures.looked in
     let none : first_at (history s.scenario) s.n c.args.cycles ≡ None = sym c.first_at.ensures.first ∙ c.in-None.is in
-    replies-same g.K.Keeper.may_refuse (to_asked terms (Until c.args.cycles)) (makes_until c.args.cycles) _ _ _ _ _ (λ answers additions. rw none refl) (rw (looked.scenario, looked.steps) at (c.grow_until.ensures.executes told))
+    replies-same g.K.Keeper.may_refuse (to_asked terms (Until c.args.cycles)) (makes_until c.args.cycles) _ _ _ _ _
+    (λ answers additions. rw none refl) (rw (looked.scenario, looked.steps) at (c.grow_until.ensures.executes told))

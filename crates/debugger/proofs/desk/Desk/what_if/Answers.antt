@@ -9,7 +9,8 @@ use Rattle.debugger.proofs.desk.Desk.what_if.Goals as goal
 
 pub returns-then-steps-room-clause-executes : goal.returns-then-steps-room-clause-executes
 returns-then-steps-room-clause-executes g c = λ told.
-    limited g.K.Keeper.may_refuse (desk c.args.session.now c.args.self.now.position c.args.self.now.breakpoints) c.args.input c.args.steps _ _ _ _ (omega arith)
+    limited g.K.Keeper.may_refuse (desk c.args.session.now c.args.self.now.position c.args.self.now.breakpoints) c.args.input c.args.steps _
+    _ _ _ (omega arith)
     (c.as_slice.ensures.value ∙ c.text_line.ensures.items) (c.write_all.ensures.written told)
 
 pub returns-then-count-ge-MOST_INPUTS-clause-executes : goal.returns-then-count-ge-MOST_INPUTS-clause-executes
@@ -18,8 +19,10 @@ returns-then-count-ge-MOST_INPUTS-clause-executes g c = λ told.
     let plain = c.plain_inputs-count.result.now in
     let is : plain_inputs scenario ≡ length plain = counted_plain scenario plain (rw c.processor.ensures at c.plain_inputs-count.ensures) in
     let many : most_plain_inputs ≤ plain_inputs scenario = omega (arith, is) in
-    crowded g.K.Keeper.may_refuse (desk c.args.session.now c.args.self.now.position c.args.self.now.breakpoints) c.args.input c.args.steps _ _ _ _ (omega arith) many
-    (c.as_slice-then-count-ge-MOST_INPUTS.ensures.value ∙ c.text_line-then-count-ge-MOST_INPUTS.ensures.items) (c.write_all-then-count-ge-MOST_INPUTS.ensures.written told)
+    crowded g.K.Keeper.may_refuse (desk c.args.session.now c.args.self.now.position c.args.self.now.breakpoints) c.args.input c.args.steps _
+    _ _ _ (omega arith) many
+    (c.as_slice-then-count-ge-MOST_INPUTS.ensures.value ∙ c.text_line-then-count-ge-MOST_INPUTS.ensures.items)
+    (c.write_all-then-count-ge-MOST_INPUTS.ensures.written told)
 
 pub returns-in-Some-clause-executes : goal.returns-in-Some-clause-executes
 returns-in-Some-clause-executes g c = λ told.
@@ -27,8 +30,10 @@ returns-in-Some-clause-executes g c = λ told.
     let plain = c.plain_inputs-count.result.now in
     let is : plain_inputs scenario ≡ length plain = counted_plain scenario plain (rw c.processor.ensures at c.plain_inputs-count.ensures) in
     let few : plain_inputs scenario < most_plain_inputs = omega (arith, is) in
-    told_whole g.K.Keeper.may_refuse (desk c.args.session.now c.args.self.now.position c.args.self.now.breakpoints) _ c.args.input c.args.steps _ _ _ _
-    (still_there c.args.session.now _ c.args.self.now.position c.args.self.now.position c.args.self.now.breakpoints c.in-Some.ensures.shown) (omega arith) few
+    told_whole g.K.Keeper.may_refuse (desk c.args.session.now c.args.self.now.position c.args.self.now.breakpoints) _ c.args.input
+    c.args.steps _ _ _ _
+    (still_there c.args.session.now _ c.args.self.now.position c.args.self.now.position c.args.self.now.breakpoints c.in-Some.ensures.shown)
+    (omega arith) few
     (c.as_slice-in-Some.ensures ∙ c.in-Some.ensures.text) (c.write_all-in-Some.ensures.written told)
 
 pub returns-in-None-clause-executes : goal.returns-in-None-clause-executes
@@ -37,8 +42,10 @@ returns-in-None-clause-executes g c = λ told.
     let plain = c.plain_inputs-count.result.now in
     let is : plain_inputs scenario ≡ length plain = counted_plain scenario plain (rw c.processor.ensures at c.plain_inputs-count.ensures) in
     let few : plain_inputs scenario < most_plain_inputs = omega (arith, is) in
-    forgotten g.K.Keeper.may_refuse (desk c.args.session.now c.args.self.now.position c.args.self.now.breakpoints) _ c.args.input c.args.steps _ _ _ _
-    (still_there c.args.session.now _ c.args.self.now.position c.args.self.now.position c.args.self.now.breakpoints c.in-None.ensures.shown) (omega arith) few
+    forgotten g.K.Keeper.may_refuse (desk c.args.session.now c.args.self.now.position c.args.self.now.breakpoints) _ c.args.input
+    c.args.steps _ _ _ _
+    (still_there c.args.session.now _ c.args.self.now.position c.args.self.now.position c.args.self.now.breakpoints c.in-None.ensures.shown)
+    (omega arith) few
     (c.as_slice-in-None.ensures.value ∙ c.text_line-in-None.ensures.items) (c.write_all-in-None.ensures.written told)
 
 pub returns-in-Some-clause-same : goal.returns-in-Some-clause-same

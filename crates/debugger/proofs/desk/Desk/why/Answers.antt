@@ -12,10 +12,12 @@ use Rattle.debugger.proofs.desk.Desk.why.Goals as goal
 pub returns-in_default-clause-writes : goal.returns-in_default-clause-writes
 returns-in_default-clause-writes g c = λ told.
     let far = c.loop-left.invariant in
-    told_short c.args.symbols.now c.args.session.now.scenario c.args.lines _ _ _ c.loop-left.left c.loop-left.before c.loop-left.pending (far.told told) _ c.as_slice.result.now _
+    told_short c.args.symbols.now c.args.session.now.scenario c.args.lines _ _ _ c.loop-left.left c.loop-left.before c.loop-left.pending
+    (far.told told) _ c.as_slice.result.now _
     (omega (arith, c.loop-left-test.true))
     (λ xs is. c.in_default.ensures.writer xs is ∙ ap (λ (q : Scenario). last_writer q xs c.loop-left.before) far.scenario)
-    (λ xs is. c.as_slice.ensures.value ∙ c.end_text.ensures ∙ ap (λ (cells : CellSet). end_text c.args.symbols.now false (cells_of cells)) is)
+    (λ xs is. c.as_slice.ensures.value ∙ c.end_text.ensures
+    ∙ ap (λ (cells : CellSet). end_text c.args.symbols.now false (cells_of cells)) is)
     (c.write_all.ensures.written told)
 
 pub returns-in_err-write_all-clause-writes : goal.returns-in_err-write_all-clause-writes
@@ -23,10 +25,12 @@ returns-in_err-write_all-clause-writes g c = λ told.
     let far = c.loop-left.invariant in
     let scene = ap (λ (v : SessionView). v.scenario) c.seek_writer.ensures.after.same ∙ far.scenario in
     let failed = err_from_is_err_and c.from_residual.result c.from_residual.ensures.1 in
-    rw failed.1 (told_part c.args.symbols.now c.args.session.now.scenario c.args.lines _ _ _ c.loop-left.left c.loop-left.before c.loop-left.pending (far.told told) _ c.as_slice-in-loop-left.result.now c.in-Some.step
+    rw failed.1 (told_part c.args.symbols.now c.args.session.now.scenario c.args.lines _ _ _ c.loop-left.left c.loop-left.before
+    c.loop-left.pending (far.told told) _ c.as_slice-in-loop-left.result.now c.in-Some.step
     (omega (arith, c.loop-left-test.true))
     (λ xs is. c.in-Some.ensures.writer xs is ∙ ap (λ (q : Scenario). last_writer q xs c.loop-left.before) far.scenario)
-    (λ xs is. c.as_slice-in-loop-left.ensures.value ∙ c.link_lines.ensures.lines xs is ∙ ap (λ (q : Scenario). link_lines c.args.symbols.now q c.args.lines c.in-Some.step xs) scene)
+    (λ xs is. c.as_slice-in-loop-left.ensures.value ∙ c.link_lines.ensures.lines xs is
+    ∙ ap (λ (q : Scenario). link_lines c.args.symbols.now q c.args.lines c.in-Some.step xs) scene)
     (c.in_err-write_all.ensures.written told))
 
 pub returns-in_err-write_all-clause-looked : goal.returns-in_err-write_all-clause-looked
@@ -40,7 +44,8 @@ returns-in_err-write_all-clause-looked g c =
       scenario = looked.scenario ∙ ap (λ (v : SessionView). v.scenario) sought.same ∙ far.scenario;
       steps = looked.steps ∙ steps;
       cost = cost_told (link_effort c.args.lines) c.args.session.now.meter _ c.args.session.now.n (c.loop-left.left - 1) c.args.links
-          (cost_more c.args.lines c.args.session.now.meter c.loop-left.session.meter c.seek_writer.new.self.meter _ c.args.session.now.n _ c.in-Some.step c.loop-left.left c.args.links (omega (arith, c.loop-left-test.true)) far.cost
+          (cost_more c.args.lines c.args.session.now.meter c.loop-left.session.meter c.seek_writer.new.self.meter _ c.args.session.now.n _
+          c.in-Some.step c.loop-left.left c.args.links (omega (arith, c.loop-left-test.true)) far.cost
           (omega (arith, sought.found, far.steps)) looked.cost steps within);
     }
 
@@ -57,13 +62,16 @@ loop-left-preserved g c =
       left = omega (arith, far.left);
       scenario = looked.scenario ∙ scene;
       steps = looked.steps ∙ steps;
-      cost = cost_more c.args.lines c.args.session.now.meter c.loop-left.session.meter c.seek_writer.new.self.meter _ c.args.session.now.n _ c.in-Some.step c.loop-left.left c.args.links (omega (arith, c.loop-left-test.true)) far.cost
+      cost = cost_more c.args.lines c.args.session.now.meter c.loop-left.session.meter c.seek_writer.new.self.meter _ c.args.session.now.n _
+          c.in-Some.step c.loop-left.left c.args.links (omega (arith, c.loop-left-test.true)) far.cost
           (omega (arith, sought.found, far.steps)) looked.cost steps within;
       failures = c.in_ok-write_all.ensures.failures ∙ far.failures;
-      told = λ told. told_more c.args.symbols.now c.args.session.now.scenario c.args.lines _ _ _ c.loop-left.left c.loop-left.before c.loop-left.pending (far.told told) _ c.as_slice-in-loop-left.result.now c.in-Some.step _
+      told = λ told. told_more c.args.symbols.now c.args.session.now.scenario c.args.lines _ _ _ c.loop-left.left c.loop-left.before
+          c.loop-left.pending (far.told told) _ c.as_slice-in-loop-left.result.now c.in-Some.step _
           (omega (arith, c.loop-left-test.true))
           (λ xs is. c.in-Some.ensures.writer xs is ∙ ap (λ (q : Scenario). last_writer q xs c.loop-left.before) far.scenario)
-          (λ xs is. c.as_slice-in-loop-left.ensures.value ∙ c.link_lines.ensures.lines xs is ∙ ap (λ (q : Scenario). link_lines c.args.symbols.now q c.args.lines c.in-Some.step xs) scene)
+          (λ xs is. c.as_slice-in-loop-left.ensures.value ∙ c.link_lines.ensures.lines xs is
+          ∙ ap (λ (q : Scenario). link_lines c.args.symbols.now q c.args.lines c.in-Some.step xs) scene)
           (λ xs is. c.link_lines.ensures.pending xs is ∙ ap (λ (q : Scenario). cells_among (before_step q c.in-Some.step xs)) scene)
           (c.in_ok-write_all.ensures.written told);
     }
@@ -71,7 +79,9 @@ loop-left-preserved g c =
 pub returns-clause-writes : goal.returns-clause-writes
 returns-clause-writes g c = λ told.
     let far = c.loop-left.invariant in
-    told_all c.args.symbols.now c.args.session.now.scenario c.args.lines _ _ _ c.loop-left.left c.loop-left.before c.loop-left.pending (far.told told) _ c.as_slice-2.result.now _
+    told_all c.args.symbols.now c.args.session.now.scenario c.args.lines _ _ _ c.loop-left.left c.loop-left.before c.loop-left.pending
+    (far.told told) _ c.as_slice-2.result.now _
     (omega (arith, c.loop-left-test.false))
-    (λ xs is. c.as_slice-2.ensures.value ∙ c.end_text-2.ensures ∙ ap (λ (cells : CellSet). end_text c.args.symbols.now true (cells_of cells)) is)
+    (λ xs is. c.as_slice-2.ensures.value ∙ c.end_text-2.ensures
+    ∙ ap (λ (cells : CellSet). end_text c.args.symbols.now true (cells_of cells)) is)
     (c.write_all-2.ensures.written told)

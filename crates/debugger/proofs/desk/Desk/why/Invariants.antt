@@ -10,9 +10,12 @@ invariant-loop-left g l = record {
   left : l.left ≤ l.fn.links;
   scenario : l.session.scenario ≡ l.fn.session.scenario;
   steps : l.session.n ≡ l.fn.session.n;
-  cost : l.session.meter + link_effort l.lines * l.left * l.fn.session.n ≤ l.fn.session.meter + link_effort l.lines * l.fn.links * l.fn.session.n;
+  cost : l.session.meter + link_effort l.lines * l.left * l.fn.session.n
+      ≤ l.fn.session.meter + link_effort l.lines * l.fn.links * l.fn.session.n;
   failures : g.W.Write.failures l.out ≡ g.W.Write.failures l.fn.out;
-  told : g.W.Write.told ≡ true → ToldLinks l.symbols l.fn.session.scenario l.lines (why_text l.symbols l.fn.session.scenario l.lines l.fn.links l.self.position (subject_spots l.fn.subject)) (g.W.Write.written l.fn.out) (g.W.Write.written l.out) l.left l.before l.pending;
+  told : g.W.Write.told ≡ true → ToldLinks l.symbols l.fn.session.scenario l.lines
+      (why_text l.symbols l.fn.session.scenario l.lines l.fn.links l.self.position (subject_spots l.fn.subject))
+      (g.W.Write.written l.fn.out) (g.W.Write.written l.out) l.left l.before l.pending;
 }
 
 abbrev pub decreases-loop-left : goal.decreases-loop-left

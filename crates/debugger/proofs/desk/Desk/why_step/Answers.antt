@@ -13,7 +13,8 @@ returns-in_err-write_all-clause-writes g c = λ told.
     let t = c.args.self.now.position - 1 in
     let xs = target_spots scenario t in
     let scene = c.cells_written-pending.ensures.looked.scenario in
-    let first = c.as_slice.ensures.value ∙ c.link_lines.ensures.lines xs c.cells_written-pending.ensures.cells ∙ ap (λ (q : Scenario). link_lines symbols q c.args.lines t xs) scene in
+    let first = c.as_slice.ensures.value ∙ c.link_lines.ensures.lines xs c.cells_written-pending.ensures.cells
+    ∙ ap (λ (q : Scenario). link_lines symbols q c.args.lines t xs) scene in
     let failed = err_from_is_err_and c.from_residual.result c.from_residual.ensures.1 in
     rw failed.1 (first_part _ _ c.as_slice.result.now _ _
     (last_lines symbols scenario c.args.lines c.args.self.now.position (omega (arith, c.if-self-eq0.false))
@@ -28,7 +29,8 @@ returns-clause-writes g c = λ told.
     let xs = target_spots scenario t in
     let pending = c.cells_written-pending.ensures.cells in
     let scene = c.cells_written-pending.ensures.looked.scenario in
-    let first = c.as_slice.ensures.value ∙ c.link_lines.ensures.lines xs pending ∙ ap (λ (q : Scenario). link_lines symbols q c.args.lines t xs) scene in
+    let first = c.as_slice.ensures.value ∙ c.link_lines.ensures.lines xs pending
+    ∙ ap (λ (q : Scenario). link_lines symbols q c.args.lines t xs) scene in
     let cells = c.link_lines.ensures.pending xs pending ∙ ap (λ (q : Scenario). cells_among (before_step q t xs)) scene in
     let last = c.as_slice-2.ensures.value ∙ c.end_text.ensures ∙ ap (λ (cells : CellSet). end_text symbols true (cells_of cells)) cells in
     two_parts _ _ _ c.as_slice.result.now c.as_slice-2.result.now _ _

@@ -8,5 +8,7 @@ pub returns-clause-puts : goal.returns-clause-puts
 returns-clause-puts c =
     let n = c.run_on-done.result.0 in
     let scenario = c.args.processor.now.scenario in
-    puts_on scenario c.args.self.now.done n c.args.steps c.run_on-done.ensures.past c.run_on-done.ensures.within c.run_on-done.ensures.silent
-    ∙ ap (λ (xs : List Put). xs ++ puts scenario n (c.args.steps - n)) (ap (put_of n) (sym c.run_on-done.ensures.put) ∙ sym c.put_of.ensures)
+    puts_on scenario c.args.self.now.done n c.args.steps c.run_on-done.ensures.past c.run_on-done.ensures.within
+    c.run_on-done.ensures.silent
+    ∙ ap (λ (xs : List Put). xs ++ puts scenario n (c.args.steps - n))
+    (ap (put_of n) (sym c.run_on-done.ensures.put) ∙ sym c.put_of.ensures)

@@ -18,10 +18,12 @@ loop-number-init c = record {
 
 pub make_main_step-step-requires-clause-cycles : goal.make_main_step-step-requires-clause-cycles
 make_main_step-step-requires-clause-cycles c =
-    few_cycles c.args.processor.now.scenario c.loop-number.self.done _ c.loop-number.invariant.machine (omega (arith, c.if-self-steps.true, c.requires.few))
+    few_cycles c.args.processor.now.scenario c.loop-number.self.done _ c.loop-number.invariant.machine
+    (omega (arith, c.if-self-steps.true, c.requires.few))
 
 pub make_main_step-step-requires-clause-fits : goal.make_main_step-step-requires-clause-fits
-make_main_step-step-requires-clause-fits c = fits_after c.args.processor.now.scenario _ c.loop-number.self.done _ c.loop-number.invariant.scenario c.loop-number.invariant.machine
+make_main_step-step-requires-clause-fits c = fits_after c.args.processor.now.scenario _ c.loop-number.self.done _
+    c.loop-number.invariant.scenario c.loop-number.invariant.machine
 
 pub loop-number-preserved : goal.loop-number-preserved
 loop-number-preserved c =
@@ -35,8 +37,10 @@ loop-number-preserved c =
       meter = omega (arith, i.meter, c.make_main_step-step.ensures.meter);
       within = omega (arith, c.if-self-steps.true);
       machine = state_more scenario _ n _ _ i.scenario i.machine c.make_main_step-step.ensures.state;
-      known = within_more _ _ n c.args.steps c.loop-number.self.ahead.items after c.keep.new.ahead.items c.if-self-steps.true i.known c.make_main_step-step.ensures.step c.keep.ensures.items;
+      known = within_more _ _ n c.args.steps c.loop-number.self.ahead.items after c.keep.new.ahead.items c.if-self-steps.true i.known
+          c.make_main_step-step.ensures.step c.keep.ensures.items;
       short = c.keep.ensures.short;
       side = ap (λ (xs : List MainStep). record { before = c.loop-number.self.before.items; rest = xs })
-          (fill_more scenario c.args.steps n c.loop-number.self.ahead.items after c.keep.new.ahead.items c.if-self-steps.true here c.keep.ensures.items) ∙ i.side;
+          (fill_more scenario c.args.steps n c.loop-number.self.ahead.items after c.keep.new.ahead.items c.if-self-steps.true here
+          c.keep.ensures.items) ∙ i.side;
     }

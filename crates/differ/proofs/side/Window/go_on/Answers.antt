@@ -10,11 +10,14 @@ returns-in-None-clause-side c =
 
 pub fill-requires-clause-known : goal.fill-requires-clause-known
 fill-requires-clause-known c =
-    let is = head_of c.args.self.now.ahead.items c.in-Some.step (sym c.pop_at.ensures.value ∙ c.in-Some.is) ∙ ap (λ (ys : List MainStep). c.in-Some.step ∷ ys) (sym c.in-Some.ensures.items) in
+    let is = head_of c.args.self.now.ahead.items c.in-Some.step (sym c.pop_at.ensures.value ∙ c.in-Some.is)
+    ∙ ap (λ (ys : List MainStep). c.in-Some.step ∷ ys) (sym c.in-Some.ensures.items) in
     within_rest c.args.steps c.args.self.now.ahead.items c.pop_at.new.self.items c.in-Some.step is c.requires.full.known
 
 pub returns-in-Some-clause-side : goal.returns-in-Some-clause-side
 returns-in-Some-clause-side c =
-    let is = head_of c.args.self.now.ahead.items c.in-Some.step (sym c.pop_at.ensures.value ∙ c.in-Some.is) ∙ ap (λ (ys : List MainStep). c.in-Some.step ∷ ys) (sym c.in-Some.ensures.items) in
+    let is = head_of c.args.self.now.ahead.items c.in-Some.step (sym c.pop_at.ensures.value ∙ c.in-Some.is)
+    ∙ ap (λ (ys : List MainStep). c.in-Some.step ∷ ys) (sym c.in-Some.ensures.items) in
     c.fill.ensures.side
-    ∙ on_kept c.args.processor.now.scenario c.args.steps c.args.self.now.done c.args.self.now.before.items c.args.self.now.ahead.items c.pop_at.new.self.items c.keep_before.new.before.items c.in-Some.step is c.keep_before.ensures
+    ∙ on_kept c.args.processor.now.scenario c.args.steps c.args.self.now.done c.args.self.now.before.items c.args.self.now.ahead.items
+    c.pop_at.new.self.items c.keep_before.new.before.items c.in-Some.step is c.keep_before.ensures

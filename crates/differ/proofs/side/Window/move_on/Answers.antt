@@ -13,9 +13,11 @@ loop-preserved c =
       scenario = c.go_on.ensures.scenario ∙ i.scenario;
       meter = omega (arith, i.meter, c.go_on.ensures.once);
       full = rw i.scenario at c.go_on.ensures.full;
-      left = i.left ∙ moved_one c.args.count c.loop.counter (side_of scenario c.args.steps c.loop.self) c.loop-test.true ∙ ap (moved (c.args.count - (c.loop.counter + 1))) (sym side);
+      left = i.left ∙ moved_one c.args.count c.loop.counter (side_of scenario c.args.steps c.loop.self) c.loop-test.true
+          ∙ ap (moved (c.args.count - (c.loop.counter + 1))) (sym side);
     }
 
 pub returns-clause-side : goal.returns-clause-side
 returns-clause-side c =
-    sym (c.loop.invariant.left ∙ moved_none c.args.count c.loop.counter (side_of c.args.processor.now.scenario c.args.steps c.loop.self) (omega (arith, c.loop-test.false)))
+    sym (c.loop.invariant.left ∙ moved_none c.args.count c.loop.counter (side_of c.args.processor.now.scenario c.args.steps c.loop.self)
+    (omega (arith, c.loop-test.false)))

@@ -8,5 +8,6 @@ invariant-loop l = record {
   scenario : l.processor.scenario ≡ l.fn.processor.scenario;
   meter : l.processor.meter + l.fn.self.done ≤ l.fn.processor.meter + l.self.done;
   full : IsFull l.fn.processor.scenario l.steps l.self;
-  left : moved l.count (side_of l.fn.processor.scenario l.steps l.fn.self) ≡ moved (l.count - l.counter) (side_of l.fn.processor.scenario l.steps l.self);
+  left : moved l.count (side_of l.fn.processor.scenario l.steps l.fn.self)
+      ≡ moved (l.count - l.counter) (side_of l.fn.processor.scenario l.steps l.self);
 }

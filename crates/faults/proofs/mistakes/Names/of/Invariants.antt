@@ -6,8 +6,12 @@ use Rattle.faults.proofs.mistakes.Names.of.Given as goal
 
 abbrev pub invariant-loop-parts : goal.invariant-loop-parts
 invariant-loop-parts l = record {
-  singles : fold (λ names parts. with_single names parts) l.names.singles (map parts_in (drop l.parts-index l.lines)) ≡ fold (λ names parts. with_single names parts) [] (map parts_in l.lines);
-  operands : fold (λ names parts. with_field names parts.operand) l.names.operands (map parts_in (drop l.parts-index l.lines)) ≡ fold (λ names parts. with_field names parts.operand) [] (map parts_in l.lines);
-  read : fold (λ names parts. with_read names parts) l.names.read (map parts_in (drop l.parts-index l.lines)) ≡ fold (λ names parts. with_read names parts) [] (map parts_in l.lines);
-  banks : fold (λ banks parts. banks_after banks parts) l.names.banks (map parts_in (drop l.parts-index l.lines)) ≡ banks_of (map parts_in l.lines);
+  singles : fold (λ names parts. with_single names parts) l.names.singles (map parts_in (drop l.parts-index l.lines))
+      ≡ fold (λ names parts. with_single names parts) [] (map parts_in l.lines);
+  operands : fold (λ names parts. with_field names parts.operand) l.names.operands (map parts_in (drop l.parts-index l.lines))
+      ≡ fold (λ names parts. with_field names parts.operand) [] (map parts_in l.lines);
+  read : fold (λ names parts. with_read names parts) l.names.read (map parts_in (drop l.parts-index l.lines))
+      ≡ fold (λ names parts. with_read names parts) [] (map parts_in l.lines);
+  banks : fold (λ banks parts. banks_after banks parts) l.names.banks (map parts_in (drop l.parts-index l.lines))
+      ≡ banks_of (map parts_in l.lines);
 }

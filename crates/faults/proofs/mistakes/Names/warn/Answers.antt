@@ -15,9 +15,12 @@ loop-index-preserved c =
     let lines = c.args.lines.now in
     let parts = parts_in (get_or lines index nothing) in
     let rest = map parts_in (drop (index + 1) lines) in
-    ap (λ next. c.warn_of.new.found.items ++ warned_lines c.args.language c.args.unused c.args.self.now next (index + 1 + 1) rest) c.next-before.ensures
-    ∙ warned_step c.args.language c.args.unused c.args.self.now c.loop-index.before (index + 1) (map parts_in (drop index lines)) rest parts c.loop-index.found.items c.warn_of.new.found.items
+    ap (λ next. c.warn_of.new.found.items ++ warned_lines c.args.language c.args.unused c.args.self.now next (index + 1 + 1) rest)
+    c.next-before.ensures
+    ∙ warned_step c.args.language c.args.unused c.args.self.now c.loop-index.before (index + 1) (map parts_in (drop index lines)) rest parts
+    c.loop-index.found.items c.warn_of.new.found.items
     (ap (map parts_in) (drop_more lines index nothing (omega arith)))
     (c.in_ok-warn_of.ensures
-    ∙ ap (λ after. c.loop-index.found.items ++ line_warnings c.args.language c.args.unused c.args.self.now c.loop-index.before (map parts_in after) (index + 1) parts) c.lines_after-after.ensures)
+    ∙ ap (λ after. c.loop-index.found.items ++ line_warnings c.args.language c.args.unused c.args.self.now c.loop-index.before
+    (map parts_in after) (index + 1) parts) c.lines_after-after.ensures)
     ∙ c.loop-index.invariant

@@ -15,25 +15,32 @@ use Rattle.feed.proofs.list.Feed.add.Goals as goal
 pub returns-then-as_slice-ge-MOST_INPUTS-clause-full : goal.returns-then-as_slice-ge-MOST_INPUTS-clause-full
 returns-then-as_slice-ge-MOST_INPUTS-clause-full c = λ _.
     let n = number-plain c.self.inside.plain.items c.self.inside.sources.items c.self.invariant.gathered.sources in
-    let same : number_from None (merged c.self.inside.plain.items c.self.inside.sources.items) ≡ number_from None c.args.self.now = ap (number_from None) c.self.view_is in
+    let same : number_from None (merged c.self.inside.plain.items c.self.inside.sources.items)
+    ≡ number_from None c.args.self.now = ap (number_from None) c.self.view_is in
     let long = ap length c.as_slice.ensures.value in
     omega (arith, n, same, long)
 
 pub place_of-place-requires : goal.place_of-place-requires
-place_of-place-requires c = subst (λ (l : List Plain). IsInOrder (map plain_entry l)) (sym c.deref.ensures.value) c.self.invariant.gathered.sources.plain_in_order
+place_of-place-requires c = subst (λ (l : List Plain). IsInOrder (map plain_entry l)) (sym c.deref.ensures.value)
+    c.self.invariant.gathered.sources.plain_in_order
 
 pub invariant_of-self : goal.invariant_of-self
 invariant_of-self c =
-    let place = subst (λ (l : List Plain). IsPlaceOf l c.args.cycle c.place_of-place.result) c.deref.ensures.value c.place_of-place.ensures in
+    let place = subst (λ (l : List Plain). IsPlaceOf l c.args.cycle c.place_of-place.result) c.deref.ensures.value c.place_of-place.ensures
+    in
     let long = ap length c.as_slice.ensures.value in
-    feed-added c.self.inside.plain.items c.insert.new.self.items c.self.inside.sources.items c.self.inside.known c.self.inside.due_at c.self.inside.line c.args.cycle c.place_of-place.result c.args.input c.self.inside.kept c.self.invariant place
+    feed-added c.self.inside.plain.items c.insert.new.self.items c.self.inside.sources.items c.self.inside.known c.self.inside.due_at
+    c.self.inside.line c.args.cycle c.place_of-place.result c.args.input c.self.inside.kept c.self.invariant place
     c.in-Ok.ensures.items (omega (arith, long))
 
 adds-last : goal.returns-in-Ok-clause-added
 adds-last c =
-    let place = subst (λ (l : List Plain). IsPlaceOf l c.args.cycle c.place_of-place.result) c.deref.ensures.value c.place_of-place.ensures in
-    let adds = gathered-adds c.self.inside.plain.items c.insert.new.self.items c.self.inside.sources.items c.self.inside.line c.args.cycle c.place_of-place.result c.args.input c.self.invariant.gathered place c.in-Ok.ensures.items in
-    subst (λ (l : List Entry). AddsLast l c.args.cycle c.args.input (merged c.insert.new.self.items c.self.inside.sources.items)) c.self.view_is adds
+    let place = subst (λ (l : List Plain). IsPlaceOf l c.args.cycle c.place_of-place.result) c.deref.ensures.value c.place_of-place.ensures
+    in
+    let adds = gathered-adds c.self.inside.plain.items c.insert.new.self.items c.self.inside.sources.items c.self.inside.line c.args.cycle
+    c.place_of-place.result c.args.input c.self.invariant.gathered place c.in-Ok.ensures.items in
+    subst (λ (l : List Entry). AddsLast l c.args.cycle c.args.input (merged c.insert.new.self.items c.self.inside.sources.items))
+    c.self.view_is adds
 
 pub returns-in-Ok-clause-added : goal.returns-in-Ok-clause-added
 returns-in-Ok-clause-added c = adds-last c
@@ -41,22 +48,26 @@ returns-in-Ok-clause-added c = adds-last c
 pub returns-in-Ok-clause-room : goal.returns-in-Ok-clause-room
 returns-in-Ok-clause-room c = λ _.
     let n = number-plain c.self.inside.plain.items c.self.inside.sources.items c.self.invariant.gathered.sources in
-    let same : number_from None (merged c.self.inside.plain.items c.self.inside.sources.items) ≡ number_from None c.args.self.now = ap (number_from None) c.self.view_is in
+    let same : number_from None (merged c.self.inside.plain.items c.self.inside.sources.items)
+    ≡ number_from None c.args.self.now = ap (number_from None) c.self.view_is in
     let long = ap length c.as_slice.ensures.value in
     omega (arith, n, same, long)
 
 pub returns-in-Err-clause-room : goal.returns-in-Err-clause-room
 returns-in-Err-clause-room c = λ _.
     let n = number-plain c.self.inside.plain.items c.self.inside.sources.items c.self.invariant.gathered.sources in
-    let same : number_from None (merged c.self.inside.plain.items c.self.inside.sources.items) ≡ number_from None c.args.self.now = ap (number_from None) c.self.view_is in
+    let same : number_from None (merged c.self.inside.plain.items c.self.inside.sources.items)
+    ≡ number_from None c.args.self.now = ap (number_from None) c.self.view_is in
     let long = ap length c.as_slice.ensures.value in
     omega (arith, n, same, long)
 
 pub returns-in-Ok-clause-fits : goal.returns-in-Ok-clause-fits
-returns-in-Ok-clause-fits c = λ taken counts below f. fits-adds c.args.self.now _ c.args.cycle taken c.args.input counts (adds-last c) below f
+returns-in-Ok-clause-fits c = λ taken counts below f. fits-adds c.args.self.now _ c.args.cycle taken c.args.input counts (adds-last c) below
+    f
 
 of-feed : goal.returns-in-Ok-clause-inputs
-of-feed c = inputs-of c.self.inside.plain.items c.self.inside.sources.items c.self.inside.line c.args.self.now c.self.invariant.gathered c.self.view_is
+of-feed c = inputs-of c.self.inside.plain.items c.self.inside.sources.items c.self.inside.line c.args.self.now c.self.invariant.gathered
+    c.self.view_is
 
 pub returns-in-Ok-clause-later : goal.returns-in-Ok-clause-later
 returns-in-Ok-clause-later c = λ k cycles below.

@@ -11,4 +11,5 @@ returns-in-Some-clause-series c =
     entry-series list c.self.inside.known c.in-Some.entry c.self.inside.kept inputs c.self.invariant.next c.in-Some.is
 
 pub returns-in-Some-clause-inputs : goal.returns-in-Some-clause-inputs
-returns-in-Some-clause-inputs c = inputs-of c.self.inside.plain.items c.self.inside.sources.items c.self.inside.line c.args.self.now c.self.invariant.gathered c.self.view_is
+returns-in-Some-clause-inputs c = inputs-of c.self.inside.plain.items c.self.inside.sources.items c.self.inside.line c.args.self.now
+    c.self.invariant.gathered c.self.view_is

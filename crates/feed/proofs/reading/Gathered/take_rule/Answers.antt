@@ -14,5 +14,6 @@ returns-clause-gathered c =
     let is = c.new.ensures ∙ c.on_line.ensures in
     let few = c.requires.gathered.few in
     let room : length now.sources.items < 16 = grind (arith, nat_tests, few, c.is_full.ensures.value, c.if-is_full.false) in
-    gathered_series now.plain.items now.sources.items c.push.new.self.items now.line c.new.result c.requires.gathered (ap (λ (s : Series). s.line) is ∙ c.from-line.ensures)
+    gathered_series now.plain.items now.sources.items c.push.new.self.items now.line c.new.result c.requires.gathered
+    (ap (λ (s : Series). s.line) is ∙ c.from-line.ensures)
     (subst (λ (s : Series). IsRule s) (sym is) (c.requires.rule c.from-line.result)) room c.push.ensures.items

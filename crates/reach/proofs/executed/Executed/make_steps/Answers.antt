@@ -5,7 +5,8 @@ use Rattle.reach.proofs.Executing.{executed_by}
 use Rattle.reach.proofs.executed.Executed.make_steps.Goals as goal
 
 pub step-requires-clause-cycles : goal.step-requires-clause-cycles
-step-requires-clause-cycles c = few_cycles c.args.processor.now.scenario c.loop.counter _ c.loop.invariant.state (omega (arith, c.loop-test.true))
+step-requires-clause-cycles c = few_cycles c.args.processor.now.scenario c.loop.counter _ c.loop.invariant.state
+    (omega (arith, c.loop-test.true))
 
 pub step-requires-clause-fits : goal.step-requires-clause-fits
 step-requires-clause-fits c = fits_after c.args.processor.now.scenario _ c.loop.counter _ c.loop.invariant.scenario c.loop.invariant.state
@@ -13,8 +14,10 @@ step-requires-clause-fits c = fits_after c.args.processor.now.scenario _ c.loop.
 pub loop-preserved : goal.loop-preserved
 loop-preserved c = record {
   scenario = c.in_ok-step.ensures.scenario ∙ c.loop.invariant.scenario;
-  state = state_more c.args.processor.now.scenario _ c.loop.counter _ _ c.loop.invariant.scenario c.loop.invariant.state c.in_ok-step.ensures.state;
-  executed = executed_by c.args.processor.now.scenario _ c.loop.counter _ _ _ c.loop.invariant.scenario c.loop.invariant.state c.loop.invariant.executed c.in_ok-step.ensures.are c.in_ok-step.ensures.marks c.in_ok-step.ensures.order;
+  state = state_more c.args.processor.now.scenario _ c.loop.counter _ _ c.loop.invariant.scenario c.loop.invariant.state
+      c.in_ok-step.ensures.state;
+  executed = executed_by c.args.processor.now.scenario _ c.loop.counter _ _ _ c.loop.invariant.scenario c.loop.invariant.state
+      c.loop.invariant.executed c.in_ok-step.ensures.are c.in_ok-step.ensures.marks c.in_ok-step.ensures.order;
 }
 
 pub returns-clause-executed : goal.returns-clause-executed

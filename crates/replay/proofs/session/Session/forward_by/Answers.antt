@@ -20,16 +20,28 @@ pub thin-requires-clause-stayed : goal.thin-requires-clause-stayed
 thin-requires-clause-stayed g c =
     let w = c.walk-last in
     let e : w.result.0 ≡ c.self.inside.n + 1 = omega (arith, w.ensures.past, w.ensures.within) in
-    rw e (staying_after c.self.inside.n (g.K.Keeper.images c.self.inside.keeper) (g.K.Keeper.images c.keep.new.self) c.self.inside.present c.self.invariant.staying c.in_ok-keep.ensures.ok)
+    rw e (staying_after c.self.inside.n (g.K.Keeper.images c.self.inside.keeper) (g.K.Keeper.images c.keep.new.self) c.self.inside.present
+    c.self.invariant.staying c.in_ok-keep.ensures.ok)
 
 pub invariant_of-self-then-n-lt-STEP_LIMIT : goal.invariant_of-self-then-n-lt-STEP_LIMIT
 invariant_of-self-then-n-lt-STEP_LIMIT g c =
     let s = c.self.inside in
-    let view : SessionView = record { scenario = s.processor.scenario; meter = s.processor.meter; images = g.K.Keeper.images s.keeper; present = s.present; shown = (s.shown.step, s.shown.machine); n = s.n } in
+    let view : SessionView = record {
+      scenario = s.processor.scenario;
+      meter = s.processor.meter;
+      images = g.K.Keeper.images s.keeper;
+      present = s.present;
+      shown = (s.shown.step, s.shown.machine);
+      n = s.n;
+    } in
     let w = c.walk-last in
     let e : w.result.0 ≡ s.n + 1 = omega (arith, w.ensures.past, w.ensures.within) in
-    let of_run = of_run_after s.processor.scenario s.n (g.K.Keeper.images s.keeper) (g.K.Keeper.images c.keep.new.self) (g.K.Keeper.images c.thin.new.keeper) s.present c.self.invariant.of_run c.self.invariant.stands.present c.in_ok-keep.ensures.ok c.thin.ensures.part in
-    travelled_sound view w.result.0 w.new.processor.scenario (g.K.Keeper.images c.thin.new.keeper) w.new.processor.meter w.new.machine c.self.invariant (omega (arith, e)) (omega (arith, e)) w.ensures.scenario w.ensures.metered w.ensures.machine (g.met.K.Keeper.rising c.thin.new.keeper) c.thin.ensures.stay of_run
+    let of_run = of_run_after s.processor.scenario s.n (g.K.Keeper.images s.keeper) (g.K.Keeper.images c.keep.new.self)
+    (g.K.Keeper.images c.thin.new.keeper) s.present c.self.invariant.of_run c.self.invariant.stands.present c.in_ok-keep.ensures.ok
+    c.thin.ensures.part in
+    travelled_sound view w.result.0 w.new.processor.scenario (g.K.Keeper.images c.thin.new.keeper) w.new.processor.meter w.new.machine
+    c.self.invariant (omega (arith, e)) (omega (arith, e)) w.ensures.scenario w.ensures.metered w.ensures.machine
+    (g.met.K.Keeper.rising c.thin.new.keeper) c.thin.ensures.stay of_run
 
 pub returns-then-n-lt-STEP_LIMIT-clause-stands : goal.returns-then-n-lt-STEP_LIMIT-clause-stands
 returns-then-n-lt-STEP_LIMIT-clause-stands g c = (invariant_of-self-then-n-lt-STEP_LIMIT g c).stands
@@ -38,16 +50,38 @@ pub returns-then-n-lt-STEP_LIMIT-clause-images : goal.returns-then-n-lt-STEP_LIM
 returns-then-n-lt-STEP_LIMIT-clause-images g c =
     let s = c.self.inside in
     let w = c.walk-last in
-    images_of (record { scenario = w.new.processor.scenario; meter = w.new.processor.meter; images = g.K.Keeper.images c.thin.new.keeper; present = w.new.machine; shown = (s.shown.step, s.shown.machine); n = w.result.0 }) (invariant_of-self-then-n-lt-STEP_LIMIT g c) (g.met.K.Keeper.rising c.thin.new.keeper)
+    images_of (record {
+      scenario = w.new.processor.scenario;
+      meter = w.new.processor.meter;
+      images = g.K.Keeper.images c.thin.new.keeper;
+      present = w.new.machine;
+      shown = (s.shown.step, s.shown.machine);
+      n = w.result.0;
+    }) (invariant_of-self-then-n-lt-STEP_LIMIT g c)
+    (g.met.K.Keeper.rising c.thin.new.keeper)
 
 pub returns-in_err-keep-clause-images : goal.returns-in_err-keep-clause-images
 returns-in_err-keep-clause-images g c =
     let s = c.self.inside in
-    let view : SessionView = record { scenario = s.processor.scenario; meter = s.processor.meter; images = g.K.Keeper.images s.keeper; present = s.present; shown = (s.shown.step, s.shown.machine); n = s.n } in
+    let view : SessionView = record {
+      scenario = s.processor.scenario;
+      meter = s.processor.meter;
+      images = g.K.Keeper.images s.keeper;
+      present = s.present;
+      shown = (s.shown.step, s.shown.machine);
+      n = s.n;
+    } in
     rw c.in_err-keep.ensures.err.0 (images_of view c.self.invariant (g.met.K.Keeper.rising s.keeper))
 
 pub returns-clause-images : goal.returns-clause-images
 returns-clause-images g c =
     let s = c.self.inside in
-    let view : SessionView = record { scenario = s.processor.scenario; meter = s.processor.meter; images = g.K.Keeper.images s.keeper; present = s.present; shown = (s.shown.step, s.shown.machine); n = s.n } in
+    let view : SessionView = record {
+      scenario = s.processor.scenario;
+      meter = s.processor.meter;
+      images = g.K.Keeper.images s.keeper;
+      present = s.present;
+      shown = (s.shown.step, s.shown.machine);
+      n = s.n;
+    } in
     rw (← c.self.view_is) (images_of view c.self.invariant (g.met.K.Keeper.rising s.keeper))

@@ -18,7 +18,8 @@ pub returns-then-count-eq0-clause-walked : goal.returns-then-count-eq0-clause-wa
 returns-then-count-eq0-clause-walked g c = walked_none g.S.Stepper.sees c.args.self.now.scenario c.args.low c.args.stepper.now
 
 pub returns-then-count-eq0-clause-after : goal.returns-then-count-eq0-clause-after
-returns-then-count-eq0-clause-after g c = record { same = refl; least = omega arith; most = omega arith; on = λ before. omega (arith, before) }
+returns-then-count-eq0-clause-after g c = record
+    { same = refl; least = omega arith; most = omega arith; on = λ before. omega (arith, before) }
 
 pub returns-clause-walked : goal.returns-clause-walked
 returns-clause-walked g c =
@@ -28,20 +29,40 @@ returns-clause-walked g c =
 pub returns-clause-after : goal.returns-clause-after
 returns-clause-after g c =
     let s = c.self.inside in
-    let view : SessionView = record { scenario = s.processor.scenario; meter = s.processor.meter; images = g.K.Keeper.images s.keeper; present = s.present; shown = (s.shown.step, s.shown.machine); n = s.n } in
+    let view : SessionView = record {
+      scenario = s.processor.scenario;
+      meter = s.processor.meter;
+      images = g.K.Keeper.images s.keeper;
+      present = s.present;
+      shown = (s.shown.step, s.shown.machine);
+      n = s.n;
+    } in
     let n_is = ap (λ (q : SessionView). q.n) c.self.view_is in
     let meter_is = ap (λ (q : SessionView). q.meter) c.self.view_is in
     let told = c.reach.ensures in
     let w = c.walk-end in
-    let shown = has_shown c.args.self.now view c.args.low c.reach.new.processor.scenario (c.reach.new.shown.step, c.reach.new.shown.machine) c.reach.new.processor.meter c.self.view_is c.self.invariant (omega arith) told.scenario told.metered told.least told.most told.step told.machine told.on in
+    let shown = has_shown c.args.self.now view c.args.low c.reach.new.processor.scenario (c.reach.new.shown.step, c.reach.new.shown.machine)
+    c.reach.new.processor.meter c.self.view_is c.self.invariant (omega arith) told.scenario told.metered told.least told.most
+    told.step told.machine told.on in
     let near = shown.cheap (omega arith) in
-    has_retraced c.args.self.now view c.args.low c.args.count w.new.processor.scenario (w.result.0, w.new.machine) w.new.processor.meter c.self.view_is (w.ensures.scenario ∙ told.scenario) (omega (arith, w.ensures.least, told.least, told.metered)) (omega (arith, near, n_is, meter_is, w.ensures.most, w.ensures.within)) (λ before. omega (arith, told.on before, w.ensures.most, w.ensures.within))
+    has_retraced c.args.self.now view c.args.low c.args.count w.new.processor.scenario (w.result.0, w.new.machine) w.new.processor.meter
+    c.self.view_is (w.ensures.scenario ∙ told.scenario) (omega (arith, w.ensures.least, told.least, told.metered))
+    (omega (arith, near, n_is, meter_is, w.ensures.most, w.ensures.within))
+    (λ before. omega (arith, told.on before, w.ensures.most, w.ensures.within))
 
 pub invariant_of-self : goal.invariant_of-self
 invariant_of-self g c =
     let s = c.self.inside in
-    let view : SessionView = record { scenario = s.processor.scenario; meter = s.processor.meter; images = g.K.Keeper.images s.keeper; present = s.present; shown = (s.shown.step, s.shown.machine); n = s.n } in
+    let view : SessionView = record {
+      scenario = s.processor.scenario;
+      meter = s.processor.meter;
+      images = g.K.Keeper.images s.keeper;
+      present = s.present;
+      shown = (s.shown.step, s.shown.machine);
+      n = s.n;
+    } in
     let w = c.walk-end in
     let n_is = ap (λ (q : SessionView). q.n) c.self.view_is in
     let of_run = w.ensures.machine ∙ ap (λ (q : Scenario). run q w.result.0) c.reach.ensures.scenario in
-    shown_sound view w.new.processor.scenario (w.result.0, w.new.machine) w.new.processor.meter c.self.invariant (w.ensures.scenario ∙ c.reach.ensures.scenario) w.ensures.metered (omega (arith, n_is, w.ensures.within), of_run)
+    shown_sound view w.new.processor.scenario (w.result.0, w.new.machine) w.new.processor.meter c.self.invariant
+    (w.ensures.scenario ∙ c.reach.ensures.scenario) w.ensures.metered (omega (arith, n_is, w.ensures.within), of_run)

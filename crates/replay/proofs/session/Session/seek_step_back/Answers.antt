@@ -19,15 +19,35 @@ returns-clause-last g c =
 pub returns-clause-after : goal.returns-clause-after
 returns-clause-after g c =
     let s = c.self.inside in
-    let view : SessionView = record { scenario = s.processor.scenario; meter = s.processor.meter; images = g.K.Keeper.images s.keeper; present = s.present; shown = (s.shown.step, s.shown.machine); n = s.n } in
+    let view : SessionView = record {
+      scenario = s.processor.scenario;
+      meter = s.processor.meter;
+      images = g.K.Keeper.images s.keeper;
+      present = s.present;
+      shown = (s.shown.step, s.shown.machine);
+      n = s.n;
+    } in
     let told = c.search_steps.ensures in
     let n_is = ap (λ (q : SessionView). q.n) c.self.view_is in
-    has_found c.args.self.now view c.args.p c.search_steps.result c.search_steps.new.processor.scenario (c.search_steps.new.shown.step, c.search_steps.new.shown.machine) c.search_steps.new.processor.meter c.self.view_is c.self.invariant (omega arith) told.scenario told.metered told.least (told.within s.n c.self.invariant.stands.shown.0 (omega (arith, n_is, c.requires.past)), told.stands) told.before told.found told.none
+    has_found c.args.self.now view c.args.p c.search_steps.result c.search_steps.new.processor.scenario
+    (c.search_steps.new.shown.step, c.search_steps.new.shown.machine) c.search_steps.new.processor.meter c.self.view_is c.self.invariant
+    (omega arith) told.scenario told.metered told.least
+    (told.within s.n c.self.invariant.stands.shown.0 (omega (arith, n_is, c.requires.past)), told.stands) told.before told.found
+    told.none
 
 pub invariant_of-self : goal.invariant_of-self
 invariant_of-self g c =
     let s = c.self.inside in
-    let view : SessionView = record { scenario = s.processor.scenario; meter = s.processor.meter; images = g.K.Keeper.images s.keeper; present = s.present; shown = (s.shown.step, s.shown.machine); n = s.n } in
+    let view : SessionView = record {
+      scenario = s.processor.scenario;
+      meter = s.processor.meter;
+      images = g.K.Keeper.images s.keeper;
+      present = s.present;
+      shown = (s.shown.step, s.shown.machine);
+      n = s.n;
+    } in
     let told = c.search_steps.ensures in
     let n_is = ap (λ (q : SessionView). q.n) c.self.view_is in
-    shown_sound view c.search_steps.new.processor.scenario (c.search_steps.new.shown.step, c.search_steps.new.shown.machine) c.search_steps.new.processor.meter c.self.invariant told.scenario told.metered (told.within s.n c.self.invariant.stands.shown.0 (omega (arith, n_is, c.requires.past)), told.stands)
+    shown_sound view c.search_steps.new.processor.scenario (c.search_steps.new.shown.step, c.search_steps.new.shown.machine)
+    c.search_steps.new.processor.meter c.self.invariant told.scenario told.metered
+    (told.within s.n c.self.invariant.stands.shown.0 (omega (arith, n_is, c.requires.past)), told.stands)

@@ -11,7 +11,8 @@ invariant_of-self c =
     let images = c.args.self.now.images.items in
     let found = c.place_of-place.ensures in
     let left : c.remove.new.self.items ≡ without images c.args.step = c.remove.ensures.items
-    ∙ without-place images c.place_of-place.result c.args.step c.remove.result c.args.self.now.rising (rw c.deref.ensures.value at found.within) (rw c.deref.ensures.value at (found.step c.remove.result)) in
+    ∙ without-place images c.place_of-place.result c.args.step c.remove.result c.args.self.now.rising
+    (rw c.deref.ensures.value at found.within) (rw c.deref.ensures.value at (found.step c.remove.result)) in
     record { rising = rw left (IsRising-without images c.args.step c.args.self.now.rising) }
 
 pub returns : goal.returns
@@ -19,4 +20,5 @@ returns c =
     let images = c.args.self.now.images.items in
     let found = c.place_of-place.ensures in
     c.remove.ensures.items
-    ∙ without-place images c.place_of-place.result c.args.step c.remove.result c.args.self.now.rising (rw c.deref.ensures.value at found.within) (rw c.deref.ensures.value at (found.step c.remove.result))
+    ∙ without-place images c.place_of-place.result c.args.step c.remove.result c.args.self.now.rising
+    (rw c.deref.ensures.value at found.within) (rw c.deref.ensures.value at (found.step c.remove.result))

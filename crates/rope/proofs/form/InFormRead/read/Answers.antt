@@ -12,5 +12,7 @@ returns-in-Some-clause-bytes g c = λ told.
 pub returns-in-AsWritten-Nothing-clause-bytes : goal.returns-in-AsWritten-Nothing-clause-bytes
 returns-in-AsWritten-Nothing-clause-bytes g c = λ told.
     let before : c.args.self.now.left ≡ g.R.Read.left c.self.inside.device =
-    ap (λ source. source.left) (sym c.self.view_is) ∙ rw (c.in-AsWritten-Nothing.is-0, c.in-AsWritten-Nothing.is-1) (as_written (g.R.Read.left c.self.inside.device)) in
-    rw (c.in-AsWritten-Nothing.is-0, c.in-AsWritten-Nothing.is-1, before, as_written (g.R.Read.left c.read.new.self)) (c.read.ensures.bytes told)
+    ap (λ source. source.left) (sym c.self.view_is)
+    ∙ rw (c.in-AsWritten-Nothing.is-0, c.in-AsWritten-Nothing.is-1) (as_written (g.R.Read.left c.self.inside.device)) in
+    rw (c.in-AsWritten-Nothing.is-0, c.in-AsWritten-Nothing.is-1, before, as_written (g.R.Read.left c.read.new.self))
+    (c.read.ensures.bytes told)

@@ -13,4 +13,5 @@ pub returns-in-Ok-clause-ok : goal.returns-in-Ok-clause-ok
 returns-in-Ok-clause-ok c = empty c
 
 pub returns-in-Ok-clause-nothing : goal.returns-in-Ok-clause-nothing
-returns-in-Ok-clause-nothing c = λ bank offset. ap (λ words. is_some (slot_at words bank offset)) (empty c) ∙ ap is_some (slot_at-no_words bank offset)
+returns-in-Ok-clause-nothing c = λ bank offset. ap (λ words. is_some (slot_at words bank offset)) (empty c)
+    ∙ ap is_some (slot_at-no_words bank offset)

@@ -25,11 +25,13 @@ pub returns-in-Some-clause-bytes : goal.returns-in-Some-clause-bytes
 returns-in-Some-clause-bytes g c = λ told.
     let end : c.loop-position.position ≡ fixed_places = omega (arith, c.loop-position.invariant.within, c.loop-position-test.false) in
     let read = rw end at (c.loop-position.invariant.read told) in
-    long_here c.args.version _ _ _ c.loop-position.rope c.in-Some.field-0 read.front read.spelled (rw c.in-Some.is at (c.in_ok-next_byte.ensures.byte told))
+    long_here c.args.version _ _ _ c.loop-position.rope c.in-Some.field-0 read.front read.spelled
+    (rw c.in-Some.is at (c.in_ok-next_byte.ensures.byte told))
 
 pub returns-in_err-next_byte-clause-bytes : goal.returns-in_err-next_byte-clause-bytes
 returns-in_err-next_byte-clause-bytes g c = λ told.
     let p = err_from_is_err_and c.from_residual-in_err-next_byte.result c.from_residual-in_err-next_byte.ensures.1 in
     let end : c.loop-position.position ≡ fixed_places = omega (arith, c.loop-position.invariant.within, c.loop-position-test.false) in
     let read = rw end at (c.loop-position.invariant.read told) in
-    rw (p.1, p.2) (rw c.in_err-next_byte.ensures.fault (fails_at_end c.args.version _ _ _ c.loop-position.rope read.front read.spelled (c.in_err-next_byte.ensures.byte told)))
+    rw (p.1, p.2) (rw c.in_err-next_byte.ensures.fault
+    (fails_at_end c.args.version _ _ _ c.loop-position.rope read.front read.spelled (c.in_err-next_byte.ensures.byte told)))

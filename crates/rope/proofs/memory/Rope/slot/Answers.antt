@@ -9,5 +9,6 @@ returns-then-number-ge-BANKS c = sym (slot_at-beyond c.args.self.now c.args.bank
 pub returns : goal.returns
 returns c =
     c.slot_of.ensures
-    ∙ rw (c.deref.ensures.value, c.slot_number.ensures) (sym (slot_at-words_of c.self.inside.slots.items c.args.bank c.args.offset (omega arith) (omega arith)))
+    ∙ rw (c.deref.ensures.value, c.slot_number.ensures)
+    (sym (slot_at-words_of c.self.inside.slots.items c.args.bank c.args.offset (omega arith) (omega arith)))
     ∙ ap (λ words. slot_at words c.args.bank c.args.offset) c.self.view_is

@@ -11,7 +11,8 @@ loop-offset-init c = record {
 }
 
 -- the bytes are those of the position's word
-spelled_there : (c : goal.After-push_all) → c.spelled.result ≡ spelled c.args.version (word_of_position c.args.self.now (bank_words * c.args.entry + c.loop-offset.offset))
+spelled_there : (c : goal.After-push_all) → c.spelled.result
+    ≡ spelled c.args.version (word_of_position c.args.self.now (bank_words * c.args.entry + c.loop-offset.offset))
 unfolding word_of_position
 spelled_there c =
     let entry : (bank_words * c.args.entry + c.loop-offset.offset) / bank_words ≡ bank_words * c.args.entry / bank_words = omega arith in

@@ -10,7 +10,8 @@ returns-then-pass-clause-goes g c = λ told old before.
     let ready = c.ready-ready.result.now in
     let room : 2 * count ≤ length ready = omega (arith, c.min-count.ensures) in
     let spell = rw (length-take-le (2 * count) ready room) at (c.if-not-all_spell.ensures refl) in
-    rw (c.if-pass.ensures.bytes told) (c.set_spelled.ensures.goes c.args.version (drop (2 * count) left) spell old (rw (ready_first ready (drop (length ready) left) left (2 * count) room (c.ready-ready.ensures told)) before))
+    rw (c.if-pass.ensures.bytes told) (c.set_spelled.ensures.goes c.args.version (drop (2 * count) left) spell old
+    (rw (ready_first ready (drop (length ready) left) left (2 * count) room (c.ready-ready.ensures told)) before))
 
 pub returns-else-pass-clause-goes : goal.returns-else-pass-clause-goes
 returns-else-pass-clause-goes g c = λ told old before.

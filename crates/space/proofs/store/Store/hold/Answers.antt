@@ -12,7 +12,8 @@ invariant_of-self c =
     let here = register_here new b c.from.result c.args.number (omega (arith, c.requires.register)) c.set.ensures.here in
     let others = register_others old new b c.from.result c.set.ensures.others in
     record {
-      numbers = IsStored-register (held_at old b) (held_at new b) c.self.inside.channels c.from.result c.args.number c.self.invariant.numbers (omega (arith, c.requires.register)) (rw same c.requires.limit) here others;
+      numbers = IsStored-register (held_at old b) (held_at new b) c.self.inside.channels c.from.result c.args.number
+          c.self.invariant.numbers (omega (arith, c.requires.register)) (rw same c.requires.limit) here others;
       whole = c.self.invariant.whole;
     }
 
@@ -25,5 +26,7 @@ returns c =
     let lt = c.requires.register in
     let here = register_here new b c.from.result c.args.number (omega arith) c.set.ensures.here in
     let others = register_others old new b c.from.result c.set.ensures.others in
-    let view = view-place (held_at old b) (held_at new b) c.self.inside.channels c.from.result c.args.number (omega arith) (λ e. omega arith) (λ e. omega arith) (ap (number_by c.from.result) here ∙ number_by-register c.from.result c.args.number (omega arith)) others in
+    let view = view-place (held_at old b) (held_at new b) c.self.inside.channels c.from.result c.args.number (omega arith)
+    (λ e. omega arith) (λ e. omega arith) (ap (number_by c.from.result) here
+    ∙ number_by-register c.from.result c.args.number (omega arith)) others in
     cc (view, c.self.view_is, same)

@@ -14,7 +14,8 @@ invariant_of-self c =
     let here = bank_here r new p (extend c.args.word) (omega arith) wide in
     let others = bank_others r old new p c.set_in.ensures.others in
     record {
-      numbers = IsStored-word (held_at r old) (held_at r new) c.self.inside.channels p c.args.word c.self.invariant.numbers (omega arith) (omega arith) (omega arith) here others;
+      numbers = IsStored-word (held_at r old) (held_at r new) c.self.inside.channels p c.args.word c.self.invariant.numbers (omega arith)
+          (omega arith) (omega arith) here others;
       whole = c.set_in.ensures.whole;
     }
 
@@ -28,6 +29,7 @@ returns c =
     let here = bank_here r new p (extend c.args.word) (omega arith) wide in
     let others = bank_others r old new p c.set_in.ensures.others in
     let held = number_by-word p c.args.word (omega arith) (omega arith) in
-    let view = view-place (held_at r old) (held_at r new) c.self.inside.channels p c.args.word (omega arith) (λ e. omega arith) (λ e. omega arith) (ap (number_by p) here ∙ held) others in
+    let view = view-place (held_at r old) (held_at r new) c.self.inside.channels p c.args.word (omega arith) (λ e. omega arith)
+    (λ e. omega arith) (ap (number_by p) here ∙ held) others in
     let same : p ≡ c.args.place = cc in
     cc (view, c.self.view_is, same)

@@ -28,8 +28,10 @@ invariant_of-self-2 c =
     let none = rw c.in-Vacant.is at c.in_ok-entry.ensures.found in
     let same = rw c.in-Vacant.is at c.in_ok-entry.ensures.same_map in
     let writes = rw c.in-Vacant.is at (c.in_ok-entry.ensures.update.1 c.insert.result.now) in
-    rw (ap (λ m. m.entries) (c.self-3-1.given.1 (sym same)) ∙ writes ∙ insert_entry-new (same_key (λ name. name.items)) c.self.inside.values c.into_key.result c.insert.result.now none)
-    (All-push (λ e. length e.0.items ≤ 8) c.self.inside.values.entries (c.into_key.result, c.insert.result.now) c.self.invariant c.into_key.ensures.fits)
+    rw (ap (λ m. m.entries) (c.self-3-1.given.1 (sym same)) ∙ writes
+    ∙ insert_entry-new (same_key (λ name. name.items)) c.self.inside.values c.into_key.result c.insert.result.now none)
+    (All-push (λ e. length e.0.items ≤ 8) c.self.inside.values.entries (c.into_key.result, c.insert.result.now) c.self.invariant
+    c.into_key.ensures.fits)
 
 pub returns-clause-ok : goal.returns-clause-ok
 returns-clause-ok c =

@@ -10,7 +10,11 @@ use Rattle.yayul.proofs.assembled.Program.named_places.Goals as goal
 pub returns : goal.returns
 unfolding named_places
 returns c =
-    let shown : shown_named c.self.inside.language c.self.inside.symbols nothing_named (lines c.self.inside.source.items) (map shown_by_mark c.self.inside.marks)
-    ≡ lines_named c.self.inside.language c.self.inside.symbols nothing_named 1 (start c.self.inside.language) (lines c.self.inside.source.items) =
-    ap (shown_named c.self.inside.language c.self.inside.symbols nothing_named (lines c.self.inside.source.items)) c.self.invariant ∙ named-shown c.self.inside.language c.self.inside.symbols nothing_named 1 (start c.self.inside.language) (lines c.self.inside.source.items) in
+    let shown : shown_named c.self.inside.language c.self.inside.symbols nothing_named (lines c.self.inside.source.items)
+    (map shown_by_mark c.self.inside.marks)
+    ≡ lines_named c.self.inside.language c.self.inside.symbols nothing_named 1 (start c.self.inside.language)
+    (lines c.self.inside.source.items) =
+    ap (shown_named c.self.inside.language c.self.inside.symbols nothing_named (lines c.self.inside.source.items)) c.self.invariant
+    ∙ named-shown c.self.inside.language c.self.inside.symbols nothing_named 1 (start c.self.inside.language)
+    (lines c.self.inside.source.items) in
     rw (← c.self.view_is) (rw (c.deref.ensures.value, c.as_slice.ensures, shown) at c.of_lines.ensures)

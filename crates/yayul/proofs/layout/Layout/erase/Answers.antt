@@ -9,5 +9,8 @@ use Rattle.yayul.proofs.layout.Layout.erase.Goals as goal
 
 pub returns-in-Some-default-default : goal.returns-in-Some-default-default
 returns-in-Some-default-default c = λ known.
-    least_beside (label_faults (layout_of c.args.self.now) c.args.label) (fault_if (not (is_missing c.args.label) && lacks_room 1 c.args.self.now.location) BankFull ∷ result_err (erased_to c.args.self.now.location c.args.count) ∷ [])
-    c.in-Some-default-default.kind (rw (sym c.erased_to-end.ensures.value) (sym c.erase_fault.ensures ∙ c.in-Some-default-default.is-0)) ∙ c.refused.ensures
+    least_beside (label_faults (layout_of c.args.self.now) c.args.label)
+    (fault_if (not (is_missing c.args.label) && lacks_room 1 c.args.self.now.location) BankFull
+    ∷ result_err (erased_to c.args.self.now.location c.args.count) ∷ [])
+    c.in-Some-default-default.kind (rw (sym c.erased_to-end.ensures.value) (sym c.erase_fault.ensures ∙ c.in-Some-default-default.is-0))
+    ∙ c.refused.ensures

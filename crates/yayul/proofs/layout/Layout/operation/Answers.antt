@@ -4,29 +4,35 @@ use Rattle.yayul.proofs.layout.Layout.operation.Goals as goal
 pub returns-in-Nothing : goal.returns-in-Nothing
 returns-in-Nothing c = λ s agrees.
     rw c.in-Nothing.is
-    (agreed_alone c.args.line s c.args.self.now c.label_alone.new.self c.args.placing.now c.args.label agrees c.label_alone.result c.label_alone.ensures)
+    (agreed_alone c.args.line s c.args.self.now c.label_alone.new.self c.args.placing.now c.args.label agrees c.label_alone.result
+    c.label_alone.ensures)
 
 pub returns-in-Setloc : goal.returns-in-Setloc
 returns-in-Setloc c = λ s agrees.
     rw c.in-Setloc.is
-    (agreed_setloc c.args.line s c.args.self.now c.setloc.new.self c.args.placing.now c.args.label agrees c.in-Setloc.operand c.setloc.result c.setloc.ensures)
+    (agreed_setloc c.args.line s c.args.self.now c.setloc.new.self c.args.placing.now c.args.label agrees c.in-Setloc.operand
+    c.setloc.result c.setloc.ensures)
 
 pub returns-in-Erase : goal.returns-in-Erase
 returns-in-Erase c = λ s agrees.
     rw c.in-Erase.is
-    (agreed_erase c.args.line s c.args.self.now c.erase.new.self c.args.placing.now c.args.label agrees c.in-Erase.count c.erase.result c.erase.ensures)
+    (agreed_erase c.args.line s c.args.self.now c.erase.new.self c.args.placing.now c.args.label agrees c.in-Erase.count c.erase.result
+    c.erase.ensures)
 
 pub returns-in-Equals : goal.returns-in-Equals
 returns-in-Equals c = λ s agrees.
     rw c.in-Equals.is
-    (agreed_equals c.args.line s c.args.self.now c.equals.new.self c.args.placing.now c.args.label agrees c.in-Equals.operand c.equals.result c.equals.ensures)
+    (agreed_equals c.args.line s c.args.self.now c.equals.new.self c.args.placing.now c.args.label agrees c.in-Equals.operand
+    c.equals.result c.equals.ensures)
 
 pub returns-in-Ebank : goal.returns-in-Ebank
 returns-in-Ebank c = λ s agrees.
     rw c.in-Ebank.is
-    (agreed_ebank c.args.line s c.args.self.now c.ebank.new.self c.args.placing.now c.args.label agrees c.in-Ebank.operand c.ebank.result c.ebank.ensures)
+    (agreed_ebank c.args.line s c.args.self.now c.ebank.new.self c.args.placing.now c.args.label agrees c.in-Ebank.operand c.ebank.result
+    c.ebank.ensures)
 
 pub returns-in-Bank : goal.returns-in-Bank
 returns-in-Bank c = λ s agrees.
     rw c.in-Bank.is
-    (agreed_bank c.args.line s c.args.self.now c.relocate.new.self c.args.placing.now c.args.label agrees c.in-Bank.range c.in-Bank.number c.bank_target.result c.relocate.result c.bank_target.ensures.value c.relocate.ensures)
+    (agreed_bank c.args.line s c.args.self.now c.relocate.new.self c.args.placing.now c.args.label agrees c.in-Bank.range c.in-Bank.number
+    c.bank_target.result c.relocate.result c.bank_target.ensures.value c.relocate.ensures)

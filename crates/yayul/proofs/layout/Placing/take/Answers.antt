@@ -18,4 +18,5 @@ put_words-requires-clause-room c = omega (arith, c.requires.room, wide c)
 
 pub put_words-requires-clause-next_free : goal.put_words-requires-clause-next_free
 put_words-requires-clause-next_free c = λ two.
-    ap (λ words. stands words c.args.request.bank (c.args.request.offset + 1)) c.settle.ensures.rope ∙ c.requires.next_free (omega (arith, two, wide c))
+    ap (λ words. stands words c.args.request.bank (c.args.request.offset + 1)) c.settle.ensures.rope
+    ∙ c.requires.next_free (omega (arith, two, wide c))

@@ -13,4 +13,5 @@ pub returns-in-Ok-clause-leads : goal.returns-in-Ok-clause-leads
 returns-in-Ok-clause-leads c = λ s here.
     laid_done c.args.line s c.args.self.now _ c.args.label c.args.operation
     (sym (c.is_any.ensures ∙ ap some_stands (c.conditions.ensures c.args.line s.layout here.agrees)) ∙ c.if-is_any.false) here
-    (c.in-Ok.ensures s.layout here.agrees).1 (c.hold.ensures ∙ ap (λ count. with_lines c.args.line c.args.self.now.layout.location count c.args.self.now.lines) c.width.ensures) refl refl
+    (c.in-Ok.ensures s.layout here.agrees).1 (c.hold.ensures
+    ∙ ap (λ count. with_lines c.args.line c.args.self.now.layout.location count c.args.self.now.lines) c.width.ensures) refl refl

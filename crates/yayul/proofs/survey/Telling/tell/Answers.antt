@@ -13,5 +13,6 @@ returns c =
     on_ok c.tell_each-2.result
     (λ second. second ∙ ap (λ items. items ++ past) c.in_ok-tell_each.ensures ∙ append_assoc c.args.told.now.items within past
     ∙ ap (λ items. c.args.told.now.items ++ items)
-    (told_parts self.language self.line self.text.now self.taken_by self.doubt (kinds_of c.args.faults.now) numbers (c.as_slice-numbers.ensures.value ∙ c.numbers-numbers.ensures)))
+    (told_parts self.language self.line self.text.now self.taken_by self.doubt (kinds_of c.args.faults.now) numbers
+    (c.as_slice-numbers.ensures.value ∙ c.numbers-numbers.ensures)))
     c.tell_each-2.ensures

@@ -7,4 +7,6 @@ use Rattle.yayul.proofs.survey.Telling.tell_each.Given as goal
 abbrev pub invariant-loop-kind : goal.invariant-loop-kind
 invariant-loop-kind l =
     l.told.items ≡ l.initial.told.items
-    ++ map (finding l.self.language l.self.line l.self.text.now l.self.taken_by) (filter (λ kind. (has_number l.numbers kind && not (follows l.self.doubt kind)) && stands_beyond l.self.language l.self.text.now l.beyond kind) (take l.kind-index l.kinds))
+    ++ map (finding l.self.language l.self.line l.self.text.now l.self.taken_by)
+    (filter (λ kind. (has_number l.numbers kind && not (follows l.self.doubt kind))
+    && stands_beyond l.self.language l.self.text.now l.beyond kind) (take l.kind-index l.kinds))

@@ -4,4 +4,5 @@ use Rattle.words.proofs.numerals.backward.BackwardText.prepend_octal.Given as go
 
 abbrev pub invariant-loop-done : goal.invariant-loop-done
 invariant-loop-done l =
-    (octal_text (l.digits - l._done) l.rest ++ l.self ≡ octal_text l.digits l.number ++ l.initial.self) × (length l.self ≡ length l.initial.self + l._done)
+    (octal_text (l.digits - l._done) l.rest ++ l.self ≡ octal_text l.digits l.number ++ l.initial.self)
+    × (length l.self ≡ length l.initial.self + l._done)
