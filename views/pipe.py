@@ -1,6 +1,7 @@
 """Finds the program and drives it: as a process for a whole output, as a trace step by step, or as a session of commands. All views use this module.
 
 Nothing here knows the machine or the language: places, names and instructions are texts as the program writes them."""
+import argparse
 import contextlib
 import json
 import os
@@ -8,6 +9,7 @@ import re
 import shutil
 import subprocess
 import sys
+import textwrap
 from typing import NamedTuple
 
 ROOT = os.path.dirname(os.path.dirname(os.path.realpath(__file__)))
@@ -259,6 +261,32 @@ def with_input(feed, cycle, text):
     if "EVERY" in firsts[at:]:
         return "\n".join([*lines, f"EVERY {cycle} 1 1 1 {text}", ""])
     return "\n".join([*lines[:at], f"{cycle} {text}", *lines[at:], ""])
+
+
+def at_width(text, width):
+    """A text in lines of at most so many columns: paragraphs are filled, and a line that begins with a blank, as a row, goes on below its last column."""
+    lines, paragraph = [], []
+
+    def fill():
+        lines.extend(textwrap.wrap(" ".join(paragraph), width, break_long_words=False, break_on_hyphens=False))
+        paragraph.clear()
+
+    for line in text.split("\n"):
+        if line and not line[0].isspace():
+            paragraph.append(line)
+            continue
+        fill()
+        hang = re.match(r" +\S+(?: \S+)*  +(?=\S)|", line).end() or len(line) - len(line.lstrip())
+        lines += textwrap.wrap(line, width, subsequent_indent=" " * hang, break_long_words=False, break_on_hyphens=False) or [""]
+    fill()
+    return "\n".join(lines)
+
+
+class Help(argparse.HelpFormatter):
+    """The help of a view, which fits the terminal."""
+
+    def _fill_text(self, text, width, indent):
+        return at_width(text, width)
 
 
 def take_program(parser):
