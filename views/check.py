@@ -93,7 +93,6 @@ def check_calls(room):
     for view in ["talk", "dap", "lsp", "shake", "campaign", "chain", "wave", "dsky", "keys", "bridge", "report", "grade"]:
         status, out, err = call(view, "--help")
         told(f"{view} --help", (status, err) == (0, "") and out.startswith(f"usage: {view} "), f"{out} {err}")
-        told(f"{view} --help fits 80 columns", max(map(len, out.splitlines())) <= 80, out)
     same("a feed that is not there", call("shake", LOST[0], "4", "RUPT 1", "--feed", f"{room}/none"), (3, "", f"shake: {room}/none: No such file or directory\n"))
     same("a source that is not there", call("wave", f"{room}/none", EMPTY, "4"), (3, "", "agcws: E6\n"))
     same("lines that are not there", call("dsky", f"{room}/none"), (3, "", f"dsky: {room}/none: No such file or directory\n"))
