@@ -1,7 +1,10 @@
 """Compares what `agcws access` counts with the lines of `agcws trace --reads` of the same steps."""
 import re
 import subprocess
+import unittest
 from collections import Counter
+
+from common import PROGRAM, Case, example_runs
 
 STEPS = 10_000
 CELL = r"(?:READS)?((?: (?:-|[^ =]+=[0-7]+))+)"
@@ -91,20 +94,34 @@ def counted(rows):
     return +found
 
 
-def check_access(program, told, name, files):
-    """Compares the counts of the first steps of a program, of all cells and of each cell by its places."""
-    listing = lines_of(program, "asm", files[0], "/dev/null")
-    wanted, near = traced(program, files, fixed_names(listing)), near_names(listing)
-    cells = Counter()
-    for (cell, _, sign), count in wanted.items():
-        cells[near(cell), sign] += count
-    rows = lines_of(program, "access", *files, str(STEPS))
-    got = {row.removeprefix("UNREAD ") for row in rows if row.startswith("UNREAD ")}
-    told(f"access of {name}: what is never read", got == unread(cells), f"{got} and {unread(cells)}")
-    got = counted(rows)
-    got = Counter({it: count for it, count in got.items() if it[0] != "Z"})
-    told(f"access of {name} beside trace", got == cells, f"{got - cells} and {cells - got}")
-    for cell in sorted({it[0] for it in wanted})[:8]:
-        places = Counter({(place, sign): count for (it, place, sign), count in wanted.items() if it == cell})
-        got = counted(lines_of(program, "access", *files, str(STEPS), cell))
-        told(f"access of {name} at {cell}", got == places, f"{got - places} and {places - got}")
+class Access(Case):
+    """Counts of reads and writes, of all cells and of each by its places."""
+
+    def test_examples(self):
+        for name, files in example_runs():
+            self.compare(name, files)
+
+    def compare(self, name, files):
+        """Compares the counts of the first steps of a program, of all cells and of each cell by its places."""
+        listing = lines_of(PROGRAM, "asm", files[0], "/dev/null")
+        wanted, near = traced(PROGRAM, files, fixed_names(listing)), near_names(listing)
+        cells = Counter()
+        for (cell, _, sign), count in wanted.items():
+            cells[near(cell), sign] += count
+        rows = lines_of(PROGRAM, "access", *files, str(STEPS))
+        got = {row.removeprefix("UNREAD ") for row in rows if row.startswith("UNREAD ")}
+        with self.subTest(f"access of {name}: what is never read"):
+            self.assertEqual(got, unread(cells))
+        got = counted(rows)
+        got = Counter({it: count for it, count in got.items() if it[0] != "Z"})
+        with self.subTest(f"access of {name} beside trace"):
+            self.assertEqual(got, cells)
+        for cell in sorted({it[0] for it in wanted})[:8]:
+            places = Counter({(place, sign): count for (it, place, sign), count in wanted.items() if it == cell})
+            got = counted(lines_of(PROGRAM, "access", *files, str(STEPS), cell))
+            with self.subTest(f"access of {name} at {cell}"):
+                self.assertEqual(got, places)
+
+
+if __name__ == "__main__":
+    unittest.main()

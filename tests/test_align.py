@@ -3,7 +3,10 @@ its names stand then, and where those of erasable memory do when all addresses h
 import copy
 import random
 import subprocess
-from damages import added, holds, total, with_number
+import unittest
+
+from common import PROGRAM, Case, write
+from test_damages import holds, total, with_number
 
 BANKS, WORDS, LEAST = 36, 1024, 12
 EXTEND, CHECK = 0o6, 0o2000
@@ -277,7 +280,7 @@ def pairs_of_ropes(seed):
         at, count = rng.randrange(len(words) + 1), rng.randrange(1, 20)
         kind = rng.randrange(3)
         if kind == 0:
-            words[at:at] = [rng.choice(some) for _ in range(count)]
+            words[at:at] = [rng.choice(some) for _ in range(12)]
         elif kind == 1:
             moved = words[at : at + count + 20]
             del words[at : at + count + 20]
@@ -288,22 +291,6 @@ def pairs_of_ropes(seed):
         names = list(other)
         other = dict(zip(names, [other[it] for it in names[1:] + names[:1]], strict=True))
     return rope_of(banks), rope_of(other)
-
-
-def check_aligns(program, told, write, room, count=12):
-    """Small ropes are aligned as by the definition."""
-    for seed in range(count):
-        olds, news = pairs_of_ropes(seed)
-        names = renamed(olds, news)
-        old, new = tokens(olds, names), tokens(news)
-        to_old, to_new = aligned(old, new)
-        wanted = lines_of_alignment(old, new, to_old, to_new, sum(olds, []), sum(news, []), renamed_lines(names, olds, to_new))
-        files = write(f"{room}/old.rope", image(olds)), write(f"{room}/new.rope", image(news))
-        ran = subprocess.run([program, "align", "--old", "1", "--new", "1", *files], capture_output=True, text=True, timeout=60)
-        told(f"alignment {seed}", (ran.returncode, ran.stdout.splitlines(), ran.stderr) == (0, wanted, ""), f"{ran} {wanted}")
-    for seed in range(4):
-        check_edits(Program(seed), program, told, write, room)
-        check_shuffled(Program(seed), seed, program, told, write, room)
 
 
 # Instructions of fixed memory and their opcodes.
@@ -381,41 +368,6 @@ class Program:
         return at[operand] if kind == "CADR" else OPCODES[kind] + window(*divmod(at[operand], WORDS))
 
 
-def check_edits(written, program, told, write, room):
-    """Three edits are told in few lines, and names are carried, most of them surely and none of these to another place."""
-    (old, at), (new, then) = written.assembled(), written.edited().assembled()
-    files = write(f"{room}/old.rope", image(old)), write(f"{room}/new.rope", image(new))
-    call = [program, "align", "--old", "1", "--new", "1"]
-    lines = subprocess.run([*call, *files], capture_output=True, text=True, timeout=60).stdout.splitlines()
-    heads = [line.split()[0] for line in lines]
-    put, moved = [line for line in lines if line.startswith("NEW 10,")], [line for line in lines if line.startswith("MOVED 14,") and " 20," in line]
-    changed = [line for line in lines if line.startswith("CHANGED 13,")]
-    told("three edits", len(lines) <= LINES and all((put, moved, changed)) and heads[-1] == "SAME", "\n".join(lines))
-    names = write(f"{room}/names.txt", "".join(f"{name} {place(at[name])}\n" for name in written.labels).encode())
-    rows = subprocess.run([*call, "--symbols", names, *files], capture_output=True, text=True, timeout=60).stdout.splitlines()
-    sure = [row.split() for row in rows if not row.startswith("#")]
-    wrong = [row for row in sure if row[2] != "{:02o},{:04o}".format(*divmod(then[row[0]], WORDS))]
-    told("names after three edits", len(rows) == len(written.labels) and len(sure) >= PART * len(rows) and not wrong, f"{len(sure)} of {len(rows)}, wrong {wrong[:3]}")
-
-
-def check_shuffled(written, seed, program, told, write, room):
-    """Where all addresses of erasable memory have others, and three edits were made, names are carried, and none surely to another place."""
-    (old, _), (edited, _) = written.assembled(), written.edited().assembled()
-    places = list(range(FREE, SWITCHED))
-    others = random.Random(seed).sample(places, len(places))
-    then = dict(zip(places, others, strict=True))
-    new = [shuffled(number, bank, then) for number, bank in enumerate(edited)]
-    named = [own for own in operands(old) if own is not None and FREE <= own < SWITCHED]
-    used = sorted(own for own in set(named) if named.count(own) > 1)
-    files = write(f"{room}/old.rope", image(old)), write(f"{room}/new.rope", image(new))
-    names = write(f"{room}/names.txt", "".join(f"V{own:o} E{own >> 8},{own:04o}\n" for own in used).encode())
-    call = [program, "align", "--old", "1", "--new", "1", "--symbols", names, *files]
-    rows = subprocess.run(call, capture_output=True, text=True, timeout=60).stdout.splitlines()
-    sure = [row.split() for row in rows if not row.startswith("#")]
-    wrong = [row for row in sure if int(row[2], 8) != then[int(row[0][1:], 8)]]
-    told("names where all addresses have others", len(rows) == len(used) and len(sure) >= 0.95 * len(rows) and not wrong, f"{len(sure)} of {len(rows)}, wrong {wrong[:3]}")
-
-
 def shuffled(number, bank, then):
     """A bank with another address in place of each one of erasable memory that is no register and no counter, and its sum right."""
     words, extra = [], False
@@ -426,3 +378,65 @@ def shuffled(number, bank, then):
         extra = word == EXTEND if not extra else word >> 12 == 5
     end = max((n + 1 for n, word in enumerate(bank) if word), default=0)
     return bank_of([*words[: end - 1], with_number(number, total(words[: end - 1]))]) if end else bank
+
+
+class Align(Case):
+    """Alignments of small ropes, and of programs after edits."""
+
+    def test_small_ropes(self):
+        """Small ropes are aligned as by the definition."""
+        for seed in range(12):
+            olds, news = pairs_of_ropes(seed)
+            names = renamed(olds, news)
+            old, new = tokens(olds, names), tokens(news)
+            to_old, to_new = aligned(old, new)
+            wanted = lines_of_alignment(old, new, to_old, to_new, sum(olds, []), sum(news, []), renamed_lines(names, olds, to_new))
+            files = write(f"{self.room}/old.rope", image(olds)), write(f"{self.room}/new.rope", image(news))
+            ran = subprocess.run([PROGRAM, "align", "--old", "1", "--new", "1", *files], capture_output=True, text=True, timeout=60)
+            with self.subTest(f"alignment {seed}"):
+                self.assertEqual((ran.returncode, ran.stdout.splitlines(), ran.stderr), (0, wanted, ""), f"{ran} {wanted}")
+
+    def test_programs(self):
+        for seed in range(4):
+            self.try_edits(Program(seed))
+            self.try_shuffled(Program(seed), seed)
+
+    def try_edits(self, written):
+        """Three edits are told in few lines, and names are carried, most of them surely and none of these to another place."""
+        (old, at), (new, then) = written.assembled(), written.edited().assembled()
+        files = write(f"{self.room}/old.rope", image(old)), write(f"{self.room}/new.rope", image(new))
+        call = [PROGRAM, "align", "--old", "1", "--new", "1"]
+        lines = subprocess.run([*call, *files], capture_output=True, text=True, timeout=60).stdout.splitlines()
+        heads = [line.split()[0] for line in lines]
+        put, moved = [line for line in lines if line.startswith("NEW 10,")], [line for line in lines if line.startswith("MOVED 14,") and " 20," in line]
+        changed = [line for line in lines if line.startswith("CHANGED 13,")]
+        with self.subTest("three edits"):
+            self.assertTrue(len(lines) <= LINES and all((put, moved, changed)) and heads[-1] == "SAME", "\n".join(lines))
+        names = write(f"{self.room}/names.txt", "".join(f"{name} {place(at[name])}\n" for name in written.labels).encode())
+        rows = subprocess.run([*call, "--symbols", names, *files], capture_output=True, text=True, timeout=60).stdout.splitlines()
+        sure = [row.split() for row in rows if not row.startswith("#")]
+        wrong = [row for row in sure if row[2] != "{:02o},{:04o}".format(*divmod(then[row[0]], WORDS))]
+        with self.subTest("names after three edits"):
+            self.assertTrue(len(rows) == len(written.labels) and len(sure) >= PART * len(rows) and not wrong, f"{len(sure)} of {len(rows)}, wrong {wrong[:3]}")
+
+    def try_shuffled(self, written, seed):
+        """Where all addresses of erasable memory have others, and three edits were made, names are carried, and none surely to another place."""
+        (old, _), (edited, _) = written.assembled(), written.edited().assembled()
+        places = list(range(FREE, SWITCHED))
+        others = random.Random(seed).sample(places, len(places))
+        then = dict(zip(places, others, strict=True))
+        new = [shuffled(number, bank, then) for number, bank in enumerate(edited)]
+        named = [own for own in operands(old) if own is not None and FREE <= own < SWITCHED]
+        used = sorted(own for own in set(named) if named.count(own) > 1)
+        files = write(f"{self.room}/old.rope", image(old)), write(f"{self.room}/new.rope", image(new))
+        names = write(f"{self.room}/names.txt", "".join(f"V{own:o} E{own >> 8},{own:04o}\n" for own in used).encode())
+        call = [PROGRAM, "align", "--old", "1", "--new", "1", "--symbols", names, *files]
+        rows = subprocess.run(call, capture_output=True, text=True, timeout=60).stdout.splitlines()
+        sure = [row.split() for row in rows if not row.startswith("#")]
+        wrong = [row for row in sure if int(row[2], 8) != then[int(row[0][1:], 8)]]
+        with self.subTest("names where all addresses have others"):
+            self.assertTrue(len(rows) == len(used) and len(sure) >= 0.95 * len(rows) and not wrong, f"{len(sure)} of {len(rows)}, wrong {wrong[:3]}")
+
+
+if __name__ == "__main__":
+    unittest.main()

@@ -2,13 +2,13 @@
 
 An image is taken in each form in which it may stand, by each subcommand that reads one; and options stand together of
 which one might be passed over where another stands. What is wanted was worked out by hand, or is what the same words
-draw as they are written.
-"""
+draw as they are written."""
 import os
 import re
 import subprocess
+import unittest
 
-from files import read, write
+from common import PROGRAM, Case, read, write
 
 # Its steps by hand: CA (2 cycles), AD (2), EXTEND (1), WRITE (2) and TCF (1) over and over, so that a line is written
 # at 7 and at 15 cycles.
@@ -33,7 +33,6 @@ FILES = {
 # The note of skips.agc.
 SKIP_OBJECT = '{"kind":"SKIP","place":"02,4002","symbol":null,"word":"54100","text":"TS 0100","step":3,"cycles":6,"count":1}\n'
 COMMANDS = b"run 7\nregs\nmem 4000\nmem 4005\nback 2\n"
-
 # The calls that read an image: OPTIONS are those by which it is taken, and OLD and NEW the same for the first and the
 # second of two.
 READERS = """\
@@ -91,7 +90,6 @@ align NEW six.rope IMAGE
 align --symbols five.lst OLD IMAGE six.rope
 find OPTIONS five.agc IMAGE
 """.splitlines()
-
 # Files in which the image of five.agc stands, and options by which it is taken.
 FORMS = [
     ("five.rope", "--rope 2"),
@@ -103,7 +101,6 @@ FORMS = [
     ("wrong.rope", "--rope 1 --parity ignore"),
     ("wrong_hardware.rope", "--parity ignore --form hardware"),
 ]
-
 # Files in which it stands otherwise, or as a text of octal words, and options by which the subcommands take it that run nothing.
 ALL_PARTS = "hardware,swapped,complemented,numbered"
 LAYOUTS = [
@@ -118,14 +115,12 @@ LAYOUTS = [
     ("octals.txt", "--parity ignore"),
     ("octals.txt", f"--form {ALL_PARTS}"),
 ]
-
 # Options of a comparison that takes two images in the other order of the bits, and the images.
 OTHER_ORDERS = [
     ("--old-form hardware", "hardware.rope six.rope"),
     ("--new-form hardware", "five.rope hardware_six.rope"),
     ("--old-form hardware --new-form hardware", "hardware.rope hardware_six.rope"),
 ]
-
 # Options of a trace of 9 steps, and the first and the last step that is shown.
 BOUNDS = [
     ("", 1, 9),
@@ -138,7 +133,6 @@ BOUNDS = [
     ("--from 7 --to 50", 7, 9),
     ("--to 0 --from 0", 1, 0),
 ]
-
 # What is told of each file in a check.
 TOLD = {
     "wrong.agc": "wrong.agc:1:2: error E15: FROB is no operator\n    1 |  FROB 1\n      |  ^^^^\n",
@@ -206,11 +200,12 @@ def of_side(options, side):
     return options.replace("--rope", f"--{side}").replace("--form", f"--{side}-form")
 
 
-class Arguments:
-    """Tries calls by a program, in a folder."""
+class Arguments(Case):
+    """Calls in a folder of images, sources and feeds."""
 
-    def __init__(self, program, told, folder):
-        self.program, self.told, self.folder = program, told, folder
+    def setUp(self):
+        super().setUp()
+        folder = self.room
         for name, text in FILES.items():
             write(f"{folder}/{name}", (text.replace(";", "\n") + "\n").encode() if text else b"")
         os.mkdir(f"{folder}/folder")
@@ -233,31 +228,35 @@ class Arguments:
     def call(self, words):
         """The status of the program, its output and its error output."""
         ran = subprocess.run(
-            [self.program, *words.split()], cwd=self.folder, input=COMMANDS, capture_output=True, timeout=300
+            [PROGRAM, *words.split()], cwd=self.folder, input=COMMANDS, capture_output=True, timeout=300
         )
         return ran.returncode, ran.stdout, ran.stderr
 
     def same(self, words, status, out, err=""):
         """Compares what a call draws with what is wanted."""
         got, wanted = self.call(words), (status, out.encode(), err.encode())
-        self.told(f"agcws {words}", got == wanted, f"wanted {wanted}, got {got}")
+        with self.subTest(f"agcws {words}"):
+            self.assertEqual(got, wanted)
 
-    def try_forms(self):
+    def test_forms(self):
         """Each reader draws of an image in any form what it draws of it as it is written, and else something else."""
         for row in READERS:
             plain = self.call(worded(row, "five.rope", ""))
-            self.told(f"agcws {row}, as it is written", plain[0] in (0, 1) and plain[1] != b"", f"{plain}")
+            with self.subTest(f"agcws {row}, as it is written"):
+                self.assertTrue(plain[0] in (0, 1) and plain[1] != b"", f"{plain}")
             for image, options in FORMS:
                 words = worded(row, image, options)
                 got = self.call(words)
-                self.told(f"agcws {words}", got == plain, f"wanted {plain}, got {got}")
+                with self.subTest(f"agcws {words}"):
+                    self.assertEqual(got, plain)
             for image in ("one.rope", "hardware.rope", "wrong.rope", "wrong_hardware.rope"):
                 words = worded(row, image, "")
                 # (an image beside itself comes to the same however it is taken)
                 if not (row.startswith("differ ") and image == "hardware.rope"):
-                    self.told(f"agcws {words}, taken otherwise", self.call(words) != plain)
+                    with self.subTest(f"agcws {words}, taken otherwise"):
+                        self.assertTrue(self.call(words) != plain)
 
-    def try_layouts(self):
+    def test_layouts(self):
         """The same of an image that stands otherwise, or as a text; what runs a program takes none of these."""
         for row in READERS:
             plain = self.call(worded(row, "five.rope", ""))
@@ -266,9 +265,10 @@ class Arguments:
                 got = self.call(words)
                 is_taken = row.split()[0] in ("words", "sums", "compare", "align", "find")
                 is_right = got == plain if is_taken else got[0] == (2 if "--form" in options else 1)
-                self.told(f"agcws {words}", is_right, f"wanted {plain}, got {got}")
+                with self.subTest(f"agcws {words}"):
+                    self.assertTrue(is_right, f"wanted {plain}, got {got}")
 
-    def try_wrong_parities(self):
+    def test_wrong_parities(self):
         """What is told of a wrong parity, in both orders of the bits, where it is not to be ignored."""
         for options, name in (("", ""), ("--form hardware ", "_hardware")):
             self.same(f"parity {options}{name[1:] or 'five'}.rope", 0, "COUNT 0\n")
@@ -278,7 +278,8 @@ class Arguments:
             self.same(f"damages {options}wrong{name}.rope", 1, "02,4001 64005 HAS WRONG PARITY\nCOUNT 1\n")
             status, out, err = self.call(f"damages --source {options}wrong{name}.rope")
             lines = [it for it in out.decode().splitlines() if "PARITY" in it or "WAS" in it]
-            self.told(f"damages --source {options}wrong{name}.rope", (status, lines, err) == (0, ["        OCT     64005   # 02,4001 WRONG PARITY"], b""), f"{lines} {err}")
+            with self.subTest(f"damages --source {options}wrong{name}.rope"):
+                self.assertEqual((status, lines, err), (0, ["        OCT     64005   # 02,4001 WRONG PARITY"], b""), f"{lines} {err}")
             for row in READERS:
                 where = "agcws: BYTE 2 02,4001\n" if "--where" in row else ""
                 if not row.startswith(("compare", "align", "find")):
@@ -287,9 +288,10 @@ class Arguments:
             words = f"--{side}-form hardware {images}"
             status, out, err = self.call(f"compare {words}")
             is_named = err.startswith(b"wrong_hardware.rope: error E5: ")
-            self.told(f"agcws compare {words}", (status, out) == (1, b"") and is_named, f"{err}")
+            with self.subTest(f"agcws compare {words}"):
+                self.assertTrue((status, out) == (1, b"") and is_named, f"{err}")
 
-    def try_comparisons(self):
+    def test_comparisons(self):
         """Each side is taken in its own form."""
         self.same("run five.agc good.feed 9", 0, FIVE_LINES)
         self.same("run --image --form hardware hardware.rope good.feed 9", 0, FIVE_LINES)
@@ -297,7 +299,7 @@ class Arguments:
             self.same(f"compare {options} {images}", 1, "02,4005 00005 00006 TC 0005, EXTEND\nCOUNT 1\n")
         self.same("compare --only --new-form hardware five.agc hardware.rope", 0, "COUNT 0\n")
 
-    def try_runs(self):
+    def test_runs(self):
         """What is told beside a run: of two options neither is passed over."""
         for options in ("", "--progress", "--notes", "--notes --progress"):
             end = "END STEPS 9 CYCLES 15 OUTPUTS 2 Z 4004\n"
@@ -308,7 +310,8 @@ class Arguments:
         status, out, err = self.call(f"run --notes {many}")
         note = err.decode()
         is_note = note.startswith("NOTE SKIP ") and note.endswith("STEP 3 CYCLES 6 TIMES 1\n")
-        self.told("the note of a skip", (status, out) == (0, b"") and is_note, note)
+        with self.subTest("the note of a skip"):
+            self.assertTrue((status, out) == (0, b"") and is_note, note)
         self.same(f"run --progress {many}", 0, "", steps)
         self.same(f"run --progress --end {many}", 0, "", steps + end)
         self.same(f"run --notes --end {many}", 0, "", note + end)
@@ -318,11 +321,13 @@ class Arguments:
         self.same(f"run --json --notes {many}", 0, "", SKIP_OBJECT)
         self.same(f"trace --progress --from 1048577 {many}", 0, "", steps)
         objects = self.call(f"cover --json {many}")
-        self.told("agcws cover --json --progress", self.call(f"cover --progress --json {many}") == (*objects[:2], steps.encode()) and objects[0] == 0 and objects[1][:1] == b"{")
+        with self.subTest("agcws cover --json --progress"):
+            self.assertTrue(self.call(f"cover --progress --json {many}") == (*objects[:2], steps.encode()) and objects[0] == 0 and objects[1][:1] == b"{")
         profile = self.call(f"cover {many}")
-        self.told("agcws cover --progress", self.call(f"cover --progress {many}") == (*profile[:2], steps.encode()))
+        with self.subTest("agcws cover --progress"):
+            self.assertEqual(self.call(f"cover --progress {many}"), (*profile[:2], steps.encode()))
 
-    def try_flight(self):
+    def test_flight(self):
         """--flight, by each subcommand that runs a program, alone and beside other options."""
         for options in ("", "--progress", "--notes", "--notes --progress"):
             self.same(f"run --flight {options} flight.agc good.feed 3", 0, "5 CH 010 77776\n")
@@ -330,26 +335,30 @@ class Arguments:
         for words, steps in (("trace", "3"), ("trace --progress", "3"), ("debug", ""), ("debug --extended", "")):
             got = self.call(f"{words} --flight flight.agc good.feed {steps}")
             wanted = self.call(f"{words} standard.agc good.feed {steps}")
-            self.told(f"agcws {words} --flight", got == wanted and got[0] == 0 and b"77776" in got[1], f"{got}")
+            with self.subTest(f"agcws {words} --flight"):
+                self.assertTrue(got == wanted and got[0] == 0 and b"77776" in got[1], f"{got}")
         for options in ("", "--progress"):
             status, out, err = self.call(f"cover {options} --flight flight.agc good.feed 3")
             wanted = self.call(f"cover {options} standard.agc good.feed 3")
-            self.told(f"agcws cover {options} --flight", (status, out.replace(b"OCT -1", b"OCT 77776"), err) == wanted)
+            with self.subTest(f"agcws cover {options} --flight"):
+                self.assertEqual((status, out.replace(b"OCT -1", b"OCT 77776"), err), wanted)
 
-    def try_flight_images(self):
+    def test_flight_images(self):
         """--flight where a source is assembled to an image, or compared with one."""
         status, listing, err = self.call("asm --flight flight.agc flight.rope")
         is_listed = (status, err) == (0, b"") and b"    5 02,4004 77776  X OCT -1\n" in listing
-        self.told("the listing of a flight source", is_listed, f"{listing}")
+        with self.subTest("the listing of a flight source"):
+            self.assertTrue(is_listed, f"{listing}")
         for version in ("1", "2"):
             self.same(f"asm --sums --flight --rope {version} flight.agc sums.rope", 0, listing.decode())
             self.same(f"compare --only --flight --new {version} flight.agc sums.rope", 0, "COUNT 0\n")
             status, out, _ = self.call(f"sums --rope {version} sums.rope")
-            self.told("the sum of a flight source", status == 0 and (b"02 00002\n" in out or b"02 77775\n" in out))
+            with self.subTest("the sum of a flight source"):
+                self.assertTrue(status == 0 and (b"02 00002\n" in out or b"02 77775\n" in out))
         self.same("asm --sums flight.agc none.rope", 1, "", "agcws: E16 LINE 5\n")
         self.same("compare --only flight.agc flight.rope", 1, "", "agcws: E16 LINE 5\n")
 
-    def try_checks(self):
+    def test_checks(self):
         """The files of a check are each told by their own names, and all are counted."""
         for words, status, files, tally in CHECKS:
             self.same(f"check {words}", status, "".join(TOLD[it] for it in files.split()) + f"{tally}\n")
@@ -364,7 +373,7 @@ class Arguments:
             self.same(f"check wrong.agc one.feed {name} two.feed", 3, told, unread)
             self.same(f"check {name} good.feed one.feed", 3, "", unread)
 
-    def try_unread(self):
+    def test_unread(self):
         """What cannot be read: a file, told by its own name, whichever of two it is; and a number."""
         self.same("words --where none.rope", 3, "", "agcws: E6\n")
         for number in ("EE17", "WW4", "EW4", "WE17", "4W", "E", "W", "E256", "E+17", "+17", "W+4", "E-17", "SKIPS", "skip", "NOTE"):
@@ -376,7 +385,7 @@ class Arguments:
                 self.same(f"{command} {name} {other}", 3, "", unread)
                 self.same(f"{command} {one} {name}", 3, "", unread)
 
-    def try_tables(self):
+    def test_tables(self):
         """A table of names is read once all files are open, and its fault is told before those of the others."""
         self.same("words --symbols nameless.txt none.rope", 3, "", "agcws: E6\n")
         self.same("words --symbols nameless.txt wrong.rope", 1, "", "agcws: E36 LINE 1\n")
@@ -386,31 +395,18 @@ class Arguments:
             self.same(f"{named} five.rope none.feed {steps}", 3, "", "agcws: E6\n")
             self.same(f"{named} wrong.rope one.feed {steps}", 1, "", "agcws: E36 LINE 1\n")
 
-    def try_bounds(self):
+    def test_bounds(self):
         """--from and --to: the steps that are shown, by their numbers."""
         lines = self.call("trace five.agc good.feed 9")[1].splitlines(keepends=True)
         for options, first, last in BOUNDS:
             status, out, err = self.call(f"trace {options} five.agc good.feed 9")
             shown = [int(it.split()[0]) for it in out.splitlines()]
             is_good = shown == list(range(first, last + 1)) and out == b"".join(lines[first - 1 : last])
-            self.told(f"agcws trace {options}", (status, err) == (0, b"") and is_good, f"{shown}")
+            with self.subTest(f"agcws trace {options}"):
+                self.assertTrue((status, err) == (0, b"") and is_good, f"{shown}")
         for options in ("--from 5 --to 3", "--to 3 --from 5", "--from 10 --to 9", "--to 0"):
             self.same(f"trace {options} five.agc good.feed 9", 2, "", "error: --to names an earlier step than --from, which is 1 where it is not given\n")
 
 
-def check_arguments(program, told, room):
-    """Tries all of this in a folder of its own."""
-    folder = f"{room}/arguments"
-    os.mkdir(folder)
-    tried = Arguments(program, told, folder)
-    tried.try_forms()
-    tried.try_layouts()
-    tried.try_wrong_parities()
-    tried.try_comparisons()
-    tried.try_runs()
-    tried.try_flight()
-    tried.try_flight_images()
-    tried.try_checks()
-    tried.try_unread()
-    tried.try_tables()
-    tried.try_bounds()
+if __name__ == "__main__":
+    unittest.main()

@@ -1,7 +1,9 @@
-"""Tests of views/certain on a source with each kind of form, beside expected lines by hand. `check.py` runs them."""
-from checking import call, same
+"""Tests of views/certain on a source with each kind of form, beside expected lines by hand."""
+import unittest
+
+from common import read, write
 import pipe
-from files import read, write
+from viewing import ViewCase, call
 
 SOURCE = """        SETLOC  1400
 X       ERASE
@@ -49,23 +51,37 @@ FORMS = [
 ]
 
 
-def check_certain(room):
-    """Words of certain forms that differ stand first, then those of uncertain ones; each form is counted."""
-    source, rope, dump = write(f"{room}/certain.agc", SOURCE.encode()), f"{room}/certain.rope", f"{room}/dump.rope"
-    pipe.answer("asm", "--flight", source, rope)
-    image = bytearray(read(rope))
-    for offset, (word, _) in CHANGED.items():
-        image[2 * offset : 2 * offset + 2] = (2 * word + (bin(word).count("1") + 1) % 2).to_bytes(2, "big")
-    write(dump, bytes(image))
-    status, out, err = call("certain", source, dump)
-    lines = out.splitlines()
-    places = {f"02,{0o4000 + offset:04o}": told for offset, (_, told) in CHANGED.items()}
-    certain, uncertain = [place for place, told in places.items() if not told], [place for place, told in places.items() if told]
-    same("the certain words that differ", [it.split()[0] for it in lines[: len(certain)]], certain)
-    rest = lines[len(certain) : len(places)]
-    same("the uncertain ones", [(it.split()[:2], it[it.index(" LINE ") + 1 :]) for it in rest], [(["UNCERTAIN", place], places[place]) for place in uncertain])
-    same("the uncertain forms", lines[len(places) : -1], [f"FORM {it}" for it in FORMS])
-    same("how many differ", (status, lines[-1], err), (1, f"COUNT {len(certain)}, UNCERTAIN {len(uncertain)}", ""))
-    same("a source beside its own rope", (lambda it: (it[0], it[1].splitlines()[-1]))(call("certain", source, rope)), (0, "COUNT 0, UNCERTAIN 0"))
-    same("a refused source", call("certain", write(f"{room}/wrong.agc", b" FROB\n"), rope)[:2], (1, ""))
-    same("a refused image", call("certain", source, source)[:2], (1, ""))
+class Certain(ViewCase):
+    """A flight source beside a dump."""
+
+    def test_certain(self):
+        """Words of certain forms that differ stand first, then those of uncertain ones; each form is counted."""
+        source, rope, dump = write(f"{self.room}/certain.agc", SOURCE.encode()), f"{self.room}/certain.rope", f"{self.room}/dump.rope"
+        pipe.answer("asm", "--flight", source, rope)
+        image = bytearray(read(rope))
+        for offset, (word, _) in CHANGED.items():
+            image[2 * offset : 2 * offset + 2] = (2 * word + (bin(word).count("1") + 1) % 2).to_bytes(2, "big")
+        write(dump, bytes(image))
+        status, out, err = call("certain", source, dump)
+        lines = out.splitlines()
+        places = {f"02,{0o4000 + offset:04o}": told for offset, (_, told) in CHANGED.items()}
+        certain, uncertain = [place for place, told in places.items() if not told], [place for place, told in places.items() if told]
+        with self.subTest("the certain words that differ"):
+            self.assertEqual([it.split()[0] for it in lines[: len(certain)]], certain)
+        rest = lines[len(certain) : len(places)]
+        with self.subTest("the uncertain ones"):
+            self.assertEqual([(it.split()[:2], it[it.index(" LINE ") + 1 :]) for it in rest], [(["UNCERTAIN", place], places[place]) for place in uncertain])
+        with self.subTest("the uncertain forms"):
+            self.assertEqual(lines[len(places) : -1], [f"FORM {it}" for it in FORMS])
+        with self.subTest("how many differ"):
+            self.assertEqual((status, lines[-1], err), (1, f"COUNT {len(certain)}, UNCERTAIN {len(uncertain)}", ""))
+        with self.subTest("a source beside its own rope"):
+            self.assertEqual((lambda it: (it[0], it[1].splitlines()[-1]))(call("certain", source, rope)), (0, "COUNT 0, UNCERTAIN 0"))
+        with self.subTest("a refused source"):
+            self.assertEqual(call("certain", write(f"{self.room}/wrong.agc", b" FROB\n"), rope)[:2], (1, ""))
+        with self.subTest("a refused image"):
+            self.assertEqual(call("certain", source, source)[:2], (1, ""))
+
+
+if __name__ == "__main__":
+    unittest.main()

@@ -1,10 +1,10 @@
 """Tries `agcws check` and `agcws explain`: mistakes with the places that are told, by hand; the rows of `explain` beside those of rows/refusals.txt; and that `check` and `asm` agree."""
-import os
 import random
 import re
 import subprocess
+import unittest
 
-from found import check_found
+from common import EXAMPLES, PROGRAM, ROOT, ROWS, Case
 
 # Sources with mistakes, a semicolon between two lines, and what is told of each: line, column and number, in order.
 MISTAKES = [
@@ -281,47 +281,6 @@ def warned_by(program, path, *options):
     return ran.returncode, found, ran.stdout.split(b"\n")[-2:-1], ran.stderr
 
 
-def check_warnings(program, room, told):
-    path = f"{room}/warnings.agc"
-    for shown, wanted in WARNINGS:
-        with open(path, "wb") as file:
-            file.write(shown.replace(";", "\n").encode() + b"\n")
-        for options, drawn in (["--unused"], wanted), ([], [it for it in wanted if it[2] != 8]):
-            _, found, count, errors = warned_by(program, path, *options)
-            warned = [it for it in found if it[2][0] == "W"]
-            rows = [(line, column, f"W{number}") for line, column, number in drawn]
-            faults = len(found) - len(warned)
-            told(f"warnings {options} of {shown}", (warned, count, errors) == (rows, [f"{counted(faults, 'error')}, {counted(len(rows), 'warning')}".encode()], b""), f"wanted {rows}, got {found} {count}")
-    for shown, *wanted in NAMED:
-        written(path, shown.replace(";", "\n").encode() + b"\n")
-        got = [[it[:2] for it in warned_by(program, path, *options)[1] if it[2] == "W1"] for options in ((), ("--flight",))]
-        told(f"W1 of {shown}", got == wanted, f"wanted {wanted}, got {got}")
-    with open(path, "wb") as file:
-        file.write(BOTH.replace(";", "\n").encode() + b"\n")
-    wanted = 1, [(1, 5, "W2"), (2, 4, "E15"), (2, 1, "W1"), (3, 2, "W4"), (3, 5, "W2")], [b"1 error, 4 warnings"], b""
-    got = warned_by(program, path)
-    told("warnings among faults", got == wanted, f"wanted {wanted}, got {got}")
-
-
-def check_examples_quiet(program, told, folder):
-    """No example that runs draws a warning."""
-    names = sorted({line.split()[0] for line in open(f"{folder}/runs.txt") if line.strip() and not line.startswith("#")})
-    for name in [*names, "flight/downlist", "flight/bankcall"]:
-        path = f"{folder}/{name}.agc"
-        ran = subprocess.run([program, "check", *(["--flight"] if "/" in name else []), path], capture_output=True, timeout=300)
-        told(f"no warning in {name}.agc", (ran.returncode, ran.stdout) == (0, b"0 errors, 0 warnings\n"), str(ran.stdout[:300]))
-
-
-def check_mistakes(program, room, told):
-    path = f"{room}/mistakes.agc"
-    for shown, wanted in MISTAKES:
-        with open(path, "wb") as file:
-            file.write(shown.replace(";", "\n").encode("latin-1") + b"\n")
-        count = counted(len(wanted), "error").encode()
-        status, found, end, errors = told_by(program, path)
-        told(f"check of {shown}", (status, found, errors) == (int(bool(wanted)), wanted, b"") and end[0].startswith(count + b", "), f"wanted {wanted}, got {found} {end}")
-
-
 def said_by(program, path, *before, kind="error"):
     """What a check says of each fault of a file, or of each warning, after others: line and column, the number with its words, and the cure."""
     ran = subprocess.run([program, "check", *before, path], capture_output=True, timeout=300)
@@ -334,98 +293,10 @@ def said_by(program, path, *before, kind="error"):
     return [it[1:] for it in found if it[0] == kind]
 
 
-def check_said(program, room, told):
-    path = f"{room}/said.agc"
-    for shown, wanted in SAID:
-        with open(path, "wb") as file:
-            file.write(shown.replace("|", "\n").encode("latin-1") + b"\n")
-        got = said_by(program, path)
-        told(f"what check says of {shown}", got == wanted, f"wanted {wanted}, got {got}")
-
-
-def check_forms(program, room, told):
-    for shown, *wanted in FORMS:
-        path = written(f"{room}/form.agc", shown.replace("|", "\n").encode() + b"\n")
-        got = [next(iter(said_by(program, path, *options)), None) for options in ((), ("--flight",))]
-        told(f"what check says of the form {shown}", got == wanted, f"wanted {wanted}, got {got}")
-
-
 def written(path, text):
     with open(path, "wb") as file:
         file.write(text)
     return path
-
-
-def check_silent(program, room, told):
-    for elsewhere, shown, wanted in SILENT:
-        path = written(f"{room}/silent.agc", shown.replace("|", "\n").encode() + b"\n")
-        got = said_by(program, path, "--unused", kind="warning")
-        told(f"what check says of {shown}", (got, bool(wanted)) == (wanted, not elsewhere), f"wanted {wanted}, got {got}")
-        told(f"asm takes {shown}", subprocess.run([program, "asm", path, "/dev/null"], capture_output=True, timeout=300).returncode == 0)
-        if elsewhere.startswith("run --notes"):
-            notes = subprocess.run([program, "run", "--notes", path, written(f"{room}/silent.feed", b"5 RUPT 3\n"), "40"], capture_output=True, timeout=300).stderr
-            told(f"run --notes of {shown}", notes.startswith((b"NOTE NOHANDLER", b"NOTE INSIDE")), str(notes))
-
-
-def check_feeds(program, room, told):
-    source = written(f"{room}/good.agc", b" OCT 1\n")
-    for shown, wanted in FEEDS:
-        feed = written(f"{room}/said.feed", shown.replace("|", "\n").encode() + b"\n")
-        got = said_by(program, feed, source)
-        told(f"what check says of the feed {shown[:40]}", got == ([wanted] if wanted else []), f"wanted {wanted}, got {got}")
-        refused = subprocess.run([program, "run", source, feed, "0"], capture_output=True, timeout=300).stderr
-        told(f"check and run of the feed {shown[:40]}", bool(refused) == bool(wanted) and (not wanted or refused.startswith(b"agcws: " + wanted[2].partition(":")[0].encode())), f"{refused}")
-
-
-def check_files(program, room, told):
-    """What is told of several files, what stays told where a file cannot be read, and files of another kind."""
-    source, good, bad = written(f"{room}/a.agc", b" TC FIV\n"), written(f"{room}/good.feed", b"5 RUPT 1\n"), written(f"{room}/bad.feed", b"5 RUPT 11\n")
-    ran = lambda *files: subprocess.run([program, "check", *files], capture_output=True, timeout=300)
-    of_source = f"{source}:1:5: error E17: no line defines FIV\n    1 |  TC FIV\n      |     ^^^\n      = FIV in the first column of the line to which TC is to lead\n"
-    of_feed = f"{bad}:1:8: error E30: 11 is no interrupt, which are 1 to 10\n    1 | 5 RUPT 11\n      |        ^^\n"
-    got = ran(source, bad, good, bad)
-    told("check of a source and three feeds", (got.returncode, got.stdout.decode(), got.stderr) == (1, of_source + of_feed + of_feed + "3 errors, 0 warnings\n", b""), f"{got}")
-    got = ran(source, bad, room)
-    told("check of a feed that cannot be read", (got.returncode, got.stdout.decode(), got.stderr) == (3, of_source + of_feed, f"{room}: error E6: a file could not be opened or read\n".encode()), f"{got}")
-    got = ran(source, bad, f"{room}/none")
-    told("check of a feed that is not there", (got.returncode, got.stdout, got.stderr) == (3, b"", f"{room}/none: error E6: a file could not be opened or read\n".encode()), f"{got}")
-    got = ran(f"{room}/none", bad)
-    told("check of a source that is not there", (got.returncode, got.stdout, got.stderr) == (3, b"", f"{room}/none: error E6: a file could not be opened or read\n".encode()), f"{got}")
-    got = ran(source, bad, written(f"{room}/long.feed", b"#" * 8388609))
-    told("check of a feed that is too long", (got.returncode, got.stdout.decode(), got.stderr) == (1, of_source + of_feed, f"{room}/long.feed: error E34: a source, a feed or a table of names has more than 8,388,608 bytes\n".encode()), f"{got}")
-    image = f"{room}/a.rope"
-    subprocess.run([program, "asm", written(f"{room}/one.agc", b" OCT 1\n"), image], capture_output=True, check=True)
-    kinds = {
-        (image,): f"{image}: this is a rope image, and no source: run, trace, cover and debug take it with --image",
-        (good,): f"{good}: this is a feed, and no source: it stands after the source",
-        (f"{room}/one.agc", image): f"{image}: this is a rope image, and no feed: run, trace, cover and debug take it with --image, before the feed",
-        (f"{room}/one.agc", source): f"{source}: this is a source, and no feed: it stands first",
-    }
-    for files, wanted in kinds.items():
-        got = ran(*files)
-        lines = got.stdout.decode("latin-1").split("\n")
-        told(f"check of a file of another kind: {wanted[-40:]}", (got.returncode, lines[-3], lines.count(wanted)) == (1, wanted, 1), f"{lines[-5:]}")
-    longest = max(map(len, ran(image).stdout.split(b"\n")))
-    told("what check shows of the lines of an image", longest < 200, str(longest))
-    for files in ((source, good), (f"{room}/one.agc", good)):
-        told("check of files of their kinds", b": this is " not in ran(*files).stdout, f"{ran(*files)}")
-
-
-def check_excerpt(program, room, told):
-    path = f"{room}/excerpt.agc"
-    with open(path, "wb") as file:
-        file.write(b"X OCT 1\n\tTC\tFIV # \xb5\n TC FIV +1\n")
-    wanted = f"""{path}:2:11: error E10: this byte is not ASCII, and a line holds ASCII alone, its comment too
-    2 | \tTC\tFIV # ?
-      | \t  \t      ^
-{path}:3:5: error E17: no line defines FIV
-    3 |  TC FIV +1
-      |     ^^^
-      = FIV in the first column of the line to which TC is to lead
-2 errors, 0 warnings
-""".encode()
-    got = subprocess.run([program, "check", path], capture_output=True, timeout=300)
-    told("what check writes", (got.returncode, got.stdout, got.stderr) == (1, wanted, b""), f"got {got}")
 
 
 def rows_explained(program, number):
@@ -444,46 +315,8 @@ def plain(text):
 
 
 def rows_of_refusals():
-    with open(f"{os.path.dirname(os.path.abspath(__file__))}/rows/refusals.txt", encoding="utf-8") as file:
+    with open(f"{ROWS}/refusals.txt", encoding="utf-8") as file:
         return file.read()
-
-
-def check_rows(program, told):
-    """What `explain` tells is what rows/refusals.txt has."""
-    manual = rows_of_refusals()
-    rows = re.findall(r"^\| E(\d+) \| (.*) \| (.*) \| (\d*) ?\|$", manual, re.M)
-    for number in sorted({int(it[0]) for it in rows if int(it[0]) >= 10 and it[0] != "34"}):
-        wanted = [(plain(mistake), "" if source.startswith("(") else source.strip("`").replace("\xb5", "\\xC2\\xB5"), line) for n, mistake, source, line in rows if int(n) == number]
-        got = list(rows_explained(program, f"E{number}"))
-        told(f"explain E{number} and refusals.txt", got == wanted, f"wanted {wanted}, got {got}")
-    headings = re.findall(r"^\| E(\d+) \| ([^|]*) \| \d \|$", manual, re.M)
-    told("the refusals of images, memory and devices", sorted(int(it[0]) for it in headings) == [*range(2, 8), 34], str(headings))
-    for number, meaning in headings:
-        got = subprocess.run([program, "explain", f"E{number}"], capture_output=True, text=True, timeout=300).stdout.split("\n")[0]
-        told(f"explain E{number} and refusals.txt", got == f"E{number}: {meaning}", f"wanted {meaning}, got {got}")
-
-
-def check_warning_rows(program, room, told):
-    """Each warning of rows/refusals.txt is drawn on its line."""
-    rows = re.findall(r"^\| W(\d+) \| (.*) \| `(.*)` \| (\d+) \|$", rows_of_refusals(), re.M)
-    told("the rows of warnings", [int(it[0]) for it in rows] == [*range(1, 11)], str(rows))
-    for number, mistake, source, line in rows:
-        got = list(rows_explained(program, f"W{number}"))
-        told(f"explain W{number} and refusals.txt", got == [(plain(mistake), source, line)], str(got))
-        _, found, _, _ = warned_by(program, written(f"{room}/row.agc", source.replace(";", "\n").encode() + b"\n"), "--unused")
-        told(f"the row of W{number}", (int(line), f"W{number}") in {(it[0], it[2]) for it in found}, str(found))
-
-
-def check_numbers(program, told):
-    ran = lambda *words: subprocess.run([program, "explain", *words], capture_output=True, timeout=300)
-    numbers = [int(it) for it in re.findall(rb"^E(\d+): .", ran().stdout, re.M)]
-    told("explain lists the numbers", numbers == [*range(2, 8), *range(10, 27), *range(30, 37), 40, 41, 42, 50, 51, 52], str(numbers))
-    told("explain 17 is explain E17", ran("17") == ran("E17") or ran("17").stdout == ran("E17").stdout)
-    warned = [int(it) for it in re.findall(rb"^W(\d+): .", ran().stdout, re.M)]
-    told("explain lists the numbers of warnings", warned == [*range(1, 11)], str(warned))
-    for word in ("99", "E1", "X", "E", "256", "W", "W0", "W11", "w4"):
-        got = ran(word)
-        told(f"explain {word}", (got.returncode, got.stdout, got.stderr) == (2, b"", b"error: no refusal, no warning and no note is called so; agcws explain lists them\n"), str(got))
 
 
 # The kinds of `run --notes`, each with where the manual tells of it.
@@ -496,35 +329,6 @@ KINDS = {
 }
 
 
-def check_kinds(program, told):
-    """Each kind of notes is explained: a sentence, causes with cures, and where the manual tells of it, which it does."""
-    root = os.path.dirname(os.path.dirname(os.path.abspath(__file__)))
-    with open(f"{root}/docs/MANUAL.md", encoding="utf-8") as file:
-        manual = file.read()
-    with open(f"{root}/crates/notes/specs/RunNotes.antt", encoding="utf-8") as file:
-        kinds = set(re.findall(r'codes "(?:NOTE )?([A-Z]{4,}) *(?:STEP )?"', file.read())) - {"NOTE", "STEP"}
-    told("each kind of notes is explained", kinds <= set(KINDS), str(kinds - set(KINDS)))
-    listed = subprocess.run([program, "explain"], capture_output=True, text=True, timeout=300).stdout
-    for kind, where in KINDS.items():
-        got = subprocess.run([program, "explain", kind], capture_output=True, text=True, timeout=300)
-        heading, *causes, last = got.stdout.split("\n\n")
-        rest = "\n\n".join(causes) if causes else heading.partition("\n")[2]
-        has_cures = rest.count("- ") == rest.count("  Cure: ") > 0
-        told(f"explain {kind}", got.returncode == 0 and heading.startswith(f"{kind}: ") and has_cures and last == f"Manual, {where}.\n", got.stdout)
-        told(f"explain lists {kind}", heading.split("\n")[0] + "\n" in listed, listed)
-        found = re.fullmatch(r'section (\d+)(?:\.(\d+))?(?:, "(.*)")?', where)
-        section, part, words = found.groups()
-        heads = f"\n## {section}. " in manual and (part is None or f"\n### {section}.{part} " in manual)
-        told(f"the row of {kind}", heads and (words is None or words.replace("an index leads past its table", "an index leads past its table") in manual), where)
-
-
-def check_session_numbers(program, told):
-    """Each reply of a session that begins with E and a number from 40 on is explained, with a cure."""
-    for number in (40, 41, 42, 50, 51, 52):
-        got = subprocess.run([program, "explain", f"E{number}"], capture_output=True, text=True, timeout=300)
-        told(f"explain E{number}", got.returncode == 0 and got.stdout.count("- ") == got.stdout.count("  Cure: ") > 0, got.stdout)
-
-
 def sources(count, seed):
     chosen = random.Random(seed)
     for _ in range(count):
@@ -534,36 +338,246 @@ def sources(count, seed):
         yield "\n".join(lines).encode("latin-1") + b"\n"
 
 
-def check_agreement(program, room, told, count=400, seed="agreement"):
-    """Where `asm` takes a source `check` tells nothing; and what `asm` tells is among what `check` does."""
-    path, wrong, refused = f"{room}/agreement.agc", [], 0
-    for text in sources(count, seed):
+# The sources and the feeds of all tables, whose objects are compared with their texts too (test_check_json.py).
+SHOWN = [(it[1] if table is SILENT else it[0]) for table in (MISTAKES, WARNINGS, SAID, FORMS, SILENT, NAMED) for it in table]
+SHOWN = [text.replace(";" if "|" not in text else "|", "\n").encode("latin-1") + b"\n" for text in SHOWN]
+SHOWN_FEEDS = [it[0].replace("|", "\n").encode() + b"\n" for it in FEEDS]
+
+
+class Check(Case):
+    """Mistakes, warnings, files, and the rows of explain."""
+
+    def test_warnings(self):
+        path = f"{self.room}/warnings.agc"
+        for shown, wanted in WARNINGS:
+            with open(path, "wb") as file:
+                file.write(shown.replace(";", "\n").encode() + b"\n")
+            for options, drawn in (["--unused"], wanted), ([], [it for it in wanted if it[2] != 8]):
+                _, found, count, errors = warned_by(PROGRAM, path, *options)
+                warned = [it for it in found if it[2][0] == "W"]
+                rows = [(line, column, f"W{number}") for line, column, number in drawn]
+                faults = len(found) - len(warned)
+                with self.subTest(f"warnings {options} of {shown}"):
+                    self.assertEqual((warned, count, errors), (rows, [f"{counted(faults, 'error')}, {counted(len(rows), 'warning')}".encode()], b""))
+        for shown, *wanted in NAMED:
+            written(path, shown.replace(";", "\n").encode() + b"\n")
+            got = [[it[:2] for it in warned_by(PROGRAM, path, *options)[1] if it[2] == "W1"] for options in ((), ("--flight",))]
+            with self.subTest(f"W1 of {shown}"):
+                self.assertEqual(got, wanted)
         with open(path, "wb") as file:
-            file.write(text)
-        fault = FAULT.match(subprocess.run([program, "asm", path, "/dev/null"], capture_output=True, timeout=300).stderr)
-        status, found, _, _ = told_by(program, path)
-        refused += bool(fault)
-        if status != int(bool(fault)) or bool(found) != bool(fault) or fault and (int(fault[2]), int(fault[1])) not in {(it[0], it[2]) for it in found}:
-            wrong.append((text, fault, found))
-    told(f"check and asm of {count} sources", not wrong and 0 < refused < count, f"{refused} refused, {len(wrong)} wrong: {wrong[:1]}")
+            file.write(BOTH.replace(";", "\n").encode() + b"\n")
+        wanted = 1, [(1, 5, "W2"), (2, 4, "E15"), (2, 1, "W1"), (3, 2, "W4"), (3, 5, "W2")], [b"1 error, 4 warnings"], b""
+        got = warned_by(PROGRAM, path)
+        with self.subTest("warnings among faults"):
+            self.assertEqual(got, wanted)
+
+    def test_no_warning_in_examples(self):
+        """No example that runs draws a warning."""
+        names = sorted({line.split()[0] for line in open(f"{EXAMPLES}/runs.txt") if line.strip() and not line.startswith("#")})
+        for name in [*names, "flight/downlist", "flight/bankcall"]:
+            path = f"{EXAMPLES}/{name}.agc"
+            ran = subprocess.run([PROGRAM, "check", *(["--flight"] if "/" in name else []), path], capture_output=True, timeout=300)
+            with self.subTest(f"no warning in {name}.agc"):
+                self.assertEqual((ran.returncode, ran.stdout), (0, b"0 errors, 0 warnings\n"))
+
+    def test_mistakes(self):
+        path = f"{self.room}/mistakes.agc"
+        for shown, wanted in MISTAKES:
+            with open(path, "wb") as file:
+                file.write(shown.replace(";", "\n").encode("latin-1") + b"\n")
+            count = counted(len(wanted), "error").encode()
+            status, found, end, errors = told_by(PROGRAM, path)
+            with self.subTest(f"check of {shown}"):
+                self.assertTrue((status, found, errors) == (int(bool(wanted)), wanted, b"") and end[0].startswith(count + b", "), f"wanted {wanted}, got {found} {end}")
+
+    def test_what_is_said(self):
+        path = f"{self.room}/said.agc"
+        for shown, wanted in SAID:
+            with open(path, "wb") as file:
+                file.write(shown.replace("|", "\n").encode("latin-1") + b"\n")
+            got = said_by(PROGRAM, path)
+            with self.subTest(f"what check says of {shown}"):
+                self.assertEqual(got, wanted)
+
+    def test_forms(self):
+        for shown, *wanted in FORMS:
+            path = written(f"{self.room}/form.agc", shown.replace("|", "\n").encode() + b"\n")
+            got = [next(iter(said_by(PROGRAM, path, *options)), None) for options in ((), ("--flight",))]
+            with self.subTest(f"what check says of the form {shown}"):
+                self.assertEqual(got, wanted)
+
+    def test_silent(self):
+        for elsewhere, shown, wanted in SILENT:
+            path = written(f"{self.room}/silent.agc", shown.replace("|", "\n").encode() + b"\n")
+            got = said_by(PROGRAM, path, "--unused", kind="warning")
+            with self.subTest(f"what check says of {shown}"):
+                self.assertEqual((got, bool(wanted)), (wanted, not elsewhere))
+            with self.subTest(f"asm takes {shown}"):
+                self.assertEqual(subprocess.run([PROGRAM, "asm", path, "/dev/null"], capture_output=True, timeout=300).returncode, 0)
+            if elsewhere.startswith("run --notes"):
+                notes = subprocess.run([PROGRAM, "run", "--notes", path, written(f"{self.room}/silent.feed", b"5 RUPT 3\n"), "40"], capture_output=True, timeout=300).stderr
+                with self.subTest(f"run --notes of {shown}"):
+                    self.assertTrue(notes.startswith((b"NOTE NOHANDLER", b"NOTE INSIDE")), str(notes))
+
+    def test_feeds(self):
+        source = written(f"{self.room}/good.agc", b" OCT 1\n")
+        for shown, wanted in FEEDS:
+            feed = written(f"{self.room}/said.feed", shown.replace("|", "\n").encode() + b"\n")
+            got = said_by(PROGRAM, feed, source)
+            with self.subTest(f"what check says of the feed {shown[:40]}"):
+                self.assertEqual(got, [wanted] if wanted else [])
+            refused = subprocess.run([PROGRAM, "run", source, feed, "0"], capture_output=True, timeout=300).stderr
+            with self.subTest(f"check and run of the feed {shown[:40]}"):
+                self.assertTrue(bool(refused) == bool(wanted) and (not wanted or refused.startswith(b"agcws: " + wanted[2].partition(":")[0].encode())), f"{refused}")
+
+    def test_files(self):
+        """What is told of several files, what stays told where a file cannot be read, and files of another kind."""
+        source, good, bad = written(f"{self.room}/a.agc", b" TC FIV\n"), written(f"{self.room}/good.feed", b"5 RUPT 1\n"), written(f"{self.room}/bad.feed", b"5 RUPT 11\n")
+        ran = lambda *files: subprocess.run([PROGRAM, "check", *files], capture_output=True, timeout=300)
+        of_source = f"{source}:1:5: error E17: no line defines FIV\n    1 |  TC FIV\n      |     ^^^\n      = FIV in the first column of the line to which TC is to lead\n"
+        of_feed = f"{bad}:1:8: error E30: 11 is no interrupt, which are 1 to 10\n    1 | 5 RUPT 11\n      |        ^^\n"
+        got = ran(source, bad, good, bad)
+        with self.subTest("check of a source and three feeds"):
+            self.assertEqual((got.returncode, got.stdout.decode(), got.stderr), (1, of_source + of_feed + of_feed + "3 errors, 0 warnings\n", b""))
+        got = ran(source, bad, self.room)
+        with self.subTest("check of a feed that cannot be read"):
+            self.assertEqual((got.returncode, got.stdout.decode(), got.stderr), (3, of_source + of_feed, f"{self.room}: error E6: a file could not be opened or read\n".encode()))
+        got = ran(source, bad, f"{self.room}/none")
+        with self.subTest("check of a feed that is not there"):
+            self.assertEqual((got.returncode, got.stdout, got.stderr), (3, b"", f"{self.room}/none: error E6: a file could not be opened or read\n".encode()))
+        got = ran(f"{self.room}/none", bad)
+        with self.subTest("check of a source that is not there"):
+            self.assertEqual((got.returncode, got.stdout, got.stderr), (3, b"", f"{self.room}/none: error E6: a file could not be opened or read\n".encode()))
+        got = ran(source, bad, written(f"{self.room}/long.feed", b"#" * 8388609))
+        with self.subTest("check of a feed that is too long"):
+            self.assertEqual((got.returncode, got.stdout.decode(), got.stderr), (1, of_source + of_feed, f"{self.room}/long.feed: error E34: a source, a feed or a table of names has more than 8,388,608 bytes\n".encode()))
+        image = f"{self.room}/a.rope"
+        subprocess.run([PROGRAM, "asm", written(f"{self.room}/one.agc", b" OCT 1\n"), image], capture_output=True, check=True)
+        kinds = {
+            (image,): f"{image}: this is a rope image, and no source: run, trace, cover and debug take it with --image",
+            (good,): f"{good}: this is a feed, and no source: it stands after the source",
+            (f"{self.room}/one.agc", image): f"{image}: this is a rope image, and no feed: run, trace, cover and debug take it with --image, before the feed",
+            (f"{self.room}/one.agc", source): f"{source}: this is a source, and no feed: it stands first",
+        }
+        for files, wanted in kinds.items():
+            got = ran(*files)
+            lines = got.stdout.decode("latin-1").split("\n")
+            with self.subTest(f"check of a file of another kind: {wanted[-40:]}"):
+                self.assertEqual((got.returncode, lines[-3], lines.count(wanted)), (1, wanted, 1))
+        longest = max(map(len, ran(image).stdout.split(b"\n")))
+        with self.subTest("what check shows of the lines of an image"):
+            self.assertTrue(longest < 200, str(longest))
+        for files in ((source, good), (f"{self.room}/one.agc", good)):
+            with self.subTest("check of files of their kinds"):
+                self.assertNotIn(b": this is ", ran(*files).stdout, f"{ran(*files)}")
+
+    def test_excerpt(self):
+        path = f"{self.room}/excerpt.agc"
+        with open(path, "wb") as file:
+            file.write(b"X OCT 1\n\tTC\tFIV # \xb5\n TC FIV +1\n")
+        wanted = f"""{path}:2:11: error E10: this byte is not ASCII, and a line holds ASCII alone, its comment too
+    2 | \tTC\tFIV # ?
+      | \t  \t      ^
+{path}:3:5: error E17: no line defines FIV
+    3 |  TC FIV +1
+      |     ^^^
+      = FIV in the first column of the line to which TC is to lead
+2 errors, 0 warnings
+""".encode()
+        got = subprocess.run([PROGRAM, "check", path], capture_output=True, timeout=300)
+        with self.subTest("what check writes"):
+            self.assertEqual((got.returncode, got.stdout, got.stderr), (1, wanted, b""), f"got {got}")
+
+    def test_rows_of_explain(self):
+        """What `explain` tells is what rows/refusals.txt has."""
+        manual = rows_of_refusals()
+        rows = re.findall(r"^\| E(\d+) \| (.*) \| (.*) \| (\d*) ?\|$", manual, re.M)
+        for number in sorted({int(it[0]) for it in rows if int(it[0]) >= 10 and it[0] != "34"}):
+            wanted = [(plain(mistake), "" if source.startswith("(") else source.strip("`").replace("\xb5", "\\xC2\\xB5"), line) for n, mistake, source, line in rows if int(n) == number]
+            got = list(rows_explained(PROGRAM, f"E{number}"))
+            with self.subTest(f"explain E{number} and refusals.txt"):
+                self.assertEqual(got, wanted)
+        headings = re.findall(r"^\| E(\d+) \| ([^|]*) \| \d \|$", manual, re.M)
+        with self.subTest("the refusals of images, memory and devices"):
+            self.assertEqual(sorted(int(it[0]) for it in headings), [*range(2, 8), 34])
+        for number, meaning in headings:
+            got = subprocess.run([PROGRAM, "explain", f"E{number}"], capture_output=True, text=True, timeout=300).stdout.split("\n")[0]
+            with self.subTest(f"explain E{number} and refusals.txt"):
+                self.assertEqual(got, f"E{number}: {meaning}")
+
+    def test_rows_of_warnings(self):
+        """Each warning of rows/refusals.txt is drawn on its line."""
+        rows = re.findall(r"^\| W(\d+) \| (.*) \| `(.*)` \| (\d+) \|$", rows_of_refusals(), re.M)
+        with self.subTest("the rows of warnings"):
+            self.assertEqual([int(it[0]) for it in rows], [*range(1, 11)])
+        for number, mistake, source, line in rows:
+            got = list(rows_explained(PROGRAM, f"W{number}"))
+            with self.subTest(f"explain W{number} and refusals.txt"):
+                self.assertEqual(got, [(plain(mistake), source, line)])
+            _, found, _, _ = warned_by(PROGRAM, written(f"{self.room}/row.agc", source.replace(";", "\n").encode() + b"\n"), "--unused")
+            with self.subTest(f"the row of W{number}"):
+                self.assertIn((int(line), f"W{number}"), {(it[0], it[2]) for it in found}, str(found))
+
+    def test_numbers(self):
+        ran = lambda *words: subprocess.run([PROGRAM, "explain", *words], capture_output=True, timeout=300)
+        numbers = [int(it) for it in re.findall(rb"^E(\d+): .", ran().stdout, re.M)]
+        with self.subTest("explain lists the numbers"):
+            self.assertEqual(numbers, [*range(2, 8), *range(10, 27), *range(30, 37), 40, 41, 42, 50, 51, 52])
+        with self.subTest("explain 17 is explain E17"):
+            self.assertTrue(ran("17") == ran("E17") or ran("17").stdout == ran("E17").stdout)
+        warned = [int(it) for it in re.findall(rb"^W(\d+): .", ran().stdout, re.M)]
+        with self.subTest("explain lists the numbers of warnings"):
+            self.assertEqual(warned, [*range(1, 11)])
+        for word in ("99", "E1", "X", "E", "256", "W", "W0", "W11", "w4"):
+            got = ran(word)
+            with self.subTest(f"explain {word}"):
+                self.assertEqual((got.returncode, got.stdout, got.stderr), (2, b"", b"error: no refusal, no warning and no note is called so; agcws explain lists them\n"))
+
+    def test_kinds_of_notes(self):
+        """Each kind of notes is explained: a sentence, causes with cures, and where the manual tells of it, which it does."""
+        with open(f"{ROOT}/docs/MANUAL.md", encoding="utf-8") as file:
+            manual = file.read()
+        with open(f"{ROOT}/crates/notes/specs/RunNotes.antt", encoding="utf-8") as file:
+            kinds = set(re.findall(r'codes "(?:NOTE )?([A-Z]{4,}) *(?:STEP )?"', file.read())) - {"NOTE", "STEP"}
+        with self.subTest("each kind of notes is explained"):
+            self.assertTrue(kinds <= set(KINDS), str(kinds - set(KINDS)))
+        listed = subprocess.run([PROGRAM, "explain"], capture_output=True, text=True, timeout=300).stdout
+        for kind, where in KINDS.items():
+            got = subprocess.run([PROGRAM, "explain", kind], capture_output=True, text=True, timeout=300)
+            heading, *causes, last = got.stdout.split("\n\n")
+            rest = "\n\n".join(causes) if causes else heading.partition("\n")[2]
+            has_cures = rest.count("- ") == rest.count("  Cure: ") > 0
+            with self.subTest(f"explain {kind}"):
+                self.assertTrue(got.returncode == 0 and heading.startswith(f"{kind}: ") and has_cures and last == f"Manual, {where}.\n", got.stdout)
+            with self.subTest(f"explain lists {kind}"):
+                self.assertIn(heading.split("\n")[0] + "\n", listed, listed)
+            found = re.fullmatch(r'section (\d+)(?:\.(\d+))?(?:, "(.*)")?', where)
+            section, part, words = found.groups()
+            heads = f"\n## {section}. " in manual and (part is None or f"\n### {section}.{part} " in manual)
+            with self.subTest(f"the row of {kind}"):
+                self.assertTrue(heads and (words is None or words.replace("an index leads past its table", "an index leads past its table") in manual), where)
+
+    def test_numbers_of_sessions(self):
+        """Each reply of a session that begins with E and a number from 40 on is explained, with a cure."""
+        for number in (40, 41, 42, 50, 51, 52):
+            got = subprocess.run([PROGRAM, "explain", f"E{number}"], capture_output=True, text=True, timeout=300)
+            with self.subTest(f"explain E{number}"):
+                self.assertTrue(got.returncode == 0 and got.stdout.count("- ") == got.stdout.count("  Cure: ") > 0, got.stdout)
+
+    def test_asm_and_check_agree(self):
+        """Where `asm` takes a source `check` tells nothing; and what `asm` tells is among what `check` does."""
+        path, wrong, refused = f"{self.room}/agreement.agc", [], 0
+        for text in sources(400, "agreement"):
+            with open(path, "wb") as file:
+                file.write(text)
+            fault = FAULT.match(subprocess.run([PROGRAM, "asm", path, "/dev/null"], capture_output=True, timeout=300).stderr)
+            status, found, _, _ = told_by(PROGRAM, path)
+            refused += bool(fault)
+            if status != int(bool(fault)) or bool(found) != bool(fault) or fault and (int(fault[2]), int(fault[1])) not in {(it[0], it[2]) for it in found}:
+                wrong.append((text, fault, found))
+        with self.subTest(f"check and asm of {400} sources"):
+            self.assertTrue(not wrong and 0 < refused < 400, f"{refused} refused, {len(wrong)} wrong: {wrong[:1]}")
 
 
-def check_checks(program, room, told):
-    check_mistakes(program, room, told)
-    check_said(program, room, told)
-    check_forms(program, room, told)
-    check_silent(program, room, told)
-    check_feeds(program, room, told)
-    check_files(program, room, told)
-    check_excerpt(program, room, told)
-    check_warnings(program, room, told)
-    check_examples_quiet(program, told, os.path.dirname(os.path.abspath(__file__)))
-    check_rows(program, told)
-    check_warning_rows(program, room, told)
-    check_numbers(program, told)
-    check_session_numbers(program, told)
-    check_kinds(program, told)
-    check_agreement(program, room, told)
-    lines = [it[1] if table is SILENT else it[0] for table in (MISTAKES, WARNINGS, SAID, FORMS, SILENT, NAMED) for it in table]
-    shown = [text.replace(";" if "|" not in text else "|", "\n").encode("latin-1") + b"\n" for text in lines]
-    check_found(program, room, told, shown, [it[0].replace("|", "\n").encode() + b"\n" for it in FEEDS])
+if __name__ == "__main__":
+    unittest.main()

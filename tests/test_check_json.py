@@ -2,6 +2,10 @@
 import json
 import subprocess
 import time
+import unittest
+
+from common import PROGRAM, Case
+from test_check import SHOWN as SOURCES, SHOWN_FEEDS as FEEDS
 
 SHOWN, WITH_FLIGHT = 120, "with --flight this is taken"
 
@@ -50,33 +54,6 @@ def is_right(found, lines):
     return all(1 <= it["column"] <= it["end"] <= len(lines[it["line"] - 1]) + 1 for it in places)
 
 
-def check_source(program, told, path, options, text):
-    """Compares both of a source, and tries its edits that are sure."""
-    with open(path, "wb") as file:
-        file.write(text)
-    lines, plain, got = text.split(b"\n"), ran(program, *options, path), ran(program, "--json", *options, path)
-    found = objects_of(got[1])
-    made = "".join(text_of(it, lines) for it in found)
-    told(f"check --json {' '.join(options)} of {text[:60]!r}", (got[0], got[2], made) == (plain[0], plain[2], plain[1].decode("latin-1")) and is_right(found, lines), f"{made}\n{plain[1].decode('latin-1')}")
-    for it in found:
-        if it.get("fix") and it["fix"]["sure"]:
-            with open(path, "wb") as file:
-                file.write(with_edit(text, it["fix"]))
-            left = objects_of(ran(program, "--json", *options, path)[1])
-            same = [one for one in left if "line" in one and (one["number"], one["said"]) == (it["number"], it["said"])]
-            had = [one for one in found if "line" in one and (one["number"], one["said"]) == (it["number"], it["said"])]
-            told(f"the edit {it['fix']} of {text[:60]!r}", len(same) < len(had), f"{same}")
-
-
-def check_feed(program, told, source, path, text):
-    """Compares both of a feed."""
-    with open(path, "wb") as file:
-        file.write(text)
-    plain, got = ran(program, source, path), ran(program, "--json", source, path)
-    made = "".join(text_of(it, text.split(b"\n")) for it in objects_of(got[1]))
-    told(f"check --json of the feed {text[:60]!r}", (got[0], got[2], made) == (plain[0], plain[2], plain[1].decode("latin-1")), f"{made}\n{plain[1].decode('latin-1')}")
-
-
 # Sources, each with the object of its first finding, worked by hand: the row of the manual, a name that is taken, one below, a place that is taken, and an odd name.
 WORKED = [
     (b"        SETLOC  4000\nSTART   CA      FIV\nFIVE    OCT     5\n", '"line":2,"column":17,"end":20,"said":"no line defines FIV","cure":"did you mean FIVE?","flight":false,"fix":{"line":2,"column":17,"end":20,"text":"FIVE","sure":true},"related":null}'),
@@ -88,39 +65,73 @@ WORKED = [
 ]
 
 
-def check_worked(program, room, told):
-    path = f"{room}/worked.agc"
-    for text, wanted in WORKED:
+class CheckJson(Case):
+    """Objects of sources and of feeds, beside the text of the same call."""
+
+    def compare_source(self, path, options, text):
+        """Compares both of a source, and tries its edits that are sure."""
         with open(path, "wb") as file:
             file.write(text)
-        first = ran(program, "--json", path)[1].decode("ascii").split("\n")[0]
-        told(f"the first object of {text!r}", first.endswith(wanted), f"wanted {wanted}, got {first}")
+        lines, plain, got = text.split(b"\n"), ran(PROGRAM, *options, path), ran(PROGRAM, "--json", *options, path)
+        found = objects_of(got[1])
+        made = "".join(text_of(it, lines) for it in found)
+        with self.subTest(f"check --json {' '.join(options)} of {text[:60]!r}"):
+            self.assertTrue((got[0], got[2], made) == (plain[0], plain[2], plain[1].decode("latin-1")) and is_right(found, lines), f"{made}\n{plain[1].decode('latin-1')}")
+        for it in found:
+            if it.get("fix") and it["fix"]["sure"]:
+                with open(path, "wb") as file:
+                    file.write(with_edit(text, it["fix"]))
+                left = objects_of(ran(PROGRAM, "--json", *options, path)[1])
+                same = [one for one in left if "line" in one and (one["number"], one["said"]) == (it["number"], it["said"])]
+                had = [one for one in found if "line" in one and (one["number"], one["said"]) == (it["number"], it["said"])]
+                with self.subTest(f"the edit {it['fix']} of {text[:60]!r}"):
+                    self.assertTrue(len(same) < len(had), f"{same}")
+
+    def compare_feed(self, source, path, text):
+        """Compares both of a feed."""
+        with open(path, "wb") as file:
+            file.write(text)
+        plain, got = ran(PROGRAM, source, path), ran(PROGRAM, "--json", source, path)
+        made = "".join(text_of(it, text.split(b"\n")) for it in objects_of(got[1]))
+        with self.subTest(f"check --json of the feed {text[:60]!r}"):
+            self.assertEqual((got[0], got[2], made), (plain[0], plain[2], plain[1].decode("latin-1")), f"{made}\n{plain[1].decode('latin-1')}")
+
+    def test_worked_by_hand(self):
+        path = f"{self.room}/worked.agc"
+        for text, wanted in WORKED:
+            with open(path, "wb") as file:
+                file.write(text)
+            first = ran(PROGRAM, "--json", path)[1].decode("ascii").split("\n")[0]
+            with self.subTest(f"the first object of {text!r}"):
+                self.assertTrue(first.endswith(wanted), f"wanted {wanted}, got {first}")
+
+    def test_many_faults(self):
+        """The time of a source of 65,536 faults is about that of its text."""
+        path = f"{self.room}/many.agc"
+        with open(path, "wb") as file:
+            file.write(b" FROB X\n" * 65536)
+        times = []
+        for options in ([], ["--json"]):
+            began = time.monotonic()
+            status, text, _ = ran(PROGRAM, *options, path)
+            times.append(time.monotonic() - began)
+        last = text.rpartition(b"\n{")[2]
+        with self.subTest("65,536 faults as objects"):
+            self.assertEqual((status, text.count(b"\n"), last), (1, 65537, b'"kind":"total","errors":65536,"warnings":0}\n'), f"{status} {last}")
+        with self.subTest("their time"):
+            self.assertTrue(times[1] < 1 + 4 * times[0], str(times))
+
+    def test_sources_and_feeds(self):
+        """Compares both of some sources and of some feeds: each a text."""
+        for text in SOURCES:
+            for options in ([], ["--flight"], ["--unused"]):
+                self.compare_source(f"{self.room}/found.agc", options, text)
+        source = f"{self.room}/sound.agc"
+        with open(source, "wb") as file:
+            file.write(b" OCT 1\n")
+        for text in FEEDS:
+            self.compare_feed(source, f"{self.room}/found.feed", text)
 
 
-def check_many(program, room, told):
-    """The time of a source of 65,536 faults is about that of its text."""
-    path = f"{room}/many.agc"
-    with open(path, "wb") as file:
-        file.write(b" FROB X\n" * 65536)
-    times = []
-    for options in ([], ["--json"]):
-        began = time.monotonic()
-        status, text, _ = ran(program, *options, path)
-        times.append(time.monotonic() - began)
-    last = text.rpartition(b"\n{")[2]
-    told("65,536 faults as objects", (status, text.count(b"\n"), last) == (1, 65537, b'"kind":"total","errors":65536,"warnings":0}\n'), f"{status} {last}")
-    told("their time", times[1] < 1 + 4 * times[0], str(times))
-
-
-def check_found(program, room, told, sources, feeds):
-    """Compares both of some sources and of some feeds: each a text."""
-    for text in sources:
-        for options in ([], ["--flight"], ["--unused"]):
-            check_source(program, told, f"{room}/found.agc", options, text)
-    source = f"{room}/sound.agc"
-    with open(source, "wb") as file:
-        file.write(b" OCT 1\n")
-    for text in feeds:
-        check_feed(program, told, source, f"{room}/found.feed", text)
-    check_worked(program, room, told)
-    check_many(program, room, told)
+if __name__ == "__main__":
+    unittest.main()

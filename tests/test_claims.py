@@ -2,9 +2,10 @@
 import random
 import re
 import subprocess
+import unittest
 from fractions import Fraction
 
-from files import write
+from common import IMAGE_BYTES, PROGRAM, Case, write
 
 # Forms of flight programs, a semicolon between two lines, and the number by which each is refused without --flight.
 FORMS = [
@@ -18,7 +19,6 @@ FORMS = [
 SUMS = [
     ([1, 1], 2), ([0o40001, 1], 0o40002), ([0o30000, 0o7777, 3], 3), ([0o70000, 0o7777, 3], 3), ([0o37777, 1, 0o40000], 0o40001), ([0o37777, 0o40000, 1], 1), ([0, 2], 2), ([0o77777, 2], 2),
 ]
-IMAGE_BYTES = 73728
 # Fields of lines with many faults: labels, operators, operands and what stands after these.
 LABELS = ["", "X", "X", "Y", "4000", "A$B", "LONGLABEL", "+3", "-Q", "12D"]
 OPERATORS = "CA TS FROB OCT DEC SETLOC BANK BLOCK EQUALS ERASE EXTEND READ WRITE CADR ECADR EBANK= 2CADR MP INDEX TCF CCS COUNT* 2DEC -CADR".split()
@@ -38,51 +38,55 @@ def constant(draw):
     return text, [32767 - it if sign == "-" else it for it in words] if number < 1 << bits else None
 
 
-class Claims:
-    """Tries claims by a program, in a folder."""
+class Claims(Case):
+    """Claims of the manual, by forms, constants, orders, breakpoints and sums."""
 
-    def __init__(self, program, told, room):
-        self.program, self.told, self.room = program, told, room
-        self.source, self.empty = f"{room}/claim.agc", f"{room}/claim.feed"
+    def setUp(self):
+        super().setUp()
+        self.source, self.empty = f"{self.room}/claim.agc", f"{self.room}/claim.feed"
         write(self.empty, b"")
 
     def call(self, *words, commands=""):
-        ran = subprocess.run([self.program, *words], input=commands.encode(), capture_output=True, timeout=300)
+        ran = subprocess.run([PROGRAM, *words], input=commands.encode(), capture_output=True, timeout=300)
         return ran.returncode, ran.stdout.decode(), ran.stderr.decode()
 
     def asm(self, text, *options):
         write(self.source, text.encode())
         return self.call("asm", *options, self.source, "/dev/null")
 
-    def try_forms(self):
+    def test_forms(self):
         for form, number in FORMS:
             text = form.replace(";", "\n") + "\n"
             refused, taken = self.asm(text), self.asm(text, "--flight")
-            self.told(f"the form {form[:40].strip()}", refused[0] == 1 and refused[2].startswith(f"agcws: E{number} ") and taken[0] == 0, f"{refused} {taken[2]}")
+            with self.subTest(f"the form {form[:40].strip()}"):
+                self.assertTrue(refused[0] == 1 and refused[2].startswith(f"agcws: E{number} ") and taken[0] == 0, f"{refused} {taken[2]}")
 
-    def try_scales(self):
+    def test_scales(self):
         for seed in range(4):
             draw = random.Random(seed)
             made = [it for it in (constant(draw) for _ in range(1500)) if it[1]][:400]
             status, listing, err = self.asm("".join(f"{text}\n" for text, _ in made), "--flight")
             got = [int(line.split(",")[1].split()[1], 8) for line in listing.splitlines() if "," in line]
-            self.told(f"{len(made)} constants with scales, {seed}", (status, got) == (0, [word for _, words in made for word in words]), err)
+            with self.subTest(f"{len(made)} constants with scales, {seed}"):
+                self.assertEqual((status, got), (0, [word for _, words in made for word in words]), err)
             for text, _ in [it for it in (constant(draw) for _ in range(200)) if not it[1]][:5]:
                 refused = self.asm(f"{text}\n", "--flight")
-                self.told(f"the constant {text}", refused[0] == 1 and refused[2] == "agcws: E26 LINE 1\n", f"{refused}")
+                with self.subTest(f"the constant {text}"):
+                    self.assertTrue(refused[0] == 1 and refused[2] == "agcws: E26 LINE 1\n", f"{refused}")
 
-    def try_order(self):
+    def test_order(self):
         """What is told of a source stands in the order of lines and columns, past the longest line too."""
         for seed in range(100):
             draw = random.Random(seed)
             lines = [draw.choice(LABELS) + " " * draw.choice((1, 1, 8, 60, 115, 119, 121)) + draw.choice(OPERATORS) + " " * draw.choice((1, 2, 30, 110)) + draw.choice(OPERANDS) + draw.choice(ENDS) for _ in range(8)]
             write(self.source, "".join(f"{it}\n" for it in lines).encode("latin-1"))
             for options in ((), ("--flight",)):
-                ran = subprocess.run([self.program, "check", *options, self.source], capture_output=True, timeout=300)
+                ran = subprocess.run([PROGRAM, "check", *options, self.source], capture_output=True, timeout=300)
                 found = [(int(line), int(column)) for line, column in re.findall(rf"^{re.escape(self.source)}:(\d+):(\d+): error".encode(), ran.stdout, re.M)]
-                self.told(f"the order of errors, {seed} {options}", len(found) > 0 and found == sorted(found), f"{found}")
+                with self.subTest(f"the order of errors, {seed} {options}"):
+                    self.assertTrue(len(found) > 0 and found == sorted(found), f"{found}")
 
-    def try_breaks(self):
+    def test_breaks(self):
         write(self.source, b" SETLOC 100\nSUM ERASE\n SETLOC 4000\nSTART CA FIVE\n TS SUM\n TCF START\nFIVE OCT 5\n")
         erasable = ["SUM", "7", "E3,1400", "E7,1777"]
         for seed in range(8):
@@ -94,7 +98,8 @@ class Claims:
             ]
             breaks = self.breaks_after(draw.sample(asked, 16))
             again = [f"break {it.split(' ', 2)[2]}" for it in breaks[:-1]]
-            self.told(f"breaks {seed}, read again", breaks[-1:] == ["COUNT 16"] and self.breaks_after(again) == breaks, f"{breaks}")
+            with self.subTest(f"breaks {seed}, read again"):
+                self.assertTrue(breaks[-1:] == ["COUNT 16"] and self.breaks_after(again) == breaks, f"{breaks}")
 
     def breaks_after(self, lines):
         _, out, _ = self.call("debug", "--extended", self.source, self.empty, commands="".join(f"{it}\n" for it in [*lines, "echo ----", "breaks"]))
@@ -106,9 +111,10 @@ class Claims:
         write(path, b"".join((2 * it).to_bytes(2, "big") for it in [*words, *[0] * (IMAGE_BYTES // 2 - len(words))]))
         return int(self.call("sums", "--rope", "1", path)[1].splitlines()[2].split()[1], 8)
 
-    def try_sums(self):
+    def test_sums(self):
         for words, wanted in SUMS:
-            self.told(f"the sum of {words}", self.sum_of(words) == wanted)
+            with self.subTest(f"the sum of {words}"):
+                self.assertEqual(self.sum_of(words), wanted)
         for seed in range(8):
             draw = random.Random(seed)
             words = [0, *(draw.randrange(1, 32767) for _ in range(draw.choice((2, 5, 1023))))]
@@ -117,14 +123,11 @@ class Claims:
             turned[one] ^= 0o40000
             exchanged[one], exchanged[other] = words[other], words[one]
             for what, changed in (("a sign turned", turned), ("two words exchanged", exchanged)):
-                self.told(f"the sum with {what}, {seed}", self.sum_of(changed) in (self.sum_of(words), self.sum_of(words) ^ 0o40000))
-            self.told(f"the sum with 77777 for 00000, {seed}", self.sum_of([0o77777, *words[1:]]) == self.sum_of(words))
+                with self.subTest(f"the sum with {what}, {seed}"):
+                    self.assertIn(self.sum_of(changed), (self.sum_of(words), self.sum_of(words) ^ 0o40000))
+            with self.subTest(f"the sum with 77777 for 00000, {seed}"):
+                self.assertEqual(self.sum_of([0o77777, *words[1:]]), self.sum_of(words))
 
 
-def check_claims(program, told, room):
-    tried = Claims(program, told, room)
-    tried.try_forms()
-    tried.try_scales()
-    tried.try_order()
-    tried.try_breaks()
-    tried.try_sums()
+if __name__ == "__main__":
+    unittest.main()

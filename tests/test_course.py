@@ -4,6 +4,9 @@ import re
 import shutil
 import subprocess
 import tempfile
+import unittest
+
+from common import EXAMPLES, PROGRAM, Case
 
 # Of each wrong solution, by lesson: a call of the program, or what is asked in a session after the run or after a shorter one, and what stands in the reply.
 TOLD = {
@@ -60,15 +63,15 @@ def test_of(text):
 class Exercise:
     """An exercise: its folder, its feed and its test."""
 
-    def __init__(self, program, folder):
-        self.program, self.folder = program, folder
+    def __init__(self, folder):
+        self.folder = folder
         feed = f"{folder}/exercise.feed"
         self.feed = feed if os.path.exists(feed) else os.devnull
         with open(f"{folder}/exercise.test", encoding="utf-8") as file:
             self.steps, self.wanted, self.may_note = test_of(file.read())
 
     def call(self, *words, given=""):
-        ran = subprocess.run([self.program, *words], input=given, capture_output=True, text=True, timeout=300)
+        ran = subprocess.run([PROGRAM, *words], input=given, capture_output=True, text=True, timeout=300)
         return ran.stdout, ran.stderr
 
     def passes(self, source):
@@ -86,7 +89,7 @@ class Exercise:
                 if os.path.exists(f"{self.folder}/{name}"):
                     shutil.copy(f"{self.folder}/{name}", room)
             shutil.copy(source, f"{room}/my.agc")
-            ran = subprocess.run([self.program, "expect", f"{room}/exercise.expect"], capture_output=True, text=True, timeout=300)
+            ran = subprocess.run([PROGRAM, "expect", f"{room}/exercise.expect"], capture_output=True, text=True, timeout=300)
         return ran.returncode, ran.stdout + ran.stderr
 
     def told(self, tool, source):
@@ -102,19 +105,32 @@ class Exercise:
         return "".join(self.call("debug", "--extended", source, self.feed, given=f"{first or f'run {steps}'}\n{last}\nquit\n"))
 
 
-def check_course(program, told, examples):
-    """Tries each exercise."""
-    for lesson, tools in TOLD.items():
-        it = Exercise(program, f"{examples}/course/{lesson:02}")
-        told(f"the model solution of lesson {lesson} passes", it.passes(f"{it.folder}/model.agc"), "")
-        status, said = it.judged(f"{it.folder}/model.agc")
-        told(f"expect passes the model solution of lesson {lesson}", status == 0 and "FAIL" not in said, said)
-        with open(f"{it.folder}/exercise.expect", encoding="utf-8") as file:
-            told(f"both tests of lesson {lesson} want the same", claims_of(file.read()) == (it.steps, it.wanted), "")
-        for number, (tool, wanted) in enumerate(tools, 1):
-            source = f"{it.folder}/wrong_{number}.agc"
-            said = it.told(tool, source)
-            told(f"{tool} tells of wrong solution {number} of lesson {lesson}", wanted in said, said[:2000])
-            told(f"wrong solution {number} of lesson {lesson} fails", tool == "check" or not it.passes(source), "")
-            status, said = it.judged(source)
-            told(f"expect does not pass wrong solution {number} of lesson {lesson}", tool == "check" or status == 1, said)
+class Course(Case):
+    """Exercises, each with its model solution and its wrong ones."""
+
+    def test_exercises(self):
+        """Tries each exercise."""
+        for lesson, tools in TOLD.items():
+            it = Exercise(f"{EXAMPLES}/course/{lesson:02}")
+            with self.subTest(f"the model solution of lesson {lesson} passes"):
+                self.assertTrue(it.passes(f"{it.folder}/model.agc"))
+            status, said = it.judged(f"{it.folder}/model.agc")
+            with self.subTest(f"expect passes the model solution of lesson {lesson}"):
+                self.assertTrue(status == 0 and "FAIL" not in said, said)
+            with open(f"{it.folder}/exercise.expect", encoding="utf-8") as file:
+                with self.subTest(f"both tests of lesson {lesson} want the same"):
+                    self.assertEqual(claims_of(file.read()), (it.steps, it.wanted))
+            for number, (tool, wanted) in enumerate(tools, 1):
+                source = f"{it.folder}/wrong_{number}.agc"
+                said = it.told(tool, source)
+                with self.subTest(f"{tool} tells of wrong solution {number} of lesson {lesson}"):
+                    self.assertIn(wanted, said, said[:2000])
+                with self.subTest(f"wrong solution {number} of lesson {lesson} fails"):
+                    self.assertTrue(tool == "check" or not it.passes(source))
+                status, said = it.judged(source)
+                with self.subTest(f"expect does not pass wrong solution {number} of lesson {lesson}"):
+                    self.assertTrue(tool == "check" or status == 1, said)
+
+
+if __name__ == "__main__":
+    unittest.main()

@@ -1,6 +1,9 @@
 """Compares what `agcws cover` counts with the lines of `agcws trace` of the same steps."""
 import re
 import subprocess
+import unittest
+
+from common import EXAMPLES, PROGRAM, Case, agcws, example_runs, write
 
 STEPS = 10_000
 END = ["INPUT", "ENTRY", "BRUPT", "TOTAL"]
@@ -32,13 +35,45 @@ def covered(rows):
     return found
 
 
-def check_cover(program, told, name, files):
-    """Compares the figures of the first steps of a program, and its rows with those of its listing."""
-    rows = lines_of(program, "cover", *files, str(STEPS))
-    wanted, cycles = traced(program, files)
-    figures = covered(rows)
-    told(f"cover of {name} beside trace", figures == {**wanted, "TOTAL": (STEPS, cycles)}, f"{figures} and {wanted}")
-    told(f"the end of cover of {name}", [row[22:] for row in rows[-4:]] == END, f"{rows[-4:]}")
-    listing = lines_of(program, "asm", files[0], "/dev/null")
-    listing = listing[: next(i for i, row in enumerate(listing) if row.startswith("SYMBOLS "))]
-    told(f"the rows of cover of {name}", [row[22:] for row in rows[: len(listing)]] == listing, "")
+class Cover(Case):
+    """Profiles, beside traces of the same steps."""
+
+    def test_examples(self):
+        for name, files in example_runs():
+            self.compare(name, files)
+
+    def compare(self, name, files):
+        """Compares the figures of the first steps of a program, and its rows with those of its listing."""
+        rows = lines_of(PROGRAM, "cover", *files, str(STEPS))
+        wanted, cycles = traced(PROGRAM, files)
+        figures = covered(rows)
+        with self.subTest(f"cover of {name} beside trace"):
+            self.assertEqual(figures, {**wanted, "TOTAL": (STEPS, cycles)})
+        with self.subTest(f"the end of cover of {name}"):
+            self.assertEqual([row[22:] for row in rows[-4:]], END)
+        listing = lines_of(PROGRAM, "asm", files[0], "/dev/null")
+        listing = listing[: next(i for i, row in enumerate(listing) if row.startswith("SYMBOLS "))]
+        with self.subTest(f"the rows of cover of {name}"):
+            self.assertEqual([row[22:] for row in rows[: len(listing)]], listing)
+
+    def test_images(self):
+        """Profiles of an image, of a place without a word, and of a refused feed."""
+        source, empty, rope = f"{EXAMPLES}/five_plus_five.agc", f"{EXAMPLES}/empty.feed", f"{self.room}/covered.rope"
+        agcws("asm", source, rope)
+        words = agcws("words", rope)[1].decode().split("\n")[:-1]
+        figures = {"02,4000": (1, 2), "02,4001": (1, 2), "02,4002": (1, 1), "02,4003": (1, 2)}
+        lines = ["%10s %10s %s" % (*figures.get(word[:7], ("-", "-")), word) for word in words]
+        none = [f"         -          - {name}" for name in ("INPUT", "ENTRY", "BRUPT")]
+        lines += none + ["         4          7 TOTAL"]
+        with self.subTest("a profile of an image"):
+            self.assertAnswer(agcws("cover", "--image", rope, empty, "4"), 0, "".join(f"{it}\n" for it in lines).encode())
+        away = write(f"{self.room}/away.agc", b" SETLOC 4000\n TC 1000\n")
+        rows = [" " * 22 + "    1                 SETLOC 4000", "         1          1     2 02,4000 01000   TC 1000", "         1          1 E2,1000", *none, "         2          2 TOTAL"]
+        with self.subTest("a profile of a place without a word"):
+            self.assertAnswer(agcws("cover", away, empty, "2"), 0, "".join(f"{it}\n" for it in rows).encode())
+        with self.subTest("a profile of a refused feed"):
+            self.assertAnswer(agcws("cover", source, source, "4"), 1, b"", b"agcws: E30 LINE 2\n")
+
+
+if __name__ == "__main__":
+    unittest.main()

@@ -4,6 +4,9 @@ import functools
 import itertools
 import random
 import subprocess
+import unittest
+
+from common import PROGRAM, Case
 
 BANKS, WORDS = 36, 1024
 PLACE = {2: 0o4000, 3: 0o6000}
@@ -160,14 +163,33 @@ def by_sum(pairs, bank, words):
     return f"SUM {it:05o}" if holds(other, others) else f"HAS THE SUM OF BANK {other:02o}"
 
 
-class Damages:
-    """The program that is tried, and the room for its images."""
+def changed(whole, bank, words):
+    return [words if it == bank else list(pairs) for it, pairs in enumerate(whole)]
 
-    def __init__(self, program, told, room):
-        self.program, self.told, self.path = program, told, f"{room}/damaged.rope"
+
+PARTS = ("hardware", "swapped", "complemented", "numbered")
+
+
+def ways_of(pairs, bank, offset, right):
+    """The words that may have stood at a place, by the sum."""
+    words = [pair >> 1 for pair in pairs[bank]]
+    ways = []
+    for bit in range(16):
+        mended = list(words)
+        mended[offset] ^= 1 << bit >> 1
+        ways += [f"{mended[offset]:05o}"] if holds(bank, mended) else []
+    return " OR ".join(ways)
+
+
+class Damages(Case):
+    """Each damage of a dump by one command; flipped bits; and random images."""
+
+    def setUp(self):
+        super().setUp()
+        self.path = f"{self.room}/damaged.rope"
 
     def ran(self, *words):
-        return subprocess.run([self.program, *words], capture_output=True, text=True, timeout=300)
+        return subprocess.run([PROGRAM, *words], capture_output=True, text=True, timeout=300)
 
     def lines(self, pairs, *options):
         return self.lines_of(image_of(pairs), *options)
@@ -182,175 +204,168 @@ class Damages:
 
     def names(self, label, pairs, wanted):
         got = self.lines(pairs)
-        self.told(f"damages: {label}", got == wanted and got == told_of(pairs), f"{got[:6]} in place of {wanted[:6]}, {told_of(pairs)[:6]}")
+        with self.subTest(f"damages: {label}"):
+            self.assertTrue(got == wanted and got == told_of(pairs), f"{got[:6]} in place of {wanted[:6]}, {told_of(pairs)[:6]}")
+
+    def check_damages(self):
+        """Each damage of a dump by one command; flipped bits; and random images."""
+        banks = rope(64)
+        whole = pairs_of(banks)
+        self.names("none", whole, ["COUNT 0"])
+        self.one_by_one(whole)
+        self.flipped_bits(whole)
+        self.other_forms(banks)
+        self.one_module(banks)
+        self.octal_texts(banks)
+        for seed in range(4):
+            chance = random.Random(seed)
+            pairs = [[chance.randrange(65536) & chance.choice((65535, 65533)) for _ in range(WORDS)] for _ in range(BANKS)]
+            self.names(f"random bytes {seed}", pairs, told_of(pairs))
+
+    def one_by_one(self, whole):
+        """One damage of a kind at a time, at a bank that a seed says."""
+        chance = random.Random(641)
+        bank = chance.randrange(4, 28)
+        name = f"BANK {bank:02o}"
+        offset = chance.randrange(WORDS)
+        word = whole[bank][offset] >> 1
+        twice = list(whole[bank])
+        twice[offset] ^= 0o6
+        total_of = total([pair >> 1 for pair in twice])
+        self.names("two bits in a word", changed(whole, bank, twice), [f"{name} {by_sum(changed(whole, bank, twice), bank, [it >> 1 for it in twice])}", "COUNT 1"])
+        with self.subTest("damages: the sum of two bits"):
+            self.assertIn(f"{total_of:05o}", " ".join(self.lines(changed(whole, bank, twice))))
+        exchanged = list(whole)
+        exchanged[5], exchanged[6] = whole[6], whole[5]
+        self.names("two banks exchanged", exchanged, ["BANK 05 EXCHANGED WITH BANK 06", "BANK 06 EXCHANGED WITH BANK 05", "COUNT 2"])
+        self.names("banks by their numbers", whole[2:4] + whole[:2] + whole[4:], ["BANKS BY THEIR NUMBERS", "COUNT 1"])
+        alone = [whole[0], whole[31], whole[31], whole[31], *whole[4:]]
+        self.names("banks by their numbers, one of the first with words", [*alone[2:4], *alone[:2], *alone[4:]], ["BANKS BY THEIR NUMBERS", "COUNT 1"])
+        two = list(whole)
+        two[0], two[2] = whole[2], whole[0]
+        self.names("the first banks exchanged", two, ["BANK 00 EXCHANGED WITH BANK 02", "BANK 02 EXCHANGED WITH BANK 00", "COUNT 2"])
+        self.names("a bank read twice", changed(whole, bank, whole[bank - 1]), [f"{name} HAS THE WORDS OF BANK {bank - 1:02o}", "COUNT 1"])
+        self.names("the other parity", [[pair ^ 1 for pair in pairs] for pairs in whole], ["PARITY THE OTHER WAY ROUND", "COUNT 1"])
+        other = [[pair ^ 1 for pair in pairs] for pairs in whole]
+        other[bank][offset] ^= 1
+        self.names("the other parity, and a parity bit", other, ["PARITY THE OTHER WAY ROUND", f"{place(bank, offset)} {word:05o} IS {ways_of(other, bank, offset, 0)} BY THE SUM", "COUNT 2"])
+        for bit, value in ((7, 0), (1, 1), (14, 0)):
+            lost = [pair & ~(1 << bit) if value == 0 else pair | 1 << bit for pair in whole[bank]]
+            wrong = sum(a != b for a, b in zip(lost, whole[bank]))
+            self.names(f"bit {bit} always {value}", changed(whole, bank, lost), [f"{name} BIT {bit} ALWAYS {value}, WRONG IN {wrong} WORDS BY THE SUM", "COUNT 1"])
+        lost = [pair & ~1 for pair in whole[bank]]
+        self.names("no parity bit", changed(whole, bank, lost), [f"{name} RIGHT BY THE SUM, {sum(a != b for a, b in zip(lost, whole[bank]))} PARITY BITS WRONG", "COUNT 1"])
+        for bit in (1, 7, 10):
+            dead = [whole[bank][it & ~(1 << bit - 1)] for it in range(WORDS)]
+            self.names(f"address bit {bit}", changed(whole, bank, dead), [f"{name} ADDRESS BIT {bit} MAKES NO DIFFERENCE", "COUNT 1"])
+        self.names("a bank of ones", changed(whole, bank, [0o177777 - 1] * WORDS), [f"{name} ALL 77777", "COUNT 1"])
+        self.names("a bank without bytes", changed(whole, bank, [0] * WORDS), [f"{name} ALL 00000, 1024 OF WRONG PARITY", "COUNT 1"])
+        self.names("all bits the other way round", [[pair ^ 0o177777 for pair in pairs] for pairs in whole], ["ALL BITS COMPLEMENTED", "COUNT 1"])
+        self.names("bytes exchanged", [[bytes_exchanged(pair) for pair in pairs] for pairs in whole], ["BYTES EXCHANGED", "COUNT 1"])
+        self.names("the order of the hardware", [[of_hardware(pair) for pair in pairs] for pairs in whole], ["BITS IN THE ORDER OF THE HARDWARE", "COUNT 1"])
+        self.names("both", [[bytes_exchanged(of_hardware(pair)) for pair in pairs] for pairs in whole], ["BYTES EXCHANGED, BITS IN THE ORDER OF THE HARDWARE", "COUNT 1"])
+        blank = list(whole[30])
+        blank[offset] ^= 8
+        self.names("a bit in an empty bank", changed(whole, 30, blank), [f"{place(30, offset)} 00004 HAS WRONG PARITY", "COUNT 1"])
+
+    def other_forms(self, banks):
+        """An image in each form has the words that it has as written, and its damages."""
+        pairs = pairs_of(banks)
+        pairs[12][0o137] ^= 8
+        wanted = told_of(pairs)
+        for names in itertools.chain.from_iterable(itertools.combinations(PARTS, count) for count in range(1, 5)):
+            got = self.lines_of(in_form(names, pairs), "--form", ",".join(names))
+            with self.subTest(f"damages: the form {names}"):
+                self.assertEqual(got, wanted)
+        with open(self.path, "wb") as file:
+            file.write(in_form(PARTS, pairs_of(banks)))
+        ran = self.ran("words", "--octal", "--form", ",".join(PARTS), self.path)
+        with self.subTest("octal words of an image in another form"):
+            self.assertEqual((ran.returncode, ran.stdout, ran.stderr), (0, octals_of(banks), ""), ran.stdout[:80] + ran.stderr)
+        for names in ("", "numbered,swapped", "hardware,hardware", "written", "module"):
+            with self.subTest(f"the form {names}"):
+                self.assertEqual(self.ran("words", "--form", names, self.path).returncode, 2)
+
+    def one_module(self, banks):
+        """One module of six banks alone, with zeros before and behind it, as the manual has it, has the words of its banks, and no others."""
+        pairs = pairs_of(banks)
+        for number in range(6):
+            bytes_of = b"".join(pair.to_bytes(2, "big") for bank in pairs[6 * number : 6 * number + 6] for pair in bank)
+            with open(f"{self.path}.module", "wb") as file:
+                file.write(bytes_of)
+            joined = f"{{ head -c $((12288 * {number})) /dev/zero; cat {self.path}.module; head -c $((12288 * (5 - {number}))) /dev/zero; }} > {self.path}"
+            subprocess.run(["bash", "-c", joined], check=True, timeout=60)
+            ran = self.ran("words", "--octal", "--parity", "ignore", "--form", "numbered", self.path)
+            wanted = octals_of([words if bank // 6 == number else [0] * WORDS for bank, words in enumerate(banks)])
+            with self.subTest(f"module {number} alone"):
+                self.assertEqual((ran.returncode, ran.stdout, ran.stderr), (0, wanted, ""), ran.stdout[:80] + ran.stderr)
+
+    def octal_texts(self, banks):
+        """A text of octal words is taken for the image of its words; a line of another form is told."""
+        text = octals_of(banks)
+        shorter = "; words of a rope\r\n\n" + text.replace("BANK=05\n", "BANK=5 ; the sixth\r\n\n").replace("BANK=44", "").split(f"BANK={28:02o}")[0]
+        path = self.path + ".binsource"
+        for label, it in (("a text of octal words", text), ("comments and fewer banks", shorter)):
+            with open(path, "w", encoding="ascii", newline="") as file:
+                file.write(it)
+            ran = self.ran("damages", path)
+            with self.subTest(f"damages: {label}"):
+                self.assertEqual((ran.returncode, ran.stdout, ran.stderr), (0, "COUNT 0\n", ""), ran.stdout + ran.stderr)
+            ran = self.ran("words", "--octal", "--rope", "1", path)
+            with self.subTest(f"octal words of {label}"):
+                self.assertEqual(ran.stdout, text, ran.stdout[:80] + ran.stderr)
+        wrong = ["BANK=44\n", "BANK=2 BANK=3\n", "BANK=\n", "BANK=9\n", "BANK=02\n00001\nBANK=2\n", "00001\n", "BANK=02\n00001 @\n", "BANK=02\n0001\n00002", "BANK=02\n00001 00008\n", "BANK=02\nNUMBANKS=044\n"]
+        wrong += [f"BANK=02\n{'00001 ' * 1025}\n", f"BANK=02\n{'00001 ' * 1024}\n00001\n"]
+        for it in wrong:
+            with open(path, "w", encoding="ascii") as file:
+                file.write(it)
+            ran = self.ran("words", path)
+            lines = it.splitlines()
+            line = 3 if it.startswith(("BANK=02\n00001\nBANK", "BANK=02\n00001 00001")) and len(lines) == 3 else 1 if len(lines) == 1 else 2
+            said = f"{path}:{line}: error: a text of octal words has lines of BANK= and a bank, each once, and below it words of five octal digits, at most 1024\n"
+            with self.subTest(f"octal words refused: {it[:24]!r}"):
+                self.assertTrue(ran.returncode == 1 and ran.stdout == "" and ran.stderr.startswith(said) and ran.stderr[len(said) :] in ("agcws: E3\n", "agcws: E5\n"), ran.stderr)
+
+    def mended(self, pairs, whole, lines):
+        """The image of the source that `damages --source` writes has the words that are told alone; the others stand as they are."""
+        source, made = f"{self.path}.agc", f"{self.path}.made"
+        with open(source, "wb") as file:
+            told = subprocess.run([PROGRAM, "damages", "--source", self.path], stdout=file, timeout=300).returncode
+        made_it = subprocess.run([PROGRAM, "asm", source, made], stdout=subprocess.DEVNULL, timeout=300).returncode
+        wanted = [list(words) for words in whole]
+        for bank, line in enumerate(lines[:-1]):
+            if " OR " in line:
+                wanted[bank] = pairs_of([[pair >> 1 for pair in pairs[bank]]])[0]
+        with open(made, "rb") as file:
+            with self.subTest("damages: flipped bits mended"):
+                self.assertTrue((told, made_it) == (0, 0) and file.read() == image_of(wanted))
+
+    def flipped_bits(self, whole):
+        """Single bits that flip, one a filled bank at a time: the word that stood there is always told, and most often alone."""
+        chance = random.Random(1)
+        alone = among = 0
+        while alone + among < FLIPS:
+            pairs = [list(words) for words in whole]
+            flips = {bank: (chance.randrange(WORDS), 1 << chance.randrange(16)) for bank in range(28)}
+            for bank, (offset, bit) in flips.items():
+                pairs[bank][offset] ^= bit
+            lines = self.lines(pairs)
+            if len(lines) != 29:
+                with self.subTest("damages: flipped bits"):
+                    self.fail(f"{lines[:4]}")
+                return
+            for (bank, (offset, _)), line in zip(flips.items(), lines):
+                head, _, ways = line.removesuffix(" BY THE SUM").partition(" IS ")
+                ways = ways.split(" OR ")
+                if head != f"{place(bank, offset)} {pairs[bank][offset] >> 1:05o}" or f"{whole[bank][offset] >> 1:05o}" not in ways:
+                    with self.subTest("damages: flipped bits"):
+                        self.fail(line)
+                    return
+                alone, among = alone + (len(ways) == 1), among + (len(ways) > 1)
+            self.mended(pairs, whole, lines)
+        with self.subTest("damages: flipped bits"):
+            self.assertTrue(5 * alone > 4 * (alone + among), f"{alone} alone, {among} among others")
 
 
-def check_damages(program, told, room):
-    """Each damage of a dump by one command; flipped bits; and random images."""
-    tried = Damages(program, told, room)
-    banks = rope(64)
-    whole = pairs_of(banks)
-    tried.names("none", whole, ["COUNT 0"])
-    one_by_one(tried, whole)
-    flipped_bits(tried, whole)
-    other_forms(tried, banks)
-    one_module(tried, banks)
-    octal_texts(tried, banks)
-    for seed in range(4):
-        chance = random.Random(seed)
-        pairs = [[chance.randrange(65536) & chance.choice((65535, 65533)) for _ in range(WORDS)] for _ in range(BANKS)]
-        tried.names(f"random bytes {seed}", pairs, told_of(pairs))
-
-
-def changed(whole, bank, words):
-    return [words if it == bank else list(pairs) for it, pairs in enumerate(whole)]
-
-
-def one_by_one(tried, whole):
-    """One damage of a kind at a time, at a bank that a seed says."""
-    chance = random.Random(641)
-    bank = chance.randrange(4, 28)
-    name = f"BANK {bank:02o}"
-    offset = chance.randrange(WORDS)
-    word = whole[bank][offset] >> 1
-    twice = list(whole[bank])
-    twice[offset] ^= 0o6
-    total_of = total([pair >> 1 for pair in twice])
-    tried.names("two bits in a word", changed(whole, bank, twice), [f"{name} {by_sum(changed(whole, bank, twice), bank, [it >> 1 for it in twice])}", "COUNT 1"])
-    tried.told("damages: the sum of two bits", f"{total_of:05o}" in " ".join(tried.lines(changed(whole, bank, twice))))
-    exchanged = list(whole)
-    exchanged[5], exchanged[6] = whole[6], whole[5]
-    tried.names("two banks exchanged", exchanged, ["BANK 05 EXCHANGED WITH BANK 06", "BANK 06 EXCHANGED WITH BANK 05", "COUNT 2"])
-    tried.names("banks by their numbers", whole[2:4] + whole[:2] + whole[4:], ["BANKS BY THEIR NUMBERS", "COUNT 1"])
-    alone = [whole[0], whole[31], whole[31], whole[31], *whole[4:]]
-    tried.names("banks by their numbers, one of the first with words", [*alone[2:4], *alone[:2], *alone[4:]], ["BANKS BY THEIR NUMBERS", "COUNT 1"])
-    two = list(whole)
-    two[0], two[2] = whole[2], whole[0]
-    tried.names("the first banks exchanged", two, ["BANK 00 EXCHANGED WITH BANK 02", "BANK 02 EXCHANGED WITH BANK 00", "COUNT 2"])
-    tried.names("a bank read twice", changed(whole, bank, whole[bank - 1]), [f"{name} HAS THE WORDS OF BANK {bank - 1:02o}", "COUNT 1"])
-    tried.names("the other parity", [[pair ^ 1 for pair in pairs] for pairs in whole], ["PARITY THE OTHER WAY ROUND", "COUNT 1"])
-    other = [[pair ^ 1 for pair in pairs] for pairs in whole]
-    other[bank][offset] ^= 1
-    tried.names("the other parity, and a parity bit", other, ["PARITY THE OTHER WAY ROUND", f"{place(bank, offset)} {word:05o} IS {ways_of(other, bank, offset, 0)} BY THE SUM", "COUNT 2"])
-    for bit, value in ((7, 0), (1, 1), (14, 0)):
-        lost = [pair & ~(1 << bit) if value == 0 else pair | 1 << bit for pair in whole[bank]]
-        wrong = sum(a != b for a, b in zip(lost, whole[bank]))
-        tried.names(f"bit {bit} always {value}", changed(whole, bank, lost), [f"{name} BIT {bit} ALWAYS {value}, WRONG IN {wrong} WORDS BY THE SUM", "COUNT 1"])
-    lost = [pair & ~1 for pair in whole[bank]]
-    tried.names("no parity bit", changed(whole, bank, lost), [f"{name} RIGHT BY THE SUM, {sum(a != b for a, b in zip(lost, whole[bank]))} PARITY BITS WRONG", "COUNT 1"])
-    for bit in (1, 7, 10):
-        dead = [whole[bank][it & ~(1 << bit - 1)] for it in range(WORDS)]
-        tried.names(f"address bit {bit}", changed(whole, bank, dead), [f"{name} ADDRESS BIT {bit} MAKES NO DIFFERENCE", "COUNT 1"])
-    tried.names("a bank of ones", changed(whole, bank, [0o177777 - 1] * WORDS), [f"{name} ALL 77777", "COUNT 1"])
-    tried.names("a bank without bytes", changed(whole, bank, [0] * WORDS), [f"{name} ALL 00000, 1024 OF WRONG PARITY", "COUNT 1"])
-    tried.names("all bits the other way round", [[pair ^ 0o177777 for pair in pairs] for pairs in whole], ["ALL BITS COMPLEMENTED", "COUNT 1"])
-    tried.names("bytes exchanged", [[bytes_exchanged(pair) for pair in pairs] for pairs in whole], ["BYTES EXCHANGED", "COUNT 1"])
-    tried.names("the order of the hardware", [[of_hardware(pair) for pair in pairs] for pairs in whole], ["BITS IN THE ORDER OF THE HARDWARE", "COUNT 1"])
-    tried.names("both", [[bytes_exchanged(of_hardware(pair)) for pair in pairs] for pairs in whole], ["BYTES EXCHANGED, BITS IN THE ORDER OF THE HARDWARE", "COUNT 1"])
-    blank = list(whole[30])
-    blank[offset] ^= 8
-    tried.names("a bit in an empty bank", changed(whole, 30, blank), [f"{place(30, offset)} 00004 HAS WRONG PARITY", "COUNT 1"])
-
-
-PARTS = ("hardware", "swapped", "complemented", "numbered")
-
-
-def other_forms(tried, banks):
-    """An image in each form has the words that it has as written, and its damages."""
-    pairs = pairs_of(banks)
-    pairs[12][0o137] ^= 8
-    wanted = told_of(pairs)
-    for names in itertools.chain.from_iterable(itertools.combinations(PARTS, count) for count in range(1, 5)):
-        got = tried.lines_of(in_form(names, pairs), "--form", ",".join(names))
-        tried.told(f"damages: the form {names}", got == wanted, f"{got[:3]} in place of {wanted}")
-    with open(tried.path, "wb") as file:
-        file.write(in_form(PARTS, pairs_of(banks)))
-    ran = tried.ran("words", "--octal", "--form", ",".join(PARTS), tried.path)
-    tried.told("octal words of an image in another form", (ran.returncode, ran.stdout, ran.stderr) == (0, octals_of(banks), ""), ran.stdout[:80] + ran.stderr)
-    for names in ("", "numbered,swapped", "hardware,hardware", "written", "module"):
-        tried.told(f"the form {names}", tried.ran("words", "--form", names, tried.path).returncode == 2)
-
-
-def one_module(tried, banks):
-    """One module of six banks alone, with zeros before and behind it, as the manual has it, has the words of its banks, and no others."""
-    pairs = pairs_of(banks)
-    for number in range(6):
-        bytes_of = b"".join(pair.to_bytes(2, "big") for bank in pairs[6 * number : 6 * number + 6] for pair in bank)
-        with open(f"{tried.path}.module", "wb") as file:
-            file.write(bytes_of)
-        joined = f"{{ head -c $((12288 * {number})) /dev/zero; cat {tried.path}.module; head -c $((12288 * (5 - {number}))) /dev/zero; }} > {tried.path}"
-        subprocess.run(["bash", "-c", joined], check=True, timeout=60)
-        ran = tried.ran("words", "--octal", "--parity", "ignore", "--form", "numbered", tried.path)
-        wanted = octals_of([words if bank // 6 == number else [0] * WORDS for bank, words in enumerate(banks)])
-        tried.told(f"module {number} alone", (ran.returncode, ran.stdout, ran.stderr) == (0, wanted, ""), ran.stdout[:80] + ran.stderr)
-
-
-def octal_texts(tried, banks):
-    """A text of octal words is taken for the image of its words; a line of another form is told."""
-    text = octals_of(banks)
-    shorter = "; words of a rope\r\n\n" + text.replace("BANK=05\n", "BANK=5 ; the sixth\r\n\n").replace("BANK=44", "").split(f"BANK={28:02o}")[0]
-    path = tried.path + ".binsource"
-    for label, it in (("a text of octal words", text), ("comments and fewer banks", shorter)):
-        with open(path, "w", encoding="ascii", newline="") as file:
-            file.write(it)
-        ran = tried.ran("damages", path)
-        tried.told(f"damages: {label}", (ran.returncode, ran.stdout, ran.stderr) == (0, "COUNT 0\n", ""), ran.stdout + ran.stderr)
-        ran = tried.ran("words", "--octal", "--rope", "1", path)
-        tried.told(f"octal words of {label}", ran.stdout == text, ran.stdout[:80] + ran.stderr)
-    wrong = ["BANK=44\n", "BANK=2 BANK=3\n", "BANK=\n", "BANK=9\n", "BANK=02\n00001\nBANK=2\n", "00001\n", "BANK=02\n00001 @\n", "BANK=02\n0001\n00002", "BANK=02\n00001 00008\n", "BANK=02\nNUMBANKS=044\n"]
-    wrong += [f"BANK=02\n{'00001 ' * 1025}\n", f"BANK=02\n{'00001 ' * 1024}\n00001\n"]
-    for it in wrong:
-        with open(path, "w", encoding="ascii") as file:
-            file.write(it)
-        ran = tried.ran("words", path)
-        lines = it.splitlines()
-        line = 3 if it.startswith(("BANK=02\n00001\nBANK", "BANK=02\n00001 00001")) and len(lines) == 3 else 1 if len(lines) == 1 else 2
-        said = f"{path}:{line}: error: a text of octal words has lines of BANK= and a bank, each once, and below it words of five octal digits, at most 1024\n"
-        tried.told(f"octal words refused: {it[:24]!r}", ran.returncode == 1 and ran.stdout == "" and ran.stderr.startswith(said) and ran.stderr[len(said) :] in ("agcws: E3\n", "agcws: E5\n"), ran.stderr)
-
-
-def ways_of(pairs, bank, offset, right):
-    """The words that may have stood at a place, by the sum."""
-    words = [pair >> 1 for pair in pairs[bank]]
-    ways = []
-    for bit in range(16):
-        mended = list(words)
-        mended[offset] ^= 1 << bit >> 1
-        ways += [f"{mended[offset]:05o}"] if holds(bank, mended) else []
-    return " OR ".join(ways)
-
-
-def mended(tried, pairs, whole, lines):
-    """The image of the source that `damages --source` writes has the words that are told alone; the others stand as they are."""
-    source, made = f"{tried.path}.agc", f"{tried.path}.made"
-    with open(source, "wb") as file:
-        told = subprocess.run([tried.program, "damages", "--source", tried.path], stdout=file, timeout=300).returncode
-    made_it = subprocess.run([tried.program, "asm", source, made], stdout=subprocess.DEVNULL, timeout=300).returncode
-    wanted = [list(words) for words in whole]
-    for bank, line in enumerate(lines[:-1]):
-        if " OR " in line:
-            wanted[bank] = pairs_of([[pair >> 1 for pair in pairs[bank]]])[0]
-    with open(made, "rb") as file:
-        tried.told("damages: flipped bits mended", (told, made_it) == (0, 0) and file.read() == image_of(wanted))
-
-
-def flipped_bits(tried, whole):
-    """Single bits that flip, one a filled bank at a time: the word that stood there is always told, and most often alone."""
-    chance = random.Random(1)
-    alone = among = 0
-    while alone + among < FLIPS:
-        pairs = [list(words) for words in whole]
-        flips = {bank: (chance.randrange(WORDS), 1 << chance.randrange(16)) for bank in range(28)}
-        for bank, (offset, bit) in flips.items():
-            pairs[bank][offset] ^= bit
-        lines = tried.lines(pairs)
-        if len(lines) != 29:
-            return tried.told("damages: flipped bits", False, f"{lines[:4]}")
-        for (bank, (offset, _)), line in zip(flips.items(), lines):
-            head, _, ways = line.removesuffix(" BY THE SUM").partition(" IS ")
-            ways = ways.split(" OR ")
-            if head != f"{place(bank, offset)} {pairs[bank][offset] >> 1:05o}" or f"{whole[bank][offset] >> 1:05o}" not in ways:
-                return tried.told("damages: flipped bits", False, line)
-            alone, among = alone + (len(ways) == 1), among + (len(ways) > 1)
-        mended(tried, pairs, whole, lines)
-    tried.told("damages: flipped bits", 5 * alone > 4 * (alone + among), f"{alone} alone, {among} among others")
+if __name__ == "__main__":
+    unittest.main()

@@ -1,10 +1,12 @@
-"""Tests of the debug adapter by clients that send what is no request, or a wrong one, or much. `check.py` runs them."""
+"""Tests of the debug adapter by clients that send what is no request, or a wrong one, or much."""
 import json
 import queue
 import subprocess
+import unittest
 
-from check_dap import LOST, MOST_SECONDS, VIEWS, begun, framed, same
-from tally import told
+from common import VIEWS
+from test_dap import MOST_SECONDS, begun, framed
+from viewing import LOST, ViewCase
 
 
 def request(command, seq=9, **arguments):
@@ -69,55 +71,65 @@ def message_or_none(client):
         return None
 
 
-def check_hostile(room):
-    """What a client sends that is no request, or a wrong one, is answered where it can be, and the session goes on."""
-    client = begun()
-    for label, (data, wanted) in HOSTILE.items():
-        client.raw(data)
-        client.raw(request("threads", seq=77))
-        answer, other = None, message_or_none(client)
-        while other and not (other["type"] == "response" and other["request_seq"] == 77):
-            answer = other if other["type"] == "response" else answer
-            other = message_or_none(client)
-        if not other:
-            told(f"{label}: an answer", False)
-            break
-        told(f"{label}: the session goes on", other["success"])
-        said = answer and (answer["request_seq"], "" if answer["success"] else answer["message"])
-        told(f"{label}: {wanted!r}", (wanted is None and not answer) or (said and said[0] == 9 and (wanted in said[1])), f"{answer}")
-    client.end()
-    for label, data in [("half a header", b"Content-Len"), ("half a message", b'Content-Length: 100\r\n\r\n{"seq"'), ("half a long one", b"Content-Length: 100000000\r\n\r\n[[")]:
-        client = begun()
-        client.raw(data)
-        client.ran.stdin.close()
-        same(f"{label}, and the end", (client.ran.wait(MOST_SECONDS), client.ran.stderr.read()), (0, b""))
-        client.close()
-    ran = subprocess.run([f"{VIEWS}/dap"], input=framed(b"???"), capture_output=True, timeout=300, check=False)
-    same("no message before the first request", (ran.returncode, ran.stdout, ran.stderr), (0, b"", b"dap: a message that is no JSON is passed over\n"))
-
-
 def peak_of(number):
     """The most kilobytes that a process has had."""
     with open(f"/proc/{number}/status", encoding="ascii") as file:
         return next(int(it.split()[1]) for it in file if it.startswith("VmHWM"))
 
 
-def check_sizes(_):
-    """100 MB as a message, as a header and as requests that wait: the memory is bounded."""
-    client = begun()
-    before = peak_of(client.ran.pid)
-    client.raw(b'Content-Length: 100000000\r\n\r\n{"seq": 9, "type": "request", "command": "evaluate"')
-    for _ in range(100):
-        client.raw(b" " * 1_000_000)
-    client.raw(b"X" * 20_000_000 + b"\r\n")
-    for i in range(200):
-        client.raw(request("evaluate", seq=1000 + i, expression="S" * 50_000))
-    number = client.send("threads")
-    answer = client.answer(number)
-    told("after 100 MB it answers", answer and answer["success"], f"{answer}")
-    grown = peak_of(client.ran.pid) - before
-    told("its memory is bounded", grown < 60_000, f"{grown} kB more")
-    client.end()
+class DapHostile(ViewCase):
+    """What is no request, and too much of it."""
+
+    def test_hostile(self):
+        """What a client sends that is no request, or a wrong one, is answered where it can be, and the session goes on."""
+        client = begun(self)
+        for label, (data, wanted) in HOSTILE.items():
+            client.raw(data)
+            client.raw(request("threads", seq=77))
+            answer, other = None, message_or_none(client)
+            while other and not (other["type"] == "response" and other["request_seq"] == 77):
+                answer = other if other["type"] == "response" else answer
+                other = message_or_none(client)
+            if not other:
+                with self.subTest(f"{label}: an answer"):
+                    self.fail()
+                break
+            with self.subTest(f"{label}: the session goes on"):
+                self.assertTrue(other["success"])
+            said = answer and (answer["request_seq"], "" if answer["success"] else answer["message"])
+            with self.subTest(f"{label}: {wanted!r}"):
+                self.assertTrue((wanted is None and not answer) or (said and said[0] == 9 and (wanted in said[1])), f"{answer}")
+        client.end()
+        for label, data in [("half a header", b"Content-Len"), ("half a message", b'Content-Length: 100\r\n\r\n{"seq"'), ("half a long one", b"Content-Length: 100000000\r\n\r\n[[")]:
+            client = begun(self)
+            client.raw(data)
+            client.ran.stdin.close()
+            with self.subTest(f"{label}, and the end"):
+                self.assertEqual((client.ran.wait(MOST_SECONDS), client.ran.stderr.read()), (0, b""))
+            client.close()
+        ran = subprocess.run([f"{VIEWS}/dap"], input=framed(b"???"), capture_output=True, timeout=300, check=False)
+        with self.subTest("no message before the first request"):
+            self.assertEqual((ran.returncode, ran.stdout, ran.stderr), (0, b"", b"dap: a message that is no JSON is passed over\n"))
+
+    def test_sizes(self):
+        """100 MB as a message, as a header and as requests that wait: the memory is bounded."""
+        client = begun(self)
+        before = peak_of(client.ran.pid)
+        client.raw(b'Content-Length: 100000000\r\n\r\n{"seq": 9, "type": "request", "command": "evaluate"')
+        for _ in range(100):
+            client.raw(b" " * 1_000_000)
+        client.raw(b"X" * 20_000_000 + b"\r\n")
+        for i in range(200):
+            client.raw(request("evaluate", seq=1000 + i, expression="S" * 50_000))
+        number = client.send("threads")
+        answer = client.answer(number)
+        with self.subTest("after 100 MB it answers"):
+            self.assertTrue(answer and answer["success"], f"{answer}")
+        grown = peak_of(client.ran.pid) - before
+        with self.subTest("its memory is bounded"):
+            self.assertTrue(grown < 60_000, f"{grown} kB more")
+        client.end()
 
 
-PARTS = [check_hostile, check_sizes]
+if __name__ == "__main__":
+    unittest.main()

@@ -1,7 +1,10 @@
 """Compares what `agcws delays` tells with what the lines of `agcws trace` of the same steps come to, and where a session says that Z leads."""
 import re
 import subprocess
+import unittest
 from collections import defaultdict
+
+from common import PROGRAM, Case, example_runs
 
 STEPS = 10_000
 INTERRUPTS = ["T6RUPT", "T5RUPT", "T3RUPT", "T4RUPT", "KEYRUPT1", "KEYRUPT2", "UPRUPT", "DOWNRUPT", "RADARUPT", "RUPT10"]
@@ -155,13 +158,28 @@ def without_hidden(shares):
     return dict(found)
 
 
-def check_delays(program, told, name, files):
-    """Compares the rows of the first steps of a program, and whether the cycles of all causes are those of the run."""
-    lines = lines_of(program, "delays", *files, str(STEPS))
-    spent, rows = shown(lines)
-    rows = {it: (*row[:6], without_hidden(row[6])) for it, row in rows.items()}
-    want_spent, want_rows = wanted(program, files)
-    told(f"delays of {name}: its first line", lines[:1] == [f"GREATEST OF THIS FEED IN {STEPS} STEPS"])
-    told(f"delays of {name}: cycles by cause", without_hidden(spent) == want_spent, f"{spent} and {want_spent}")
-    told(f"delays of {name}: rows", rows == want_rows, f"{rows} and {want_rows}")
-    told(f"delays of {name}: shares", all(sum(row[6].values()) == row[0] for row in rows.values()))
+class Delays(Case):
+    """Where cycles go, beside a reference of its own."""
+
+    def test_examples(self):
+        for name, files in example_runs():
+            self.compare(name, files)
+
+    def compare(self, name, files):
+        """Compares the rows of the first steps of a program, and whether the cycles of all causes are those of the run."""
+        lines = lines_of(PROGRAM, "delays", *files, str(STEPS))
+        spent, rows = shown(lines)
+        rows = {it: (*row[:6], without_hidden(row[6])) for it, row in rows.items()}
+        want_spent, want_rows = wanted(PROGRAM, files)
+        with self.subTest(f"delays of {name}: its first line"):
+            self.assertEqual(lines[:1], [f"GREATEST OF THIS FEED IN {STEPS} STEPS"])
+        with self.subTest(f"delays of {name}: cycles by cause"):
+            self.assertEqual(without_hidden(spent), want_spent)
+        with self.subTest(f"delays of {name}: rows"):
+            self.assertEqual(rows, want_rows)
+        with self.subTest(f"delays of {name}: shares"):
+            self.assertTrue(all(sum(row[6].values()) == row[0] for row in rows.values()))
+
+
+if __name__ == "__main__":
+    unittest.main()

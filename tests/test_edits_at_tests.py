@@ -1,14 +1,14 @@
-#!/usr/bin/env python3
-"""Tests of edits_at_tests on a repository of a small library and a small program. The last line is 'N passed, M failed'."""
+"""Tests of edits_at_tests on a repository of a small library and a small program."""
 import os
 import subprocess
 import sys
 import tempfile
 import unittest
 
-sys.dont_write_bytecode = True
+from common import ROOT
 from files import write_text
-RUNNER = os.path.join(os.path.dirname(os.path.realpath(__file__)), "edits_at_tests")
+
+RUNNER = f"{ROOT}/gate/edits_at_tests"
 
 LIBRARY = """//! A pair.
 #![tactic(auto)]
@@ -116,7 +116,4 @@ class Edits(unittest.TestCase):
 
 
 if __name__ == "__main__":
-    ran = unittest.main(exit=False).result
-    failed = len(ran.failures) + len(ran.errors)
-    print(f"{ran.testsRun - failed} passed, {failed} failed")
-    sys.exit(1 if failed else 0)
+    unittest.main()

@@ -1,16 +1,15 @@
-#!/usr/bin/env python3
-"""Tests of ./check: what it counts of its parts, and what it tells at its end. The last line is 'N passed, M failed'."""
+"""Tests of ./check: what it counts of its parts, and what it tells at its end."""
 import contextlib
 import importlib.machinery
 import importlib.util
 import io
-import os
 import subprocess
 import sys
 import unittest
 
-sys.dont_write_bytecode = True
-CHECK = os.path.join(os.path.dirname(os.path.dirname(os.path.realpath(__file__))), "check")
+from common import ROOT
+
+CHECK = f"{ROOT}/check"
 loader = importlib.machinery.SourceFileLoader("check_script", CHECK)
 check = importlib.util.module_from_spec(importlib.util.spec_from_loader("check_script", loader))
 loader.exec_module(check)
@@ -58,7 +57,4 @@ class Parts(unittest.TestCase):
 
 
 if __name__ == "__main__":
-    ran = unittest.main(exit=False).result
-    failed = len(ran.failures) + len(ran.errors)
-    print(f"{ran.testsRun - failed} passed, {failed} failed")
-    sys.exit(1 if failed else 0)
+    unittest.main()

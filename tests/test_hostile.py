@@ -1,20 +1,14 @@
-#!/usr/bin/env python3
-"""Uses the built program as hostile people and failing machines would, and checks what it promises then.
+"""Uses the built program as hostile people and failing machines would, and tries what it promises then.
 
-usage: hostile/check.py [--cases N] [--seed TEXT] [PART ..]     a PART is memory, devices, sizes or bytes; with none all are tried
-
-memory   each single request for memory is refused, by itself and with all after it (refuse.c, loaded before the program), for each command, help and refusals: the answer is
-         E2 and nothing else than a beginning of the output; a refused `add` is told and changes nothing; once a session is open its commands ask for none; of the program
-         vector_session, whose images stand in a vector, a step that is refused changes nothing and is made again, and its replies to commands tell it; sessions whose replies
-         are counted by hand, and programs that execute everything, are answered by it as by the program
+memory   each single request for memory is refused, by itself and with all after it (hostile/refuse.c, loaded before the program), for each command, help and refusals: the
+         answer is E2 and nothing else than a beginning of the output; a refused `add` is told and changes nothing; once a session is open its commands ask for none
 devices  full devices, closed pipes, folders, files that aren't there or may not be read, devices without an end, closed standard streams, no file or memory to be had
 sizes    one byte, line or input too many, or a byte too few
-bytes    N sources, feeds, command files and images (cases.py; if not said 600 of each, by a seed of the time, which is told), each in a process of its own: it ends in time and in little memory, with a refusal
-         that exists; and `check` tells a fault of each source exactly where `asm` does, and that one among its own, with `--flight` and without; what is taken without is taken with it, to the same listing; and of a feed the fault that `run` tells. What hostile/long_run tries in one process gives the same answers; and in one process N more of each are tried with a failure besides
-
-The last line is 'N passed, M failed'. The built programs are crates/agcws/out/agcws, or what AGCWS names, and crates/vector_session/out/vector_session, or what VECTOR_SESSION names; `./check` leaves both, and `rt run`
-in a crate's folder makes its own."""
-import argparse
+bytes    AGCWS_CASES sources, feeds, command files and images (hostile/cases.py; 600 of each where it is not set, by AGCWS_SEED, or the time, which is printed), each in a process
+         of its own: it ends in time and in little memory, with a refusal that exists; and `check` tells a fault of each source exactly where `asm` does, and that one among its
+         own, with `--flight` and without; what is taken without is taken with it, to the same listing; and of a feed the fault that `run` tells. What hostile/long_run tries in
+         one process gives the same answers; and in one process as many more of each are tried with a failure besides
+"""
 import collections
 import os
 import random
@@ -23,22 +17,16 @@ import resource
 import shutil
 import signal
 import subprocess
-import sys
 import tempfile
 import time
+import unittest
 import zlib
 from concurrent.futures import ProcessPoolExecutor
 
-sys.dont_write_bytecode = True
-HERE = os.path.dirname(os.path.abspath(__file__))
-ROOT = os.path.dirname(HERE)
-sys.path[:0] = [HERE, f"{ROOT}/gate", f"{ROOT}/examples"]
+from common import EMPTY, IMAGE_BYTES, PROGRAM, Case, read, write
 import cases
 import in_process
-import rows
-from cases import ADDED, COMMANDS, DOWNLIST, EMPTY, FIVE, IMAGE_BYTES, PROGRAM, REFUSALS
-from files import read, write
-from tally import end, told
+from cases import ADDED, COMMANDS, DOWNLIST, EMPTY, FIVE, REFUSALS
 
 # The most seconds that a call may take, and the most memory in bytes: so much, and so much for each byte that is read. (The system counts what the process that starts
 # the call has itself, some 33 MiB.)
@@ -46,8 +34,8 @@ MOST_SECONDS = 10
 MOST_MEMORY, MEMORY_PER_BYTE = 64 << 20, 64
 # The memory that suffices for an image.
 MOST_DATA = 4 << 20
-# The program that goes through a session whose images stand in a vector.
-VECTOR_SESSION = os.environ.get("VECTOR_SESSION", f"{ROOT}/crates/vector_session/out/vector_session")
+# How many cases of each kind are tried, and by which seed.
+CASES, SEED = int(os.environ.get("AGCWS_CASES", "600")), os.environ.get("AGCWS_SEED", time.strftime("%Y-%m-%dT%H:%M:%S"))
 # The options of each language.
 LANGUAGES = ((), ("--flight",))
 # So many cases of each kind are answered alike in one process and each in its own.
@@ -60,13 +48,9 @@ def agcws(*words, commands=b"", **more):
     return ran.returncode, ran.stdout, ran.stderr
 
 
-# Memory
-
 SOURCE = "".join([" SETLOC 4000\n", "START CA FIVE\n AD FIVE\n EXTEND\n WRITE 10\n TCF START\nFIVE OCT 5\n", *(f"L{number} OCT {number % 8}\n" for number in range(193))]).encode()
 # (64 plain inputs fill the vector in which they stand, so that an added one asks for memory)
 FEED = "".join(["EVERY 0 2560 3 4 TIME3 PINC\n", "EVERY 5 7 1 100 TIME1 PINC\n", *(f"{10 * number} TIME2 PINC\n" for number in range(64))]).encode()
-# A source, a feed and commands for a session whose images stand in a vector.
-PARTS = read(f"{ROOT}/crates/vector_session/stdin").split(b"---\n")
 
 
 class Refusing:
@@ -100,142 +84,6 @@ def transcripts(words):
     return found
 
 
-def memory(room):
-    refusing = Refusing(room)
-    source, feed, made, old, new, other = write(f"{room}/source", SOURCE), write(f"{room}/feed", FEED), f"{room}/made", f"{room}/old", f"{room}/new", f"{room}/other"
-    for words in (("asm", source, old, "--rope", "1"), ("asm", source, new), ("asm", FIVE, other)):
-        agcws(*words)
-    names = ("--symbols", write(f"{room}/names", agcws("asm", source, new)[1]))
-    octals = write(f"{room}/octals", agcws("words", "--octal", new)[1])
-    trials = write(f"{room}/trials", b"3 RUPT 2\n3 CHAN 15 21\n60 TIME3 PINC\n")
-    sessions_of = {"debug": ("debug", source, feed), "debug --image": ("debug", "--image", new, feed), "debug --extended": ("debug", "--extended", source, feed), "debug --flight": ("debug", "--extended", "--flight", DOWNLIST, feed), "debug with names": ("debug", "--image", *names, new, feed)}
-    calls = {
-        "asm": ("asm", source, made),
-        "run": ("run", source, feed, "300"),
-        "run --end": ("run", "--end", source, feed, "300"),
-        "run --progress": ("run", "--progress", source, feed, "300"),
-        "run --notes": ("run", "--notes", source, feed, "300"),
-        "run --notes --json": ("run", "--notes", "--json", source, feed, "300"),
-        "cover --progress": ("cover", "--progress", source, feed, "300"),
-        "run --image": ("run", "--image", "--rope", "1", "--end", old, feed, "300"),
-        "trace": ("trace", source, feed, "300"),
-        "trace --image": ("trace", "--image", "--rope", "1", old, feed, "300"),
-        "cover": ("cover", source, feed, "300"),
-        "cover --json": ("cover", "--json", source, feed, "300"),
-        "trace --reads": ("trace", "--reads", source, feed, "300"),
-        "trace --say": ("trace", "--say", source, feed, "300"),
-        "access": ("access", source, feed, "300"),
-        "whatif": ("whatif", source, feed, "300", trials),
-        "differ": ("differ", source, feed, "300", "--with", source, os.devnull),
-        "access of a cell": ("access", "--image", *names, new, feed, "300", "A"),
-        "delays": ("delays", source, feed, "300"),
-        "cover --image": ("cover", "--image", "--rope", "1", old, feed, "300"),
-        "reach": ("reach", source),
-        "reach --image": ("reach", "--image", *names, new),
-        "reach beside a run": ("reach", "--feed", feed, "--steps", "300", source),
-        **sessions_of,
-        "asm --sums": ("asm", "--sums", source, made),
-        "upgrade": ("upgrade", old, made),
-        "words": ("words", new),
-        "words of a bank": ("words", "--rope", "1", old, "02"),
-        "words as a source": ("words", "--source", new),
-        "words as a source with names": ("words", "--source", *names, new, "02"),
-        "words in octal": ("words", "--octal", new),
-        "words of octal words": ("words", octals, "02"),
-        "words of all forms": ("words", "--rope", "1", "--form", "hardware,swapped,complemented,numbered", old, "02"),
-        "words with names": ("words", *names, new, "02"),
-        "trace with names": ("trace", "--image", *names, new, feed, "300"),
-        "cover with names": ("cover", "--image", *names, new, feed, "300"),
-        "a refused table": ("words", "--symbols", source, new),
-        "compare with a source": ("compare", "--only", source, other),
-        "compare": ("compare", "--old", "1", old, other),
-        "compare of equal images": ("compare", "--old", "1", old, new),
-        "align": ("align", "--old", "1", old, other),
-        "align with names": ("align", *names, new, other),
-        "find": ("find", source, other),
-        "sums": ("sums", new),
-        "sums in both orders": ("sums", "--forms", new),
-        "where an image is refused": ("words", "--where", "--rope", "1", new),
-        "parity": ("parity", old),
-        "damages": ("damages", old),
-        "damages as a source": ("damages", "--source", old),
-        "parity of the hardware's form": ("parity", "--form", "hardware", new),
-        "words of the hardware's form": ("words", "--form", "hardware", "--parity", "ignore", new, "02"),
-        "asm --flight": ("asm", "--flight", DOWNLIST, made),
-        "run --flight --notes": ("run", "--flight", "--notes", DOWNLIST, feed, "300"),
-        "trace --flight": ("trace", "--flight", "--from", "20", "--progress", DOWNLIST, feed, "300"),
-        "cover --flight": ("cover", "--flight", DOWNLIST, feed, "300"),
-        "check --flight": ("check", "--flight", DOWNLIST, feed),
-        "compare with a flight source": ("compare", "--only", "--flight", DOWNLIST, other),
-        "run --flight": ("run", "--flight", DOWNLIST, feed, "300"),
-        "check": ("check", source),
-        "check of a source with faults": ("check", feed),
-        "check of labels": ("check", "--unused", source),
-        "check as JSON": ("check", "--json", source, feed),
-        "check of a source with faults as JSON": ("check", "--json", feed),
-        "check of feeds": ("check", source, feed, old),
-        "explain": ("explain",),
-        "explain of a number": ("explain", "E16"),
-        "explain of a warning": ("explain", "W4"),
-        "explain of a note": ("explain", "SKIP"),
-        "help of a command": ("help", "run"),
-        "a refused source": ("run", feed, feed, "300"),
-        "a refused image": ("words", source),
-        "--help": ("--help",),
-        "run --help": ("run", "--help"),
-        "--version": ("--version",),
-        "no command": (),
-        "no file": ("run", source, feed),
-        "a wrong number": ("run", source, feed, "-1"),
-    }
-    for name, words in calls.items():
-        refuse_each(refusing, name, words, COMMANDS if name in sessions_of else b"", made)
-    for name, words in sessions_of.items():
-        none_in_a_session(room, name, words)
-    ask_for_none(room, "100,000 calls of an open session", ("debug", FIVE, EMPTY), *many_calls(100_000))
-    images_in_a_vector(room, refusing)
-    rows.check_vector(VECTOR_SESSION, told, room)
-    files_without_memory(refusing, source, feed, old, made)
-
-
-def refuse_each(refusing, name, words, commands, path):
-    """Refuses each request of a call, once and then with all after it: it answers E2 and has written a beginning of its output, and of the file of a path, if it makes that."""
-
-    def tried(call):
-        if os.path.exists(path):
-            os.remove(path)
-        answer = call()
-        return answer, read(path) if os.path.exists(path) else b""
-
-    right, image = tried(lambda: agcws(*words, commands=commands))
-    refused_sessions = transcripts(words) if commands else []
-    for setting, title in (("REFUSE_AT", "each of {} requests refused once"), ("REFUSE_FROM", "all requests refused from each of {} on")):
-        at, wrong, again, refused_inputs, is_met = 0, [], 0, 0, True
-        while is_met and at < 100_000:
-            at += 1
-            ((status, out, err), is_met), made = tried(lambda: refusing.run(words, commands, **{setting: at}))
-            is_e2 = (status, err) == (3, b"agcws: E2\n") and right[1].startswith(out) and image.startswith(made)
-            is_told = (status, err) == (0, b"") and out in refused_sessions
-            # (a vector that is refused room for more than it needs asks again, for what it needs)
-            is_whole = (status, out, err) == right and made == image
-            again += is_whole and is_met
-            refused_inputs += is_told
-            if not (is_e2 or is_told or is_whole):
-                wrong.append((at, status, out[-80:], err[-200:]))
-        most = 2 if setting == "REFUSE_AT" else 0
-        told(f"memory: {name}, {title.format(at - 1)}", not wrong and not is_met and again <= most, f"{len(wrong)} wrong, the first: {wrong[:3]}; {again} asked again")
-        told(f"memory: {name}, inputs that are refused when they are added, {setting}", (refused_inputs > 0) == bool(commands), f"{refused_inputs} sessions with a refused input")
-        remarks = [f"{again} made again for less"] * (again > 0) + [f"{refused_inputs} sessions with a refused input"] * (refused_inputs > 0)
-        print(f"memory: {name}: {'; '.join([title.format(at - 1), *remarks])}", flush=True)
-
-
-def none_in_a_session(room, name, words):
-    """Once a session is open its commands ask for no memory: scripts with each request refused from the first reply on."""
-    several = COMMANDS.replace(ADDED, b"regs").replace(b"add 6000 TIME1 PINC", b"regs").replace(b"quit\n", b"run 100000\ngoto 7\nlast 25\ngoto 90000\nback 70000\nregs\n")
-    script = b"regs\nrun 20000\n" + several
-    ask_for_none(room, f"an open session of {name}", words, script, agcws(*words, commands=script)[1])
-
-
 def many_calls(count):
     """A script of so many calls of a session over five plus five, and its replies, counted by hand: the five instructions of the loop take 2, 2, 1, 2 and 1 cycles, the fourth puts 12 out on channel 010, and the
     breakpoint holds where the loop begins. A call goes many steps at once, up to a number of them or to the breakpoint, shows a step, or searches back from one; most stay among the last
@@ -263,84 +111,7 @@ def many_calls(count):
     return bytes(script), bytes(replies)
 
 
-def ask_for_none(room, title, words, script, right):
-    """A script with each request refused once its first reply is there, and what it has to answer."""
-    opened, refused, first = f"{room}/opened", f"{room}/refused", script.split(b"\n")[0] + b"\n"
-    env = {**os.environ, "LD_PRELOAD": f"{room}/refuse.so", "REFUSE_AFTER": opened, "REFUSE_FROM": "1", "REFUSE_TELLS": refused}
-    for file in (opened, refused):
-        if os.path.exists(file):
-            os.remove(file)
-    with subprocess.Popen([PROGRAM, *words], stdin=subprocess.PIPE, stdout=subprocess.PIPE, stderr=subprocess.PIPE, env=env, bufsize=0) as ran:
-        ran.stdin.write(first)
-        reply = ran.stdout.readline()
-        write(opened, b"")
-        out, err = ran.communicate(script.removeprefix(first), timeout=600)
-    is_right = (ran.returncode, reply + out, err) == (0, right, b"")
-    told(f"memory: {title} asks for none", is_right and not os.path.exists(refused), f"{ran.returncode} {err[-200:]} refused: {os.path.exists(refused)}")
-
-
-def images_in_a_vector(room, refusing):
-    """A session whose images stand in a vector: where one of its growths is refused, the step is refused and changes nothing, as the program itself sees, and is made again.
-    Then commands, whose replies tell the refused steps and inputs: they are those to the same commands with so many steps fewer, and without those inputs."""
-    source, feed = write(f"{room}/vector_source", PARTS[0]), write(f"{room}/vector_feed", PARTS[1])
-    replies = lambda commands: agcws("debug", source, feed, commands=commands)[1]
-    text = b"---\n".join(PARTS)
-    for setting, title in (("REFUSE_AT", "each of {} requests refused once"), ("REFUSE_FROM", "all requests refused from each of {} on")):
-        at, wrong, answers, is_met = 0, [], collections.Counter(), True
-        while is_met and at < 100_000:
-            at += 1
-            (status, out, err), is_met = refusing.run((), text, program=VECTOR_SESSION, **{setting: at})
-            steps, done, commands = out.partition(b"DONE\n")
-            what = "none" if status else "again" if steps else "told" if b"E2 MEMORY\n" in commands else "whole"
-            answers[what] += is_met
-            is_right = (status, commands) == (3, b"") or (status == 0 and done and commands == replies_with(replies, PARTS[2], commands))
-            if err or steps not in (b"", b"REFUSED\n") or not is_right or (what in ("again", "whole") and is_met and setting == "REFUSE_FROM"):
-                wrong.append((at, status, out[-80:], err[-200:]))
-        is_tried = answers["told"] and bool(answers["again"]) == (setting == "REFUSE_AT")
-        told(f"memory: images in a vector, {title.format(at - 1)}", not wrong and not is_met and is_tried, f"{len(wrong)} wrong, the first: {wrong[:3]}; {answers}")
-        print(f"memory: images in a vector: {title.format(at - 1)}; {answers['again']} steps refused and made again, {answers['told']} scripts with a refused step or input", flush=True)
-
-
-def replies_with(replies, commands, told):
-    """The replies that a session may have where some of its steps and inputs are refused: as these tell where."""
-    made, n, text = b"", 0, b""
-    for line in commands.splitlines(True):
-        rest, name = told.removeprefix(text), line.split()[0]
-        refused = re.match(rb"(?:\d+ CH \d+ \d+\n)*E2 MEMORY\n(?:AT (\d+) .*\n)?", rest)
-        if refused and name == b"add":
-            text += b"E2 MEMORY\n"
-            continue
-        is_cut = refused and name in (b"run", b"step")
-        # (a step that is refused at once leaves the position at the present, as `goto` does)
-        made += line if not is_cut else b"step %d\n" % (int(refused[1]) - n) if int(refused[1]) > n else b"goto %d\n" % n
-        reply = replies(made).removeprefix(text.replace(b"E2 MEMORY\n", b""))
-        if is_cut:
-            reply = re.sub(rb"(AT .*\n)$", rb"E2 MEMORY\n\1", reply)
-        if name in (b"run", b"step"):
-            n = int(re.search(rb"AT (\d+) .*\n$", reply)[1])
-        text += reply
-    return text
-
-
-def files_without_memory(refusing, source, feed, old, made):
-    """Where the system has no memory to open a file, or to make one, that is E2."""
-    if os.path.exists(made):
-        os.remove(made)
-    upgrade, images = ("upgrade", old, made), ("--image", "--rope=1", old, feed)
-    calls = [(("asm", source, made), (source, made)), (("run", source, feed, "1"), (source, feed)), (("trace", source, feed, "1"), (source, feed)), (("cover", source, feed, "1"), (source, feed)), (("debug", source, feed), (source, feed)), (("check", source), (source,)), (("check", source, feed), (source, feed)), (upgrade, (old, made))]
-    calls += [(("words", "--symbols", feed, "--rope=1", old), (feed, old)), (("debug", "--symbols", feed, *images), (feed, old)), (("words", "--rope=1", old), (old,)), (("sums", "--rope=1", old), (old,)), (("run", *images, "1"), (old, feed)), (("debug", *images), (old, feed))]
-    for words, files in calls:
-        for file in files:
-            (status, out, err), _ = refusing.run(words, REFUSE_OPEN=file)
-            told(f"memory: none to open {os.path.basename(file)}: {name_of(words)}", (status, out, err) == (3, b"", b"agcws: E2\n") and not os.path.exists(made), f"{status} {out[-80:]!r} {err!r}")
-
-
-# Devices
-
-
 E6, E7 = b"agcws: E6\n", b"agcws: E7\n"
-
-
 # What is said of a file that is refused, where it is named.
 MEANINGS = {
     b"E3": b"the image ends before its 73,728 bytes",
@@ -361,332 +132,9 @@ def name_of(words):
     return " ".join(os.path.basename(it) for it in words)
 
 
-def devices(room):
-    made, folder, none = f"{room}/made", f"{room}/folder", f"{room}/none"
-    os.mkdir(folder)
-    image, other = write(f"{room}/image", bytes(IMAGE_BYTES)), f"{room}/other"
-    agcws("asm", "--rope", "1", FIVE, other)
-    # Calls that write some output, the last five a session's.
-    writing = [("run", FIVE, EMPTY, "100"), ("trace", FIVE, EMPTY, "100"), ("cover", FIVE, EMPTY, "100"), ("run", "--end", FIVE, EMPTY, "100"), ("run", "--progress", FIVE, EMPTY, "100"), ("run", "--notes", FIVE, EMPTY, "100"), ("cover", "--json", FIVE, EMPTY, "100"), ("run", "--image", "--rope=1", other, EMPTY, "100"), ("asm", FIVE, made), ("words", "--rope=1", image), ("access", FIVE, EMPTY, "100"), ("access", FIVE, EMPTY, "100", "A"), ("delays", FIVE, EMPTY, "100"), ("trace", "--reads", FIVE, EMPTY, "100"), ("trace", "--say", FIVE, EMPTY, "100"), ("whatif", FIVE, EMPTY, "100", EMPTY)]
-    writing += [("asm", "--flight", DOWNLIST, made), ("run", "--flight", DOWNLIST, EMPTY, "100")]
-    writing += [("check", FIVE), ("check", FIVE, EMPTY, FIVE), ("check", "--unused", FIVE), ("check", "--json", FIVE, FIVE), ("explain",), ("explain", "17"), ("explain", "SKIP")]
-    writing += [("compare", "--old=1", "--new=1", image, other), ("sums", "--rope=1", image), ("sums", "--forms", "--rope=1", image), ("words", "--symbols", EMPTY, "--rope=1", image), ("words", "--source", "--symbols", EMPTY, "--rope=1", image), ("trace", "--image", "--symbols", EMPTY, "--rope=1", other, EMPTY, "100"), ("cover", "--image", "--symbols", EMPTY, "--rope=1", other, EMPTY, "100"), ("parity", image), ("damages", image), ("damages", "--source", image), ("--help",), ("words", "--help"), ("--version",)]
-    writing += [("words", "--source", "--rope=1", image), ("words", "--where", "--rope=1", image), ("parity", "--form=hardware", image), ("explain", "W4"), ("help", "run"), ("check", "--flight", DOWNLIST), ("compare", "--only", "--new=1", FIVE, image), ("compare", "--only", "--flight", "--new=1", DOWNLIST, image)]
-    writing += [("trace", "--flight", "--from=2", DOWNLIST, EMPTY, "40"), ("cover", "--flight", DOWNLIST, EMPTY, "40"), ("run", "--flight", "--notes", DOWNLIST, EMPTY, "100")]
-    writing += [("align", "--old=1", "--new=1", image, other), ("align", "--symbols", write(f"{room}/table", b"START 02,4000\n"), "--old=1", "--new=1", image, other), ("find", "--rope=1", FIVE, image)]
-    sessions = [("debug", FIVE, EMPTY), ("debug", "--image", "--rope=1", other, EMPTY), ("debug", "--extended", FIVE, EMPTY), ("debug", "--flight", DOWNLIST, EMPTY), ("debug", "--extended", "--image", "--symbols", EMPTY, "--rope=1", other, EMPTY)]
-    writing += sessions
-    outputs_that_fail(writing)
-    for words in (("asm", FIVE, "/dev/full"), ("asm", "--sums", FIVE, "/dev/full"), ("upgrade", image, "/dev/full"), ("asm", FIVE, folder), ("upgrade", image, folder), ("asm", FIVE, f"{folder}/none/rope"), ("upgrade", image, f"{folder}/none/rope")):
-        status, out, err = agcws(*words)
-        told(f"devices: {name_of(words)}", (status, err) == (3, E7), f"{status} {out[-80:]!r} {err!r}")
-    if os.path.exists(made):
-        os.remove(made)
-    for bad in (none, folder):
-        reading = [("run", bad, EMPTY, "1"), ("run", FIVE, bad, "1"), ("trace", bad, EMPTY, "1"), ("trace", FIVE, bad, "1"), ("cover", bad, EMPTY, "1"), ("cover", FIVE, bad, "1"), ("asm", bad, made), ("debug", bad, EMPTY), ("debug", FIVE, bad), ("upgrade", bad, made), ("words", bad), ("words", bad, "02"), ("sums", bad), ("sums", "--forms", bad), ("parity", bad), ("damages", bad), ("damages", "--source", bad), ("access", bad, EMPTY, "1"), ("access", FIVE, bad, "1"), ("delays", bad, EMPTY, "1"), ("delays", FIVE, bad, "1"), ("whatif", bad, EMPTY, "1", EMPTY), ("whatif", FIVE, bad, "1", EMPTY), ("whatif", FIVE, EMPTY, "1", bad)]
-        reading += [("words", "--symbols", bad, "--rope=1", image), ("words", "--symbols", EMPTY, bad), ("trace", "--image", "--symbols", bad, "--rope=1", other, EMPTY, "1"), ("cover", "--image", "--symbols", bad, "--rope=1", other, EMPTY, "1"), ("debug", "--image", "--symbols", bad, "--rope=1", other, EMPTY)]
-        reading += [("compare", bad, image), ("compare", "--old=1", image, bad), ("run", "--image", bad, EMPTY, "1"), ("run", "--image", "--rope=1", image, bad, "1")]
-        reading += [("debug", "--image", bad, EMPTY), ("debug", "--image", "--rope=1", image, bad), ("check", bad), ("check", FIVE, bad), ("check", FIVE, EMPTY, bad)]
-        reading += [("debug", "--extended", bad, EMPTY), ("debug", "--extended", FIVE, bad), ("debug", "--flight", bad, EMPTY), ("asm", "--flight", bad, made), ("asm", "--sums", bad, made), ("run", "--flight", bad, EMPTY, "1"), ("run", "--notes", bad, EMPTY, "1"), ("run", "--notes", FIVE, bad, "1")]
-        reading += [("trace", "--flight", bad, EMPTY, "1"), ("trace", "--image", bad, EMPTY, "1"), ("cover", "--flight", bad, EMPTY, "1"), ("cover", "--image", bad, EMPTY, "1"), ("check", "--flight", bad), ("compare", "--only", bad, image), ("compare", "--only", FIVE, bad), ("words", "--source", bad), ("words", "--where", bad), ("parity", "--form=hardware", bad)]
-        reading += [("align", bad, image), ("align", "--old=1", image, bad), ("align", "--symbols", bad, "--old=1", "--new=1", image, other), ("find", bad, image), ("find", FIVE, bad)]
-        for words in reading:
-            answer = agcws(*words)
-            told(f"devices: {name_of(words)}", answer == (3, b"", refused(words, bad, b"E6")), f"{answer}")
-    told("devices: a file that cannot be read leaves no image", not os.path.exists(made))
-    inputs_that_fail(folder, sessions)
-    no_streams(made)
-    os.remove(made)
-    endless_inputs(made)
-    endless_commands()
-    few_of_the_system(writing)
-    without_rights(room, image)
-
-
-def outputs_that_fail(writing):
-    """A full device, a pipe that is closed, and outputs that are closed from the beginning. The session comes last in each."""
-    with open("/dev/full", "wb") as full:
-        for words in writing:
-            ran = subprocess.run([PROGRAM, *words], input=b"run 100\n", stdout=full, stderr=subprocess.PIPE, timeout=300)
-            told(f"devices: {name_of(words)}, on a full device", (ran.returncode, ran.stderr) == (3, E7), f"{ran.returncode} {ran.stderr!r}")
-            ran = subprocess.run([PROGRAM, *words], input=b"run 100\n", stdout=subprocess.DEVNULL, stderr=subprocess.PIPE, timeout=300, preexec_fn=lambda: os.close(1))
-            told(f"devices: {name_of(words)}, with its output closed", (ran.returncode, ran.stderr) == (3, E7), f"{ran.returncode} {ran.stderr!r}")
-        for words in (("run", "--end", FIVE, EMPTY, "9"), ("run", FIVE, FIVE, "9"), ("words", FIVE), ("words", "--where", FIVE), ("check", FIVE, FIVE, "/dev/zero"), ("explain", "E99"), ("trace", FIVE, EMPTY, "9", "--from=5", "--to=4"), ("run",), ("debug", FIVE, FIVE), ("debug", "--extended", FIVE, FIVE)):
-            right = agcws(*words)
-            for label, settings in (("full", {"stderr": full}), ("closed", {"preexec_fn": lambda: os.close(2)})):
-                ran = subprocess.run([PROGRAM, *words], stdin=subprocess.DEVNULL, stdout=subprocess.PIPE, timeout=300, **settings)
-                told(f"devices: {name_of(words)}, with its error output {label}", (ran.returncode, ran.stdout) == (3, right[1]), f"{ran}")
-    for words in writing:
-        reader, writer = os.pipe()
-        os.close(reader)
-        ran = subprocess.run([PROGRAM, *words], input=b"run 100\n", stdout=writer, stderr=subprocess.PIPE, timeout=300)
-        os.close(writer)
-        told(f"devices: {name_of(words)}, into a closed pipe", (ran.returncode, ran.stderr) == (3, E7), f"{ran.returncode} {ran.stderr!r}")
-
-
-def inputs_that_fail(folder, sessions):
-    """Standard input that is closed ends a session at once, as an empty one does; a folder cannot be read."""
-    for words in sessions:
-        answer = subprocess.run([PROGRAM, *words], stdin=None, stdout=subprocess.PIPE, stderr=subprocess.PIPE, timeout=300, preexec_fn=lambda: os.close(0))
-        told(f"devices: {name_of(words)}, with its input closed", (answer.returncode, answer.stdout, answer.stderr) in ((0, b"", b""), (3, b"", E6)), f"{answer}")
-        ran = subprocess.run([PROGRAM, *words], stdin=os.open(folder, os.O_RDONLY), stdout=subprocess.PIPE, stderr=subprocess.PIPE, timeout=300)
-        told(f"devices: {name_of(words)}, with a folder as its input", (ran.returncode, ran.stdout, ran.stderr) == (3, b"", E6), f"{ran}")
-    for words in (("run", "--end", FIVE, EMPTY, "100"), ("run", FIVE, FIVE, "100"), ("--help",)):
-        answer = subprocess.run([PROGRAM, *words], stdin=None, stdout=subprocess.PIPE, stderr=subprocess.PIPE, timeout=300, preexec_fn=lambda: os.close(0))
-        told(f"devices: {name_of(words)}, with its input closed", (answer.returncode, answer.stdout, answer.stderr) == agcws(*words), f"{answer}")
-
-
-def no_streams(made):
-    """Where standard streams are closed, what is written to them does not go into the file of the image, which the system would give their place."""
-    agcws("asm", FIVE, made)
-    image = read(made)
-    for closed in ((0, 1), (0, 2), (0, 1, 2)):
-        os.remove(made)
-        ran = subprocess.run([PROGRAM, "asm", FIVE, made], stdin=None, stdout=subprocess.PIPE, stderr=subprocess.PIPE, timeout=300, preexec_fn=lambda closed=closed: [os.close(it) for it in closed])
-        status, error = (3, E7 if 2 not in closed else b"") if 1 in closed else (0, b"")
-        told(f"devices: asm with {closed} closed", (ran.returncode, ran.stderr) == (status, error) and read(made) == image, f"{ran} {os.path.getsize(made)} bytes")
-
-
-def endless_inputs(made):
-    """A device without an end is read as far as the greatest input goes, and one byte more."""
-    zeros = "/dev/zero"
-    for words, error in (
-        (("run", zeros, EMPTY, "1"), b"E34"),
-        (("run", FIVE, zeros, "1"), b"E34"),
-        (("trace", FIVE, zeros, "1"), b"E34"),
-        (("cover", FIVE, zeros, "1"), b"E34"),
-        (("access", FIVE, zeros, "1"), b"E34"),
-        (("delays", FIVE, zeros, "1"), b"E34"),
-        (("reach", FIVE, "--feed", zeros, "--steps", "1"), b"E34"),
-        (("whatif", FIVE, zeros, "1", EMPTY), b"E34"),
-        (("differ", FIVE, zeros, "1", "--with", FIVE, EMPTY), b"E34"),
-        (("differ", FIVE, EMPTY, "1", "--with", FIVE, zeros), b"E34"),
-        (("whatif", FIVE, EMPTY, "1", zeros), b"E34"),
-        (("asm", zeros, made), b"E34"),
-        (("asm", "--flight", zeros, made), b"E34"),
-        (("check", zeros), b"E34"),
-        (("check", "--flight", zeros), b"E34"),
-        (("check", FIVE, zeros), b"E34"),
-        (("compare", "--only", zeros, zeros), b"E34"),
-        (("compare", "--only", FIVE, zeros), b"E5"),
-        (("debug", FIVE, zeros), b"E34"),
-        (("upgrade", zeros, made), b"E4"),
-        (("words", "--rope=1", zeros), b"E4"),
-        (("words", "--source", "--rope=1", zeros), b"E4"),
-        (("words", "--parity=ignore", "--form=hardware", zeros), b"E4"),
-        (("words", "--form=swapped", zeros), b"E4"),
-        (("words", "--octal", "--rope=1", "--form=complemented,numbered", zeros), b"E4"),
-        (("trace", "--image", "--rope=1", zeros, EMPTY, "1"), b"E4"),
-        (("cover", "--image", "--rope=1", zeros, EMPTY, "1"), b"E4"),
-        (("words", zeros), b"E5"),
-        (("sums", "--rope=1", zeros), b"E4"),
-        (("sums", "--forms", "--rope=1", zeros), b"E4"),
-        (("words", "--symbols", zeros, zeros), b"E34"),
-        (("words", "--source", "--symbols", zeros, zeros), b"E34"),
-        (("debug", "--image", "--symbols", zeros, zeros, EMPTY), b"E34"),
-        (("parity", zeros), b"E4"),
-        (("damages", zeros), b"E4"),
-        (("damages", "--source", zeros), b"E4"),
-        (("compare", "--old=1", zeros, zeros), b"E4"),
-        (("run", "--image", "--rope=1", zeros, EMPTY, "1"), b"E4"),
-        (("debug", "--image", zeros, EMPTY), b"E5"),
-    ):
-        answer = agcws(*words)
-        told(f"devices: {name_of(words)}, which has no end", answer == (1, b"", refused(words, zeros, error)) and not os.path.exists(made), f"{answer}")
-    with open(zeros, "rb") as endless:
-        ran = subprocess.run([PROGRAM, "debug", FIVE, EMPTY], stdin=endless, capture_output=True, timeout=300)
-    told("devices: commands without an end", (ran.returncode, ran.stdout, ran.stderr) == (0, b"E51 LONG\n", b"agcws: commands end after 16777216 bytes\n"), f"{ran.returncode} {ran.stdout[-200:]} {ran.stderr}")
-
-
-def endless_commands():
-    """Commands without an end are read on in an extended session, in the memory that was taken at first."""
-    with open("/dev/zero", "rb") as endless, subprocess.Popen([PROGRAM, "debug", "--extended", FIVE, EMPTY], stdin=endless, stdout=subprocess.PIPE, stderr=subprocess.PIPE) as ran:
-        time.sleep(2)
-        with open(f"/proc/{ran.pid}/status", encoding="ascii") as file:
-            most = int(re.search(r"VmHWM:\s+(\d+) kB", file.read())[1]) << 10
-        is_going = ran.poll() is None
-        ran.kill()
-        told("devices: commands of an extended session without an end", is_going and most <= MOST_MEMORY and not ran.stderr.read(), f"{is_going}, {most} bytes of memory")
-
-
-def few_of_the_system(writing):
-    """No memory is to be had beyond what the program starts with; and no second file."""
-    for words in writing:
-        ran = limited(words, resource.RLIMIT_DATA, 6 << 15)
-        told(f"devices: {name_of(words)}, with little memory", ran == (3, b"", b"agcws: E2\n"), f"{ran}")
-        paths = [it for it in words if "/" in it]
-        if len(paths) > 1:
-            # three are the standard streams, and three stand in for those of them that may be closed
-            ran = limited(words, resource.RLIMIT_NOFILE, 7)
-            wanted = E7 if words[0] == "asm" else refused(words[:1], paths[1], b"E6")
-            told(f"devices: {name_of(words)}, with one file to be had", ran == (3, b"", wanted), f"{ran}")
-
-
 def limited(words, limit, most):
     ran = subprocess.run([PROGRAM, *words], stdin=subprocess.DEVNULL, capture_output=True, timeout=300, preexec_fn=lambda: resource.setrlimit(limit, (most, most)))
     return ran.returncode, ran.stdout, ran.stderr
-
-
-def without_rights(room, image):
-    """A file that nobody may read. The superuser may read all, so another user tries it then."""
-    locked, program, feed, made = write(f"{room}/locked", read(FIVE)), f"{room}/program", write(f"{room}/feed", b""), f"{room}/unmade"
-    shutil.copy(PROGRAM, program)
-    for path, rights in ((locked, 0), (program, 0o755), (feed, 0o644), (image, 0o644), (room, 0o755)):
-        os.chmod(path, rights)
-    who = {"user": 65534} if os.geteuid() == 0 else {}
-    for words, error in (
-        (("run", locked, feed, "1"), E6),
-        (("asm", locked, made), E6),
-        (("asm", feed, locked), E7),
-        (("debug", locked, feed), E6),
-        (("trace", locked, feed, "1"), E6),
-        (("cover", locked, feed, "1"), E6),
-        (("access", locked, feed, "1"), E6),
-        (("delays", locked, feed, "1"), E6),
-        (("run", "--notes", locked, feed, "1"), E6),
-        (("check", locked), E6),
-        (("check", feed, locked), E6),
-        (("parity", locked), E6),
-        (("damages", locked), E6),
-        (("compare", "--only", locked, image), E6),
-        (("words", "--symbols", locked, "--rope=1", image), E6),
-        (("words", locked), E6),
-        (("sums", locked), E6),
-        (("compare", "--old=1", image, locked), E6),
-        (("run", "--image", "--rope=1", image, locked, "1"), E6),
-        (("debug", "--image", locked, feed), E6),
-        (("upgrade", locked, made), E6),
-        (("upgrade", image, locked), E7),
-    ):
-        ran = subprocess.run([program, *words], stdin=subprocess.DEVNULL, capture_output=True, **who)
-        wanted = refused(words, locked, b"E6") if error == E6 else error
-        told(f"devices: {name_of(words)}, without rights", (ran.returncode, ran.stdout, ran.stderr) == (3, b"", wanted), f"{ran}")
-
-
-# Sizes
-
-
-def periodic_ropes(room):
-    """Ropes of few words that stand again and again, or of none in common, are aligned in bounded time."""
-    rng = random.Random(5)
-    periods = {"zeros": [0], "ones": [0o77777], "one word": [0o30100], "two words": [0o30100, 0o54101], "three words": [1, 2, 5], "thirteen words": list(range(100, 113)), "a bank": [rng.randrange(0o100000) for _ in range(1024)], "two random words": [rng.choice((0o1234, 0o4321)) for _ in range(36864)], "random words": [rng.randrange(0o100000) for _ in range(36864)], "other random words": [rng.randrange(0o100000) for _ in range(36864)]}
-    ropes = {name: write(f"{room}/periodic_{number}", b"".join((2 * word).to_bytes(2, "big") for word in (words * 36864)[:36864])) for number, (name, words) in enumerate(periods.items())}
-    slow, wrong = [], []
-    for old, first in ropes.items():
-        for new, second in ropes.items():
-            begin = time.monotonic()
-            status, out, err = agcws("align", "--old=1", "--new=1", first, second)
-            slow += [(old, new, time.monotonic() - begin)] if time.monotonic() - begin > 10 else []
-            wrong += [(old, new, status, err)] if (status, err) != (0, b"") or b"SAME WORDS" not in out.splitlines()[-1] else []
-            wrong += [(old, new, out[-80:])] if old == new and out.count(b"\n") != 1 else []
-    told(f"sizes: {len(ropes) ** 2} alignments of periodic ropes", not slow and not wrong, f"slow: {slow[:5]}, wrong: {wrong[:5]}")
-
-
-def sizes(room):
-    most = 8_388_608
-    zeros = write(f"{room}/zeros", bytes(IMAGE_BYTES))
-    large = write(f"{room}/large", b"#" * 100 + b"\n" * (most - 99))
-    for words in (("run", large, EMPTY, "1"), ("run", FIVE, large, "1"), ("trace", FIVE, large, "1"), ("asm", large, f"{room}/rope"), ("debug", FIVE, large), ("run", "--image", "--rope=1", zeros, large, "1"), ("debug", "--image", "--rope=1", zeros, large), ("words", "--symbols", large, "--rope=1", zeros), ("trace", "--image", "--symbols", large, "--rope=1", zeros, EMPTY, "1"), ("cover", FIVE, large, "1"), ("run", "--notes", FIVE, large, "1"), ("check", large), ("check", FIVE, EMPTY, large), ("compare", "--only", large, zeros), ("debug", "--extended", FIVE, large), ("asm", "--flight", large, f"{room}/rope")):
-        answer = agcws(*words)
-        told(f"sizes: {words[0]} of {most + 1} bytes", answer == (1, b"", refused(words, large, b"E34")), f"{answer}")
-    whole = write(f"{room}/whole", b" SETLOC 4000\n TCF 4000\n" + b"#\n" * 65_534)
-    told("sizes: a source of 65,536 lines", agcws("run", whole, EMPTY, "5") == (0, b"", b""), f"{agcws('run', whole, EMPTY, '5')}")
-    # The longest source that has no fault: as many lines as there may be, and each as long as it may be.
-    longest, made = b" SETLOC 4000\n TCF 4000\n" + (b"#" * 120 + b"\n") * 65_534, f"{room}/longest_rope"
-    write(whole, longest)
-    told(f"sizes: a source of {len(longest)} bytes", agcws("run", whole, EMPTY, "5") == (0, b"", b""))
-    status, out, err = agcws("asm", whole, made)
-    told(f"sizes: the image and the listing of {len(longest)} bytes", (status, err) == (0, b"") and os.path.getsize(made) == IMAGE_BYTES and out.endswith(b"SYMBOLS 0\n"), f"{status} {out[-80:]} {err}")
-    write(whole, b" SETLOC 4000\n TCF 4000\n" + b"#\n" * 65_535)
-    told("sizes: a source of 65,537 lines", agcws("run", whole, EMPTY, "5") == (1, b"", b"agcws: E12 LINE 65537\n"), f"{agcws('run', whole, EMPTY, '5')}")
-    write(whole, b" SETLOC 10000\n TCF 4000\n" + b"#\n" * 262_142)
-    told("sizes: a flight source of 262,144 lines", agcws("asm", "--flight", whole, made)[::2] == (0, b""), f"{agcws('asm', '--flight', whole, made)[2]}")
-    write(whole, b" SETLOC 10000\n TCF 4000\n" + b"#\n" * 262_143)
-    told("sizes: a flight source of 262,145 lines", agcws("asm", "--flight", whole, made) == (1, b"", b"agcws: E12 LINE 262145\n"), f"{agcws('asm', '--flight', whole, made)}")
-    write(whole, b" " * 119 + b"#" * (most - 120) + b"\n")
-    told("sizes: a flight source that is a comment", agcws("asm", "--flight", whole, made)[::2] == (0, b""), f"{agcws('asm', '--flight', whole, made)[2]}")
-    write(whole, b" " * 120 + b"#" * (most - 121) + b"\n")
-    told("sizes: a flight line of 120 bytes and a comment", agcws("asm", "--flight", whole, made) == (1, b"", b"agcws: E11 LINE 1\n"), f"{agcws('asm', '--flight', whole, made)}")
-    inputs = write(f"{room}/inputs", b"7 TIME1 PINC\n" * 65_536)
-    told("sizes: 65,536 inputs", agcws("run", FIVE, inputs, "5")[0] == 0)
-    write(inputs, b"7 TIME1 PINC\n" * 65_537)
-    told("sizes: 65,537 inputs", agcws("run", FIVE, inputs, "5") == (1, b"", b"agcws: E32\n"), f"{agcws('run', FIVE, inputs, '5')}")
-    # A line that is too long, and a command whose last byte is the last that counts.
-    commands = b"x" * (16_777_216 - 8) + b"\nstep 1\n"
-    right = agcws("debug", FIVE, EMPTY, commands=b"x" * 81 + b"\nstep 1\n")
-    ended = (*right[:2], b"agcws: commands end after 16777216 bytes\n")
-    told("sizes: commands of 16,777,216 bytes", agcws("debug", FIVE, EMPTY, commands=commands) == ended)
-    told("sizes: commands of more bytes", agcws("debug", FIVE, EMPTY, commands=commands + b"step 5\n") == ended)
-    told("sizes: commands of a byte less", agcws("debug", FIVE, EMPTY, commands=commands[1:]) == right)
-    told("sizes: an extended session of more bytes", agcws("debug", "--extended", FIVE, EMPTY, commands=commands + b"echo on\n") == (0, b"E51 LONG\nAT 1 2 02,4001\non\n", b""))
-    image_sizes(room, zeros)
-    odd_images(room)
-    octal_texts(room)
-
-
-def image_sizes(room, zeros):
-    """An image of a byte less, and of a byte more."""
-    periodic_ropes(room)
-    short, long = write(f"{room}/short", bytes(IMAGE_BYTES - 1)), write(f"{room}/long", bytes(IMAGE_BYTES + 1))
-    for image, error in ((short, b"E3"), (long, b"E4"), ("/dev/null", b"E3")):
-        for words in (
-            ("words", "--rope=1", image),
-            ("sums", "--rope=1", image),
-            ("sums", "--forms", "--rope=1", image),
-            ("parity", image),
-            ("parity", "--form=hardware", image),
-            ("damages", image),
-            ("damages", "--source", image),
-            ("words", "--parity=ignore", image),
-            ("words", "--symbols", EMPTY, "--rope=1", image),
-            ("trace", "--image", "--rope=1", image, EMPTY, "1"),
-            ("cover", "--image", "--rope=1", image, EMPTY, "1"),
-            ("debug", "--extended", "--image", "--rope=1", image, EMPTY),
-            ("words", "--source", "--rope=1", image),
-            ("compare", "--only", "--new=1", FIVE, image),
-            ("compare", "--old=1", "--new=1", image, zeros),
-            ("compare", "--old=1", "--new=1", zeros, image),
-            ("run", "--image", "--rope=1", image, EMPTY, "1"),
-            ("debug", "--image", "--rope=1", image, EMPTY),
-            ("upgrade", image, f"{room}/made"),
-        ):
-            answer = agcws(*words)
-            told(f"sizes: {name_of(words)}", answer == (1, b"", refused(words, image, error)), f"{answer}")
-
-
-def odd_images(room):
-    """Images of other lengths, up to 1,000 banks, and images of zeros, of ones, and of bytes that come again: each answer in time and in little memory."""
-    image, chance = f"{room}/odd", random.Random(64)
-    lengths = [0, 1, 2, 2047, 2048, 2049, 12_288, 24_576, 61_440, IMAGE_BYTES - 2, IMAGE_BYTES + 2, 2 * IMAGE_BYTES, 1000 * 2048, *chance.sample(range(IMAGE_BYTES), 20)]
-    for length in lengths:
-        write(image, bytes(length))
-        for words in (("words", "--rope=1", image), ("sums", "--rope=1", image), ("sums", "--forms", "--rope=1", image), ("parity", image), ("damages", image), ("damages", "--form=swapped,numbered", image)):
-            error = b"E3" if length < IMAGE_BYTES else b"E4"
-            told(f"sizes: {words[0]} of an image of {length} bytes", in_bounds(words) == (1, b"", refused(words, image, error)))
-    periods = [bytes([byte]) for byte in (0, 255, 1, 254)] + [chance.randbytes(length) for length in (2, 3, 4, 6, 16, 512, 1024, 2048, 4096, 12_288, 24_576, IMAGE_BYTES)]
-    for period in [*periods, b"\0\1", b"\xff\xfe"]:
-        write(image, (period * (IMAGE_BYTES // len(period) + 1))[:IMAGE_BYTES])
-        for words in (("words", "--parity=ignore", image), ("sums", "--parity=ignore", image), ("sums", "--forms", "--rope=1", image), ("parity", image), ("damages", image), ("damages", "--form=hardware", image), ("damages", "--form=hardware,swapped,complemented,numbered", image), ("damages", "--source", image)):
-            status, out, err = in_bounds(words)
-            is_right = (status, err) == (0, b"") or (status == 1 and (out.endswith(b"\n") and b"COUNT " in out[-12:] or err == b"agcws: E5\n"))
-            told(f"sizes: {words[0]} of a period of {len(period)} bytes", is_right, f"{status} {out[-80:]} {err}")
-
-
-def octal_texts(room):
-    """Texts of octal words of 1,000 banks, of one line, of lines without a word and of more bytes than a text may have: each answer in time and in little memory."""
-    text, bank = f"{room}/octals", b"00001 " * 1023 + b"77777"
-    banks = b"\n".join(b"BANK=%o\n%s" % (number, bank) for number in range(36))
-    write(text, banks)
-    status, out, err = in_bounds(("words", "--octal", text), os.path.getsize(text))
-    told("sizes: a text of 36 banks", (status, err) == (0, b"") and out.replace(b"BANK=0", b"BANK=").split() == banks.split(), f"{status} {out[:80]} {err}")
-    for label, it in (("1,000 banks", b"\n".join(b"BANK=%o\n%s" % (number, bank) for number in range(1000))), ("one line", b"BANK=02 " + bank * 100), ("a long line", b"BANK=02\n" + bank * 1000), ("ones", b"BANK=02\n" + b"1" * 1_000_000)):
-        write(text, it)
-        status, out, err = in_bounds(("words", text), os.path.getsize(text))
-        told(f"sizes: a text of octal words, {label}", (status, out) == (1, b"") and err.startswith(text.encode() + b":") and err.endswith((b"agcws: E3\n", b"agcws: E4\n", b"agcws: E5\n")), f"{status} {out[:80]} {err}")
-    write(text, b"BANK=02\n" + b"\n" * 8_388_601)
-    told("sizes: a text of octal words of 8,388,609 bytes", in_bounds(("words", text), os.path.getsize(text)) == (1, b"", b"agcws: E34\n"))
-    write(text, b"BANK=02\n" + b"\n" * 8_388_600)
-    told("sizes: a text of octal words of 8,388,608 bytes", in_bounds(("words", text), os.path.getsize(text))[::2] == (0, b""))
 
 
 def in_bounds(words, length=0):
@@ -698,9 +146,6 @@ def in_bounds(words, length=0):
 
     ran = subprocess.run([PROGRAM, *words], stdin=subprocess.DEVNULL, capture_output=True, timeout=300, preexec_fn=bound)
     return ran.returncode, ran.stdout, ran.stderr
-
-
-# Bytes
 
 
 # A refusal; one of a file that is compared; one with the place of the first bad parity, where that is asked for; and of a bank without room for check words.
@@ -791,24 +236,6 @@ def some_cases(made, seed, kind, first, last):
     return wrong, slowest, largest
 
 
-def hostile_bytes(room, count, seed):
-    made = cases.Made(room)
-    for kind in cases.KINDS:
-        step, started = max(1, min(1000, count // 8 + 1)), time.monotonic()
-        with ProcessPoolExecutor() as pool:
-            parts = [pool.submit(some_cases, made, seed, kind, first, min(first + step, count)) for first in range(0, count, step)]
-            results = [part.result() for part in parts]
-        wrong = [it for part, _, _ in results for it in part]
-        slowest, largest = max(it for _, it, _ in results), max(it for _, _, it in results)
-        told(f"bytes: {kind}, {len(wrong)} of {count}", not wrong, f"seed {seed}, the first: {wrong[:5]}")
-        print(f"bytes: {count} of {kind}: {time.monotonic() - started:.0f} s; the slowest call took {slowest:.2f} s, the largest {largest >> 10} KiB", flush=True)
-    checks(made, count, seed)
-    checks_of_feeds(made, count, seed)
-    readings(made, count, seed)
-    alike(made, seed)
-    with_failures(made, count, seed)
-
-
 # A fault that `check` tells, and the one that `asm` does.
 TOLD_FAULT = re.compile(rb"^.*:(\d+):\d+: error E(\d+): .+$", re.M)
 ONE_FAULT = re.compile(rb"agcws: E(\d+) LINE (\d+)\n")
@@ -843,15 +270,6 @@ def some_checks(made, seed, first, last):
     return wrong, refused, taken
 
 
-def checks(made, count, seed):
-    step = max(1, min(1000, count // 8 + 1))
-    with ProcessPoolExecutor() as pool:
-        parts = [pool.submit(some_checks, made, seed, first, min(first + step, count)) for first in range(0, count, step)]
-        results = [part.result() for part in parts]
-    wrong, refused, taken = [it for part, _, _ in results for it in part], sum(it for _, it, _ in results), sum(it for _, _, it in results)
-    told(f"bytes: check, {len(wrong)} of {count}", not wrong and 0 < taken < refused < count, f"seed {seed}, {refused} refused, {taken} of them taken with --flight, the first: {wrong[:5]}")
-
-
 def some_feeds(made, seed, first, last):
     """Feeds of which `check` does not tell the fault that `run` tells, alone and on its line; and how many are refused."""
     worker, wrong, refused = Worker(made, seed), [], 0
@@ -867,15 +285,6 @@ def some_feeds(made, seed, first, last):
     finally:
         shutil.rmtree(worker.room)
     return wrong, refused
-
-
-def checks_of_feeds(made, count, seed):
-    step = max(1, min(1000, count // 8 + 1))
-    with ProcessPoolExecutor() as pool:
-        parts = [pool.submit(some_feeds, made, seed, first, min(first + step, count)) for first in range(0, count, step)]
-        results = [part.result() for part in parts]
-    wrong, refused = [it for part, _ in results for it in part], sum(it for _, it in results)
-    told(f"bytes: check of feeds, {len(wrong)} of {count}", not wrong and 0 < refused < count, f"seed {seed}, {refused} refused, the first: {wrong[:5]}")
 
 
 READ_STEPS = 300
@@ -909,59 +318,615 @@ def some_readings(made, seed, kind, first, last):
     return wrong, ran, noted
 
 
-def readings(made, count, seed):
-    """Runs of hostile sources, images and feeds, as those tell them that read a run."""
-    step = max(1, min(1000, count // 8 + 1))
-    for kind in ("source", "image", "feed"):
-        with ProcessPoolExecutor() as pool:
-            parts = [pool.submit(some_readings, made, seed, kind, first, min(first + step, count)) for first in range(0, count, step)]
-            results = [part.result() for part in parts]
-        wrong, ran, noted = [it for part, _, _ in results for it in part], sum(it for _, it, _ in results), sum(it for _, _, it in results)
-        told(f"bytes: {kind} as it is read, {len(wrong)} of {count}", not wrong and ran > 0 and noted > 0, f"seed {seed}, {ran} were run, {noted} drew notes; the first: {wrong[:5]}")
+class HostileCase(Case):
+    """Tests that compile libraries, which are loaded before the program."""
+
+    @classmethod
+    def setUpClass(cls):
+        super().setUpClass()
+        if not shutil.which("cc"):
+            raise unittest.SkipTest("there is no C compiler cc: apt-get install gcc libc6-dev")
 
 
-def with_failures(made, count, seed):
-    """As many further cases, in one process: each is tried by itself, and then with a request for memory refused, or a read or a write that fails."""
-    for kind in cases.KINDS:
-        runs = [run.try_all(FAILURES=1) for run in in_process.runs_of(made, seed, count, 2 * count, kind)]
-        wrong, tried = [it for run in runs for it in run.wrong], sum(run.count for run in runs)
-        told(f"bytes: {kind} with failures, {len(wrong)} of {count}", not wrong and tried == count, f"seed {seed}, {tried} were tried; the first: {wrong[:5]}")
-        failures = sum((run.failures for run in runs), collections.Counter())
-        print(f"bytes: {tried} of {kind} with a failure: " + ", ".join(f"{failures[it]} of {it}" for it in ("memory", "read", "write")), flush=True)
+class Memory(HostileCase):
+    """Each request for memory, refused."""
+
+    def test_memory(self):
+        refusing = Refusing(self.room)
+        source, feed, made, old, new, other = write(f"{self.room}/source", SOURCE), write(f"{self.room}/feed", FEED), f"{self.room}/made", f"{self.room}/old", f"{self.room}/new", f"{self.room}/other"
+        for words in (("asm", source, old, "--rope", "1"), ("asm", source, new), ("asm", FIVE, other)):
+            agcws(*words)
+        names = ("--symbols", write(f"{self.room}/names", agcws("asm", source, new)[1]))
+        octals = write(f"{self.room}/octals", agcws("words", "--octal", new)[1])
+        trials = write(f"{self.room}/trials", b"3 RUPT 2\n3 CHAN 15 21\n60 TIME3 PINC\n")
+        sessions_of = {"debug": ("debug", source, feed), "debug --image": ("debug", "--image", new, feed), "debug --extended": ("debug", "--extended", source, feed), "debug --flight": ("debug", "--extended", "--flight", DOWNLIST, feed), "debug with names": ("debug", "--image", *names, new, feed)}
+        calls = {
+            "asm": ("asm", source, made),
+            "run": ("run", source, feed, "300"),
+            "run --end": ("run", "--end", source, feed, "300"),
+            "run --progress": ("run", "--progress", source, feed, "300"),
+            "run --notes": ("run", "--notes", source, feed, "300"),
+            "run --notes --json": ("run", "--notes", "--json", source, feed, "300"),
+            "cover --progress": ("cover", "--progress", source, feed, "300"),
+            "run --image": ("run", "--image", "--rope", "1", "--end", old, feed, "300"),
+            "trace": ("trace", source, feed, "300"),
+            "trace --image": ("trace", "--image", "--rope", "1", old, feed, "300"),
+            "cover": ("cover", source, feed, "300"),
+            "cover --json": ("cover", "--json", source, feed, "300"),
+            "trace --reads": ("trace", "--reads", source, feed, "300"),
+            "trace --say": ("trace", "--say", source, feed, "300"),
+            "access": ("access", source, feed, "300"),
+            "whatif": ("whatif", source, feed, "300", trials),
+            "differ": ("differ", source, feed, "300", "--with", source, os.devnull),
+            "access of a cell": ("access", "--image", *names, new, feed, "300", "A"),
+            "delays": ("delays", source, feed, "300"),
+            "cover --image": ("cover", "--image", "--rope", "1", old, feed, "300"),
+            "reach": ("reach", source),
+            "reach --image": ("reach", "--image", *names, new),
+            "reach beside a run": ("reach", "--feed", feed, "--steps", "300", source),
+            **sessions_of,
+            "asm --sums": ("asm", "--sums", source, made),
+            "upgrade": ("upgrade", old, made),
+            "words": ("words", new),
+            "words of a bank": ("words", "--rope", "1", old, "02"),
+            "words as a source": ("words", "--source", new),
+            "words as a source with names": ("words", "--source", *names, new, "02"),
+            "words in octal": ("words", "--octal", new),
+            "words of octal words": ("words", octals, "02"),
+            "words of all forms": ("words", "--rope", "1", "--form", "hardware,swapped,complemented,numbered", old, "02"),
+            "words with names": ("words", *names, new, "02"),
+            "trace with names": ("trace", "--image", *names, new, feed, "300"),
+            "cover with names": ("cover", "--image", *names, new, feed, "300"),
+            "a refused table": ("words", "--symbols", source, new),
+            "compare with a source": ("compare", "--only", source, other),
+            "compare": ("compare", "--old", "1", old, other),
+            "compare of equal images": ("compare", "--old", "1", old, new),
+            "align": ("align", "--old", "1", old, other),
+            "align with names": ("align", *names, new, other),
+            "find": ("find", source, other),
+            "sums": ("sums", new),
+            "sums in both orders": ("sums", "--forms", new),
+            "where an image is refused": ("words", "--where", "--rope", "1", new),
+            "parity": ("parity", old),
+            "damages": ("damages", old),
+            "damages as a source": ("damages", "--source", old),
+            "parity of the hardware's form": ("parity", "--form", "hardware", new),
+            "words of the hardware's form": ("words", "--form", "hardware", "--parity", "ignore", new, "02"),
+            "asm --flight": ("asm", "--flight", DOWNLIST, made),
+            "run --flight --notes": ("run", "--flight", "--notes", DOWNLIST, feed, "300"),
+            "trace --flight": ("trace", "--flight", "--from", "20", "--progress", DOWNLIST, feed, "300"),
+            "cover --flight": ("cover", "--flight", DOWNLIST, feed, "300"),
+            "check --flight": ("check", "--flight", DOWNLIST, feed),
+            "compare with a flight source": ("compare", "--only", "--flight", DOWNLIST, other),
+            "run --flight": ("run", "--flight", DOWNLIST, feed, "300"),
+            "check": ("check", source),
+            "check of a source with faults": ("check", feed),
+            "check of labels": ("check", "--unused", source),
+            "check as JSON": ("check", "--json", source, feed),
+            "check of a source with faults as JSON": ("check", "--json", feed),
+            "check of feeds": ("check", source, feed, old),
+            "explain": ("explain",),
+            "explain of a number": ("explain", "E16"),
+            "explain of a warning": ("explain", "W4"),
+            "explain of a note": ("explain", "SKIP"),
+            "help of a command": ("help", "run"),
+            "a refused source": ("run", feed, feed, "300"),
+            "a refused image": ("words", source),
+            "--help": ("--help",),
+            "run --help": ("run", "--help"),
+            "--version": ("--version",),
+            "no command": (),
+            "no file": ("run", source, feed),
+            "a wrong number": ("run", source, feed, "-1"),
+        }
+        for name, words in calls.items():
+            self.refuse_each(refusing, name, words, COMMANDS if name in sessions_of else b"", made)
+        for name, words in sessions_of.items():
+            self.none_in_a_session(name, words)
+        self.ask_for_none("100,000 calls of an open session", ("debug", FIVE, EMPTY), *many_calls(100_000))
+        self.files_without_memory(refusing, source, feed, old, made)
+
+    def refuse_each(self, refusing, name, words, commands, path):
+        """Refuses each request of a call, once and then with all after it: it answers E2 and has written a beginning of its output, and of the file of a path, if it makes that."""
+
+        def tried(call):
+            if os.path.exists(path):
+                os.remove(path)
+            answer = call()
+            return answer, read(path) if os.path.exists(path) else b""
+
+        right, image = tried(lambda: agcws(*words, commands=commands))
+        refused_sessions = transcripts(words) if commands else []
+        for setting, title in (("REFUSE_AT", "each of {} requests refused once"), ("REFUSE_FROM", "all requests refused from each of {} on")):
+            at, wrong, again, refused_inputs, is_met = 0, [], 0, 0, True
+            while is_met and at < 100_000:
+                at += 1
+                ((status, out, err), is_met), made = tried(lambda: refusing.run(words, commands, **{setting: at}))
+                is_e2 = (status, err) == (3, b"agcws: E2\n") and right[1].startswith(out) and image.startswith(made)
+                is_told = (status, err) == (0, b"") and out in refused_sessions
+                # (a vector that is refused room for more than it needs asks again, for what it needs)
+                is_whole = (status, out, err) == right and made == image
+                again += is_whole and is_met
+                refused_inputs += is_told
+                if not (is_e2 or is_told or is_whole):
+                    wrong.append((at, status, out[-80:], err[-200:]))
+            most = 2 if setting == "REFUSE_AT" else 0
+            with self.subTest(f"memory: {name}, {title.format(at - 1)}"):
+                self.assertTrue(not wrong and not is_met and again <= most, f"{len(wrong)} wrong, the first: {wrong[:3]}; {again} asked again")
+            with self.subTest(f"memory: {name}, inputs that are refused when they are added, {setting}"):
+                self.assertEqual(refused_inputs > 0, bool(commands), f"{refused_inputs} sessions with a refused input")
+            remarks = [f"{again} made again for less"] * (again > 0) + [f"{refused_inputs} sessions with a refused input"] * (refused_inputs > 0)
+            print(f"memory: {name}: {'; '.join([title.format(at - 1), *remarks])}", flush=True)
+
+    def none_in_a_session(self, name, words):
+        """Once a session is open its commands ask for no memory: scripts with each request refused from the first reply on."""
+        several = COMMANDS.replace(ADDED, b"regs").replace(b"add 6000 TIME1 PINC", b"regs").replace(b"quit\n", b"run 100000\ngoto 7\nlast 25\ngoto 90000\nback 70000\nregs\n")
+        script = b"regs\nrun 20000\n" + several
+        self.ask_for_none(f"an open session of {name}", words, script, agcws(*words, commands=script)[1])
+
+    def ask_for_none(self, title, words, script, right):
+        """A script with each request refused once its first reply is there, and what it has to answer."""
+        opened, refused, first = f"{self.room}/opened", f"{self.room}/refused", script.split(b"\n")[0] + b"\n"
+        env = {**os.environ, "LD_PRELOAD": f"{self.room}/refuse.so", "REFUSE_AFTER": opened, "REFUSE_FROM": "1", "REFUSE_TELLS": refused}
+        for file in (opened, refused):
+            if os.path.exists(file):
+                os.remove(file)
+        with subprocess.Popen([PROGRAM, *words], stdin=subprocess.PIPE, stdout=subprocess.PIPE, stderr=subprocess.PIPE, env=env, bufsize=0) as ran:
+            ran.stdin.write(first)
+            reply = ran.stdout.readline()
+            write(opened, b"")
+            out, err = ran.communicate(script.removeprefix(first), timeout=600)
+        is_right = (ran.returncode, reply + out, err) == (0, right, b"")
+        with self.subTest(f"memory: {title} asks for none"):
+            self.assertTrue(is_right and not os.path.exists(refused), f"{ran.returncode} {err[-200:]} refused: {os.path.exists(refused)}")
+
+    def files_without_memory(self, refusing, source, feed, old, made):
+        """Where the system has no memory to open a file, or to make one, that is E2."""
+        if os.path.exists(made):
+            os.remove(made)
+        upgrade, images = ("upgrade", old, made), ("--image", "--rope=1", old, feed)
+        calls = [(("asm", source, made), (source, made)), (("run", source, feed, "1"), (source, feed)), (("trace", source, feed, "1"), (source, feed)), (("cover", source, feed, "1"), (source, feed)), (("debug", source, feed), (source, feed)), (("check", source), (source,)), (("check", source, feed), (source, feed)), (upgrade, (old, made))]
+        calls += [(("words", "--symbols", feed, "--rope=1", old), (feed, old)), (("debug", "--symbols", feed, *images), (feed, old)), (("words", "--rope=1", old), (old,)), (("sums", "--rope=1", old), (old,)), (("run", *images, "1"), (old, feed)), (("debug", *images), (old, feed))]
+        for words, files in calls:
+            for file in files:
+                (status, out, err), _ = refusing.run(words, REFUSE_OPEN=file)
+                with self.subTest(f"memory: none to open {os.path.basename(file)}: {name_of(words)}"):
+                    self.assertTrue((status, out, err) == (3, b"", b"agcws: E2\n") and not os.path.exists(made), f"{status} {out[-80:]!r} {err!r}")
 
 
-def alike(made, seed):
-    """In one process, with the files and the memory of a library, the program answers as in a process of its own."""
-    worker = Worker(made, seed)
-    try:
+class Devices(HostileCase):
+    """Devices, pipes, folders and files that fail."""
+
+    def test_devices(self):
+        made, folder, none = f"{self.room}/made", f"{self.room}/folder", f"{self.room}/none"
+        os.mkdir(folder)
+        image, other = write(f"{self.room}/image", bytes(IMAGE_BYTES)), f"{self.room}/other"
+        agcws("asm", "--rope", "1", FIVE, other)
+        # Calls that write some output, the last five a session's.
+        writing = [("run", FIVE, EMPTY, "100"), ("trace", FIVE, EMPTY, "100"), ("cover", FIVE, EMPTY, "100"), ("run", "--end", FIVE, EMPTY, "100"), ("run", "--progress", FIVE, EMPTY, "100"), ("run", "--notes", FIVE, EMPTY, "100"), ("cover", "--json", FIVE, EMPTY, "100"), ("run", "--image", "--rope=1", other, EMPTY, "100"), ("asm", FIVE, made), ("words", "--rope=1", image), ("access", FIVE, EMPTY, "100"), ("access", FIVE, EMPTY, "100", "A"), ("delays", FIVE, EMPTY, "100"), ("trace", "--reads", FIVE, EMPTY, "100"), ("trace", "--say", FIVE, EMPTY, "100"), ("whatif", FIVE, EMPTY, "100", EMPTY)]
+        writing += [("asm", "--flight", DOWNLIST, made), ("run", "--flight", DOWNLIST, EMPTY, "100")]
+        writing += [("check", FIVE), ("check", FIVE, EMPTY, FIVE), ("check", "--unused", FIVE), ("check", "--json", FIVE, FIVE), ("explain",), ("explain", "17"), ("explain", "SKIP")]
+        writing += [("compare", "--old=1", "--new=1", image, other), ("sums", "--rope=1", image), ("sums", "--forms", "--rope=1", image), ("words", "--symbols", EMPTY, "--rope=1", image), ("words", "--source", "--symbols", EMPTY, "--rope=1", image), ("trace", "--image", "--symbols", EMPTY, "--rope=1", other, EMPTY, "100"), ("cover", "--image", "--symbols", EMPTY, "--rope=1", other, EMPTY, "100"), ("parity", image), ("damages", image), ("damages", "--source", image), ("--help",), ("words", "--help"), ("--version",)]
+        writing += [("words", "--source", "--rope=1", image), ("words", "--where", "--rope=1", image), ("parity", "--form=hardware", image), ("explain", "W4"), ("help", "run"), ("check", "--flight", DOWNLIST), ("compare", "--only", "--new=1", FIVE, image), ("compare", "--only", "--flight", "--new=1", DOWNLIST, image)]
+        writing += [("trace", "--flight", "--from=2", DOWNLIST, EMPTY, "40"), ("cover", "--flight", DOWNLIST, EMPTY, "40"), ("run", "--flight", "--notes", DOWNLIST, EMPTY, "100")]
+        writing += [("align", "--old=1", "--new=1", image, other), ("align", "--symbols", write(f"{self.room}/table", b"START 02,4000\n"), "--old=1", "--new=1", image, other), ("find", "--rope=1", FIVE, image)]
+        sessions = [("debug", FIVE, EMPTY), ("debug", "--image", "--rope=1", other, EMPTY), ("debug", "--extended", FIVE, EMPTY), ("debug", "--flight", DOWNLIST, EMPTY), ("debug", "--extended", "--image", "--symbols", EMPTY, "--rope=1", other, EMPTY)]
+        writing += sessions
+        self.outputs_that_fail(writing)
+        for words in (("asm", FIVE, "/dev/full"), ("asm", "--sums", FIVE, "/dev/full"), ("upgrade", image, "/dev/full"), ("asm", FIVE, folder), ("upgrade", image, folder), ("asm", FIVE, f"{folder}/none/rope"), ("upgrade", image, f"{folder}/none/rope")):
+            status, out, err = agcws(*words)
+            with self.subTest(f"devices: {name_of(words)}"):
+                self.assertEqual((status, err), (3, E7), f"{status} {out[-80:]!r} {err!r}")
+        if os.path.exists(made):
+            os.remove(made)
+        for bad in (none, folder):
+            reading = [("run", bad, EMPTY, "1"), ("run", FIVE, bad, "1"), ("trace", bad, EMPTY, "1"), ("trace", FIVE, bad, "1"), ("cover", bad, EMPTY, "1"), ("cover", FIVE, bad, "1"), ("asm", bad, made), ("debug", bad, EMPTY), ("debug", FIVE, bad), ("upgrade", bad, made), ("words", bad), ("words", bad, "02"), ("sums", bad), ("sums", "--forms", bad), ("parity", bad), ("damages", bad), ("damages", "--source", bad), ("access", bad, EMPTY, "1"), ("access", FIVE, bad, "1"), ("delays", bad, EMPTY, "1"), ("delays", FIVE, bad, "1"), ("whatif", bad, EMPTY, "1", EMPTY), ("whatif", FIVE, bad, "1", EMPTY), ("whatif", FIVE, EMPTY, "1", bad)]
+            reading += [("words", "--symbols", bad, "--rope=1", image), ("words", "--symbols", EMPTY, bad), ("trace", "--image", "--symbols", bad, "--rope=1", other, EMPTY, "1"), ("cover", "--image", "--symbols", bad, "--rope=1", other, EMPTY, "1"), ("debug", "--image", "--symbols", bad, "--rope=1", other, EMPTY)]
+            reading += [("compare", bad, image), ("compare", "--old=1", image, bad), ("run", "--image", bad, EMPTY, "1"), ("run", "--image", "--rope=1", image, bad, "1")]
+            reading += [("debug", "--image", bad, EMPTY), ("debug", "--image", "--rope=1", image, bad), ("check", bad), ("check", FIVE, bad), ("check", FIVE, EMPTY, bad)]
+            reading += [("debug", "--extended", bad, EMPTY), ("debug", "--extended", FIVE, bad), ("debug", "--flight", bad, EMPTY), ("asm", "--flight", bad, made), ("asm", "--sums", bad, made), ("run", "--flight", bad, EMPTY, "1"), ("run", "--notes", bad, EMPTY, "1"), ("run", "--notes", FIVE, bad, "1")]
+            reading += [("trace", "--flight", bad, EMPTY, "1"), ("trace", "--image", bad, EMPTY, "1"), ("cover", "--flight", bad, EMPTY, "1"), ("cover", "--image", bad, EMPTY, "1"), ("check", "--flight", bad), ("compare", "--only", bad, image), ("compare", "--only", FIVE, bad), ("words", "--source", bad), ("words", "--where", bad), ("parity", "--form=hardware", bad)]
+            reading += [("align", bad, image), ("align", "--old=1", image, bad), ("align", "--symbols", bad, "--old=1", "--new=1", image, other), ("find", bad, image), ("find", FIVE, bad)]
+            for words in reading:
+                answer = agcws(*words)
+                with self.subTest(f"devices: {name_of(words)}"):
+                    self.assertEqual(answer, (3, b"", refused(words, bad, b"E6")))
+        with self.subTest("devices: a file that cannot be read leaves no image"):
+            self.assertFalse(os.path.exists(made))
+        self.inputs_that_fail(folder, sessions)
+        self.no_streams(made)
+        os.remove(made)
+        self.endless_inputs(made)
+        self.endless_commands()
+        self.few_of_the_system(writing)
+        self.without_rights(image)
+
+    def outputs_that_fail(self, writing):
+        """A full device, a pipe that is closed, and outputs that are closed from the beginning. The session comes last in each."""
+        with open("/dev/full", "wb") as full:
+            for words in writing:
+                ran = subprocess.run([PROGRAM, *words], input=b"run 100\n", stdout=full, stderr=subprocess.PIPE, timeout=300)
+                with self.subTest(f"devices: {name_of(words)}, on a full device"):
+                    self.assertEqual((ran.returncode, ran.stderr), (3, E7), f"{ran.returncode} {ran.stderr!r}")
+                ran = subprocess.run([PROGRAM, *words], input=b"run 100\n", stdout=subprocess.DEVNULL, stderr=subprocess.PIPE, timeout=300, preexec_fn=lambda: os.close(1))
+                with self.subTest(f"devices: {name_of(words)}, with its output closed"):
+                    self.assertEqual((ran.returncode, ran.stderr), (3, E7), f"{ran.returncode} {ran.stderr!r}")
+            for words in (("run", "--end", FIVE, EMPTY, "9"), ("run", FIVE, FIVE, "9"), ("words", FIVE), ("words", "--where", FIVE), ("check", FIVE, FIVE, "/dev/zero"), ("explain", "E99"), ("trace", FIVE, EMPTY, "9", "--from=5", "--to=4"), ("run",), ("debug", FIVE, FIVE), ("debug", "--extended", FIVE, FIVE)):
+                right = agcws(*words)
+                for label, settings in (("full", {"stderr": full}), ("closed", {"preexec_fn": lambda: os.close(2)})):
+                    ran = subprocess.run([PROGRAM, *words], stdin=subprocess.DEVNULL, stdout=subprocess.PIPE, timeout=300, **settings)
+                    with self.subTest(f"devices: {name_of(words)}, with its error output {label}"):
+                        self.assertEqual((ran.returncode, ran.stdout), (3, right[1]))
+        for words in writing:
+            reader, writer = os.pipe()
+            os.close(reader)
+            ran = subprocess.run([PROGRAM, *words], input=b"run 100\n", stdout=writer, stderr=subprocess.PIPE, timeout=300)
+            os.close(writer)
+            with self.subTest(f"devices: {name_of(words)}, into a closed pipe"):
+                self.assertEqual((ran.returncode, ran.stderr), (3, E7), f"{ran.returncode} {ran.stderr!r}")
+
+    def inputs_that_fail(self, folder, sessions):
+        """Standard input that is closed ends a session at once, as an empty one does; a folder cannot be read."""
+        for words in sessions:
+            answer = subprocess.run([PROGRAM, *words], stdin=None, stdout=subprocess.PIPE, stderr=subprocess.PIPE, timeout=300, preexec_fn=lambda: os.close(0))
+            with self.subTest(f"devices: {name_of(words)}, with its input closed"):
+                self.assertIn((answer.returncode, answer.stdout, answer.stderr), ((0, b"", b""), (3, b"", E6)), f"{answer}")
+            ran = subprocess.run([PROGRAM, *words], stdin=os.open(folder, os.O_RDONLY), stdout=subprocess.PIPE, stderr=subprocess.PIPE, timeout=300)
+            with self.subTest(f"devices: {name_of(words)}, with a folder as its input"):
+                self.assertEqual((ran.returncode, ran.stdout, ran.stderr), (3, b"", E6))
+        for words in (("run", "--end", FIVE, EMPTY, "100"), ("run", FIVE, FIVE, "100"), ("--help",)):
+            answer = subprocess.run([PROGRAM, *words], stdin=None, stdout=subprocess.PIPE, stderr=subprocess.PIPE, timeout=300, preexec_fn=lambda: os.close(0))
+            with self.subTest(f"devices: {name_of(words)}, with its input closed"):
+                self.assertEqual((answer.returncode, answer.stdout, answer.stderr), agcws(*words))
+
+    def no_streams(self, made):
+        """Where standard streams are closed, what is written to them does not go into the file of the image, which the system would give their place."""
+        agcws("asm", FIVE, made)
+        image = read(made)
+        for closed in ((0, 1), (0, 2), (0, 1, 2)):
+            os.remove(made)
+            ran = subprocess.run([PROGRAM, "asm", FIVE, made], stdin=None, stdout=subprocess.PIPE, stderr=subprocess.PIPE, timeout=300, preexec_fn=lambda closed=closed: [os.close(it) for it in closed])
+            status, error = (3, E7 if 2 not in closed else b"") if 1 in closed else (0, b"")
+            with self.subTest(f"devices: asm with {closed} closed"):
+                self.assertTrue((ran.returncode, ran.stderr) == (status, error) and read(made) == image, f"{ran} {os.path.getsize(made)} bytes")
+
+    def endless_inputs(self, made):
+        """A device without an end is read as far as the greatest input goes, and one byte more."""
+        zeros = "/dev/zero"
+        for words, error in (
+            (("run", zeros, EMPTY, "1"), b"E34"),
+            (("run", FIVE, zeros, "1"), b"E34"),
+            (("trace", FIVE, zeros, "1"), b"E34"),
+            (("cover", FIVE, zeros, "1"), b"E34"),
+            (("access", FIVE, zeros, "1"), b"E34"),
+            (("delays", FIVE, zeros, "1"), b"E34"),
+            (("reach", FIVE, "--feed", zeros, "--steps", "1"), b"E34"),
+            (("whatif", FIVE, zeros, "1", EMPTY), b"E34"),
+            (("differ", FIVE, zeros, "1", "--with", FIVE, EMPTY), b"E34"),
+            (("differ", FIVE, EMPTY, "1", "--with", FIVE, zeros), b"E34"),
+            (("whatif", FIVE, EMPTY, "1", zeros), b"E34"),
+            (("asm", zeros, made), b"E34"),
+            (("asm", "--flight", zeros, made), b"E34"),
+            (("check", zeros), b"E34"),
+            (("check", "--flight", zeros), b"E34"),
+            (("check", FIVE, zeros), b"E34"),
+            (("compare", "--only", zeros, zeros), b"E34"),
+            (("compare", "--only", FIVE, zeros), b"E5"),
+            (("debug", FIVE, zeros), b"E34"),
+            (("upgrade", zeros, made), b"E4"),
+            (("words", "--rope=1", zeros), b"E4"),
+            (("words", "--source", "--rope=1", zeros), b"E4"),
+            (("words", "--parity=ignore", "--form=hardware", zeros), b"E4"),
+            (("words", "--form=swapped", zeros), b"E4"),
+            (("words", "--octal", "--rope=1", "--form=complemented,numbered", zeros), b"E4"),
+            (("trace", "--image", "--rope=1", zeros, EMPTY, "1"), b"E4"),
+            (("cover", "--image", "--rope=1", zeros, EMPTY, "1"), b"E4"),
+            (("words", zeros), b"E5"),
+            (("sums", "--rope=1", zeros), b"E4"),
+            (("sums", "--forms", "--rope=1", zeros), b"E4"),
+            (("words", "--symbols", zeros, zeros), b"E34"),
+            (("words", "--source", "--symbols", zeros, zeros), b"E34"),
+            (("debug", "--image", "--symbols", zeros, zeros, EMPTY), b"E34"),
+            (("parity", zeros), b"E4"),
+            (("damages", zeros), b"E4"),
+            (("damages", "--source", zeros), b"E4"),
+            (("compare", "--old=1", zeros, zeros), b"E4"),
+            (("run", "--image", "--rope=1", zeros, EMPTY, "1"), b"E4"),
+            (("debug", "--image", zeros, EMPTY), b"E5"),
+        ):
+            answer = agcws(*words)
+            with self.subTest(f"devices: {name_of(words)}, which has no end"):
+                self.assertTrue(answer == (1, b"", refused(words, zeros, error)) and not os.path.exists(made), f"{answer}")
+        with open(zeros, "rb") as endless:
+            ran = subprocess.run([PROGRAM, "debug", FIVE, EMPTY], stdin=endless, capture_output=True, timeout=300)
+        with self.subTest("devices: commands without an end"):
+            self.assertEqual((ran.returncode, ran.stdout, ran.stderr), (0, b"E51 LONG\n", b"agcws: commands end after 16777216 bytes\n"), f"{ran.returncode} {ran.stdout[-200:]} {ran.stderr}")
+
+    def endless_commands(self):
+        """Commands without an end are read on in an extended session, in the memory that was taken at first."""
+        with open("/dev/zero", "rb") as endless, subprocess.Popen([PROGRAM, "debug", "--extended", FIVE, EMPTY], stdin=endless, stdout=subprocess.PIPE, stderr=subprocess.PIPE) as ran:
+            time.sleep(2)
+            with open(f"/proc/{ran.pid}/status", encoding="ascii") as file:
+                most = int(re.search(r"VmHWM:\s+(\d+) kB", file.read())[1]) << 10
+            is_going = ran.poll() is None
+            ran.kill()
+            with self.subTest("devices: commands of an extended session without an end"):
+                self.assertTrue(is_going and most <= MOST_MEMORY and not ran.stderr.read(), f"{is_going}, {most} bytes of memory")
+
+    def few_of_the_system(self, writing):
+        """No memory is to be had beyond what the program starts with; and no second file."""
+        for words in writing:
+            ran = limited(words, resource.RLIMIT_DATA, 6 << 15)
+            with self.subTest(f"devices: {name_of(words)}, with little memory"):
+                self.assertEqual(ran, (3, b"", b"agcws: E2\n"))
+            paths = [it for it in words if "/" in it]
+            if len(paths) > 1:
+                # three are the standard streams, and three stand in for those of them that may be closed
+                ran = limited(words, resource.RLIMIT_NOFILE, 7)
+                wanted = E7 if words[0] == "asm" else refused(words[:1], paths[1], b"E6")
+                with self.subTest(f"devices: {name_of(words)}, with one file to be had"):
+                    self.assertEqual(ran, (3, b"", wanted))
+
+    def without_rights(self, image):
+        """A file that nobody may read. The superuser may read all, so another user tries it then."""
+        locked, program, feed, made = write(f"{self.room}/locked", read(FIVE)), f"{self.room}/program", write(f"{self.room}/feed", b""), f"{self.room}/unmade"
+        shutil.copy(PROGRAM, program)
+        for path, rights in ((locked, 0), (program, 0o755), (feed, 0o644), (image, 0o644), (self.room, 0o755)):
+            os.chmod(path, rights)
+        who = {"user": 65534} if os.geteuid() == 0 else {}
+        for words, error in (
+            (("run", locked, feed, "1"), E6),
+            (("asm", locked, made), E6),
+            (("asm", feed, locked), E7),
+            (("debug", locked, feed), E6),
+            (("trace", locked, feed, "1"), E6),
+            (("cover", locked, feed, "1"), E6),
+            (("access", locked, feed, "1"), E6),
+            (("delays", locked, feed, "1"), E6),
+            (("run", "--notes", locked, feed, "1"), E6),
+            (("check", locked), E6),
+            (("check", feed, locked), E6),
+            (("parity", locked), E6),
+            (("damages", locked), E6),
+            (("compare", "--only", locked, image), E6),
+            (("words", "--symbols", locked, "--rope=1", image), E6),
+            (("words", locked), E6),
+            (("sums", locked), E6),
+            (("compare", "--old=1", image, locked), E6),
+            (("run", "--image", "--rope=1", image, locked, "1"), E6),
+            (("debug", "--image", locked, feed), E6),
+            (("upgrade", locked, made), E6),
+            (("upgrade", image, locked), E7),
+        ):
+            ran = subprocess.run([program, *words], stdin=subprocess.DEVNULL, capture_output=True, **who)
+            wanted = refused(words, locked, b"E6") if error == E6 else error
+            with self.subTest(f"devices: {name_of(words)}, without rights"):
+                self.assertEqual((ran.returncode, ran.stdout, ran.stderr), (3, b"", wanted))
+
+
+class Sizes(HostileCase):
+    """The greatest sizes, and one more."""
+
+    def periodic_ropes(self):
+        """Ropes of few words that stand again and again, or of none in common, are aligned in bounded time."""
+        rng = random.Random(5)
+        periods = {"zeros": [0], "ones": [0o77777], "one word": [0o30100], "two words": [0o30100, 0o54101], "three words": [1, 2, 5], "thirteen words": list(range(100, 113)), "a bank": [rng.randrange(0o100000) for _ in range(1024)], "two random words": [rng.choice((0o1234, 0o4321)) for _ in range(36864)], "random words": [rng.randrange(0o100000) for _ in range(36864)], "other random words": [rng.randrange(0o100000) for _ in range(36864)]}
+        ropes = {name: write(f"{self.room}/periodic_{number}", b"".join((2 * word).to_bytes(2, "big") for word in (words * 36864)[:36864])) for number, (name, words) in enumerate(periods.items())}
+        slow, wrong = [], []
+        for old, first in ropes.items():
+            for new, second in ropes.items():
+                begin = time.monotonic()
+                status, out, err = agcws("align", "--old=1", "--new=1", first, second)
+                slow += [(old, new, time.monotonic() - begin)] if time.monotonic() - begin > 10 else []
+                wrong += [(old, new, status, err)] if (status, err) != (0, b"") or b"SAME WORDS" not in out.splitlines()[-1] else []
+                wrong += [(old, new, out[-80:])] if old == new and out.count(b"\n") != 1 else []
+        with self.subTest(f"sizes: {len(ropes) ** 2} alignments of periodic ropes"):
+            self.assertTrue(not slow and not wrong, f"slow: {slow[:5]}, wrong: {wrong[:5]}")
+
+    def test_sizes(self):
+        most = 8_388_608
+        zeros = write(f"{self.room}/zeros", bytes(IMAGE_BYTES))
+        large = write(f"{self.room}/large", b"#" * 100 + b"\n" * (most - 99))
+        for words in (("run", large, EMPTY, "1"), ("run", FIVE, large, "1"), ("trace", FIVE, large, "1"), ("asm", large, f"{self.room}/rope"), ("debug", FIVE, large), ("run", "--image", "--rope=1", zeros, large, "1"), ("debug", "--image", "--rope=1", zeros, large), ("words", "--symbols", large, "--rope=1", zeros), ("trace", "--image", "--symbols", large, "--rope=1", zeros, EMPTY, "1"), ("cover", FIVE, large, "1"), ("run", "--notes", FIVE, large, "1"), ("check", large), ("check", FIVE, EMPTY, large), ("compare", "--only", large, zeros), ("debug", "--extended", FIVE, large), ("asm", "--flight", large, f"{self.room}/rope")):
+            answer = agcws(*words)
+            with self.subTest(f"sizes: {words[0]} of {most + 1} bytes"):
+                self.assertEqual(answer, (1, b"", refused(words, large, b"E34")))
+        whole = write(f"{self.room}/whole", b" SETLOC 4000\n TCF 4000\n" + b"#\n" * 65_534)
+        with self.subTest("sizes: a source of 65,536 lines"):
+            self.assertEqual(agcws("run", whole, EMPTY, "5"), (0, b"", b""))
+        # The longest source that has no fault: as many lines as there may be, and each as long as it may be.
+        longest, made = b" SETLOC 4000\n TCF 4000\n" + (b"#" * 120 + b"\n") * 65_534, f"{self.room}/longest_rope"
+        write(whole, longest)
+        with self.subTest(f"sizes: a source of {len(longest)} bytes"):
+            self.assertEqual(agcws("run", whole, EMPTY, "5"), (0, b"", b""))
+        status, out, err = agcws("asm", whole, made)
+        with self.subTest(f"sizes: the image and the listing of {len(longest)} bytes"):
+            self.assertTrue((status, err) == (0, b"") and os.path.getsize(made) == IMAGE_BYTES and out.endswith(b"SYMBOLS 0\n"), f"{status} {out[-80:]} {err}")
+        write(whole, b" SETLOC 4000\n TCF 4000\n" + b"#\n" * 65_535)
+        with self.subTest("sizes: a source of 65,537 lines"):
+            self.assertEqual(agcws("run", whole, EMPTY, "5"), (1, b"", b"agcws: E12 LINE 65537\n"))
+        write(whole, b" SETLOC 10000\n TCF 4000\n" + b"#\n" * 262_142)
+        with self.subTest("sizes: a flight source of 262,144 lines"):
+            self.assertEqual(agcws("asm", "--flight", whole, made)[::2], (0, b""))
+        write(whole, b" SETLOC 10000\n TCF 4000\n" + b"#\n" * 262_143)
+        with self.subTest("sizes: a flight source of 262,145 lines"):
+            self.assertEqual(agcws("asm", "--flight", whole, made), (1, b"", b"agcws: E12 LINE 262145\n"))
+        write(whole, b" " * 119 + b"#" * (most - 120) + b"\n")
+        with self.subTest("sizes: a flight source that is a comment"):
+            self.assertEqual(agcws("asm", "--flight", whole, made)[::2], (0, b""))
+        write(whole, b" " * 120 + b"#" * (most - 121) + b"\n")
+        with self.subTest("sizes: a flight line of 120 bytes and a comment"):
+            self.assertEqual(agcws("asm", "--flight", whole, made), (1, b"", b"agcws: E11 LINE 1\n"))
+        inputs = write(f"{self.room}/inputs", b"7 TIME1 PINC\n" * 65_536)
+        with self.subTest("sizes: 65,536 inputs"):
+            self.assertEqual(agcws("run", FIVE, inputs, "5")[0], 0)
+        write(inputs, b"7 TIME1 PINC\n" * 65_537)
+        with self.subTest("sizes: 65,537 inputs"):
+            self.assertEqual(agcws("run", FIVE, inputs, "5"), (1, b"", b"agcws: E32\n"))
+        # A line that is too long, and a command whose last byte is the last that counts.
+        commands = b"x" * (16_777_216 - 8) + b"\nstep 1\n"
+        right = agcws("debug", FIVE, EMPTY, commands=b"x" * 81 + b"\nstep 1\n")
+        ended = (*right[:2], b"agcws: commands end after 16777216 bytes\n")
+        with self.subTest("sizes: commands of 16,777,216 bytes"):
+            self.assertEqual(agcws("debug", FIVE, EMPTY, commands=commands), ended)
+        with self.subTest("sizes: commands of more bytes"):
+            self.assertEqual(agcws("debug", FIVE, EMPTY, commands=commands + b"step 5\n"), ended)
+        with self.subTest("sizes: commands of a byte less"):
+            self.assertEqual(agcws("debug", FIVE, EMPTY, commands=commands[1:]), right)
+        with self.subTest("sizes: an extended session of more bytes"):
+            self.assertEqual(agcws("debug", "--extended", FIVE, EMPTY, commands=commands + b"echo on\n"), (0, b"E51 LONG\nAT 1 2 02,4001\non\n", b""))
+        self.image_sizes(zeros)
+        self.odd_images()
+        self.octal_texts()
+
+    def image_sizes(self, zeros):
+        """An image of a byte less, and of a byte more."""
+        self.periodic_ropes()
+        short, long = write(f"{self.room}/short", bytes(IMAGE_BYTES - 1)), write(f"{self.room}/long", bytes(IMAGE_BYTES + 1))
+        for image, error in ((short, b"E3"), (long, b"E4"), ("/dev/null", b"E3")):
+            for words in (
+                ("words", "--rope=1", image),
+                ("sums", "--rope=1", image),
+                ("sums", "--forms", "--rope=1", image),
+                ("parity", image),
+                ("parity", "--form=hardware", image),
+                ("damages", image),
+                ("damages", "--source", image),
+                ("words", "--parity=ignore", image),
+                ("words", "--symbols", EMPTY, "--rope=1", image),
+                ("trace", "--image", "--rope=1", image, EMPTY, "1"),
+                ("cover", "--image", "--rope=1", image, EMPTY, "1"),
+                ("debug", "--extended", "--image", "--rope=1", image, EMPTY),
+                ("words", "--source", "--rope=1", image),
+                ("compare", "--only", "--new=1", FIVE, image),
+                ("compare", "--old=1", "--new=1", image, zeros),
+                ("compare", "--old=1", "--new=1", zeros, image),
+                ("run", "--image", "--rope=1", image, EMPTY, "1"),
+                ("debug", "--image", "--rope=1", image, EMPTY),
+                ("upgrade", image, f"{self.room}/made"),
+            ):
+                answer = agcws(*words)
+                with self.subTest(f"sizes: {name_of(words)}"):
+                    self.assertEqual(answer, (1, b"", refused(words, image, error)))
+
+    def odd_images(self):
+        """Images of other lengths, up to 1,000 banks, and images of zeros, of ones, and of bytes that come again: each answer in time and in little memory."""
+        image, chance = f"{self.room}/odd", random.Random(64)
+        lengths = [0, 1, 2, 2047, 2048, 2049, 12_288, 24_576, 61_440, IMAGE_BYTES - 2, IMAGE_BYTES + 2, 2 * IMAGE_BYTES, 1000 * 2048, *chance.sample(range(IMAGE_BYTES), 20)]
+        for length in lengths:
+            write(image, bytes(length))
+            for words in (("words", "--rope=1", image), ("sums", "--rope=1", image), ("sums", "--forms", "--rope=1", image), ("parity", image), ("damages", image), ("damages", "--form=swapped,numbered", image)):
+                error = b"E3" if length < IMAGE_BYTES else b"E4"
+                with self.subTest(f"sizes: {words[0]} of an image of {length} bytes"):
+                    self.assertEqual(in_bounds(words), (1, b"", refused(words, image, error)))
+        periods = [bytes([byte]) for byte in (0, 255, 1, 254)] + [chance.randbytes(length) for length in (2, 3, 4, 6, 16, 512, 1024, 2048, 4096, 12_288, 24_576, IMAGE_BYTES)]
+        for period in [*periods, b"\0\1", b"\xff\xfe"]:
+            write(image, (period * (IMAGE_BYTES // len(period) + 1))[:IMAGE_BYTES])
+            for words in (("words", "--parity=ignore", image), ("sums", "--parity=ignore", image), ("sums", "--forms", "--rope=1", image), ("parity", image), ("damages", image), ("damages", "--form=hardware", image), ("damages", "--form=hardware,swapped,complemented,numbered", image), ("damages", "--source", image)):
+                status, out, err = in_bounds(words)
+                is_right = (status, err) == (0, b"") or (status == 1 and (out.endswith(b"\n") and b"COUNT " in out[-12:] or err == b"agcws: E5\n"))
+                with self.subTest(f"sizes: {words[0]} of a period of {len(period)} bytes"):
+                    self.assertTrue(is_right, f"{status} {out[-80:]} {err}")
+
+    def octal_texts(self):
+        """Texts of octal words of 1,000 banks, of one line, of lines without a word and of more bytes than a text may have: each answer in time and in little memory."""
+        text, bank = f"{self.room}/octals", b"00001 " * 1023 + b"77777"
+        banks = b"\n".join(b"BANK=%o\n%s" % (number, bank) for number in range(36))
+        write(text, banks)
+        status, out, err = in_bounds(("words", "--octal", text), os.path.getsize(text))
+        with self.subTest("sizes: a text of 36 banks"):
+            self.assertTrue((status, err) == (0, b"") and out.replace(b"BANK=0", b"BANK=").split() == banks.split(), f"{status} {out[:80]} {err}")
+        for label, it in (("1,000 banks", b"\n".join(b"BANK=%o\n%s" % (number, bank) for number in range(1000))), ("one line", b"BANK=02 " + bank * 100), ("a long line", b"BANK=02\n" + bank * 1000), ("ones", b"BANK=02\n" + b"1" * 1_000_000)):
+            write(text, it)
+            status, out, err = in_bounds(("words", text), os.path.getsize(text))
+            with self.subTest(f"sizes: a text of octal words, {label}"):
+                self.assertTrue((status, out) == (1, b"") and err.startswith(text.encode() + b":") and err.endswith((b"agcws: E3\n", b"agcws: E4\n", b"agcws: E5\n")), f"{status} {out[:80]} {err}")
+        write(text, b"BANK=02\n" + b"\n" * 8_388_601)
+        with self.subTest("sizes: a text of octal words of 8,388,609 bytes"):
+            self.assertEqual(in_bounds(("words", text), os.path.getsize(text)), (1, b"", b"agcws: E34\n"))
+        write(text, b"BANK=02\n" + b"\n" * 8_388_600)
+        with self.subTest("sizes: a text of octal words of 8,388,608 bytes"):
+            self.assertEqual(in_bounds(("words", text), os.path.getsize(text))[::2], (0, b""))
+
+
+class Bytes(HostileCase):
+    """Cases of each kind, each in a process of its own."""
+
+    def test_bytes(self):
+        print(f"hostile inputs by AGCWS_SEED={SEED}", flush=True)
+        made = cases.Made(self.room)
         for kind in cases.KINDS:
-            runs = in_process.runs_of(made, seed, 0, ALIKE, kind)
-            answers = sorted((line for run in runs for line in run.try_all(TELL=1).told), key=lambda it: int(it.split()[1]))
-            pairs = list(zip(answers, (worker.answer(kind, number) for number in range(ALIKE)), strict=True)) if len(answers) == ALIKE else []
-            other = [it for it in pairs if it[0] != it[1]]
-            told(f"bytes: {kind} in one process, as each in its own", len(pairs) == ALIKE and not other, f"{len(answers)} answers, of {len(other)} other ones the first: {other[:2]}")
-    finally:
-        shutil.rmtree(worker.room)
-    wrong = [it for run in in_process.runs_of(made, seed, 0, ALIKE, "source") for it in run.try_all(REFUSALS="10").wrong]
-    told("bytes: in one process a refusal that does not exist would be told", any("no such refusal" in it for it in wrong), f"{wrong[:3]}")
+            step, started = max(1, min(1000, CASES // 8 + 1)), time.monotonic()
+            with ProcessPoolExecutor() as pool:
+                parts = [pool.submit(some_cases, made, SEED, kind, first, min(first + step, CASES)) for first in range(0, CASES, step)]
+                results = [part.result() for part in parts]
+            wrong = [it for part, _, _ in results for it in part]
+            slowest, largest = max(it for _, it, _ in results), max(it for _, _, it in results)
+            with self.subTest(f"bytes: {kind}, {len(wrong)} of {CASES}"):
+                self.assertFalse(wrong, f"seed {SEED}, the first: {wrong[:5]}")
+            print(f"bytes: {CASES} of {kind}: {time.monotonic() - started:.0f} s; the slowest call took {slowest:.2f} s, the largest {largest >> 10} KiB", flush=True)
+        self.checks(made)
+        self.checks_of_feeds(made)
+        self.readings(made)
+        self.alike(made)
+        self.with_failures(made)
 
+    def checks(self, made):
+        step = max(1, min(1000, CASES // 8 + 1))
+        with ProcessPoolExecutor() as pool:
+            parts = [pool.submit(some_checks, made, SEED, first, min(first + step, CASES)) for first in range(0, CASES, step)]
+            results = [part.result() for part in parts]
+        wrong, refused, taken = [it for part, _, _ in results for it in part], sum(it for _, it, _ in results), sum(it for _, _, it in results)
+        with self.subTest(f"bytes: check, {len(wrong)} of {CASES}"):
+            self.assertTrue(not wrong and 0 < taken < refused < CASES, f"seed {SEED}, {refused} refused, {taken} of them taken with --flight, the first: {wrong[:5]}")
 
-def main():
-    parser = argparse.ArgumentParser(description=__doc__, formatter_class=argparse.RawDescriptionHelpFormatter)
-    parser.add_argument("--cases", type=int, default=600)
-    parser.add_argument("--seed", default=time.strftime("%Y-%m-%dT%H:%M:%S"))
-    parser.add_argument("parts", nargs="*", choices=[[], "memory", "devices", "sizes", "bytes"], metavar="PART")
-    given = parser.parse_args()
-    if cases.is_any_missing("hostile/check.py", *([VECTOR_SESSION] if not given.parts or "memory" in given.parts else [])):
-        return 1
-    print(f"hostile inputs by --seed {given.seed}", flush=True)
-    parts = {"memory": memory, "devices": devices, "sizes": sizes, "bytes": lambda room: hostile_bytes(room, given.cases, given.seed)}
-    for name, part in parts.items():
-        if not given.parts or name in given.parts:
-            with tempfile.TemporaryDirectory(prefix="hostile-") as room:
-                part(room)
-    return end()
+    def checks_of_feeds(self, made):
+        step = max(1, min(1000, CASES // 8 + 1))
+        with ProcessPoolExecutor() as pool:
+            parts = [pool.submit(some_feeds, made, SEED, first, min(first + step, CASES)) for first in range(0, CASES, step)]
+            results = [part.result() for part in parts]
+        wrong, refused = [it for part, _ in results for it in part], sum(it for _, it in results)
+        with self.subTest(f"bytes: check of feeds, {len(wrong)} of {CASES}"):
+            self.assertTrue(not wrong and 0 < refused < CASES, f"seed {SEED}, {refused} refused, the first: {wrong[:5]}")
+
+    def readings(self, made):
+        """Runs of hostile sources, images and feeds, as those tell them that read a run."""
+        step = max(1, min(1000, CASES // 8 + 1))
+        for kind in ("source", "image", "feed"):
+            with ProcessPoolExecutor() as pool:
+                parts = [pool.submit(some_readings, made, SEED, kind, first, min(first + step, CASES)) for first in range(0, CASES, step)]
+                results = [part.result() for part in parts]
+            wrong, ran, noted = [it for part, _, _ in results for it in part], sum(it for _, it, _ in results), sum(it for _, _, it in results)
+            with self.subTest(f"bytes: {kind} as it is read, {len(wrong)} of {CASES}"):
+                self.assertTrue(not wrong and ran > 0 and noted > 0, f"seed {SEED}, {ran} were run, {noted} drew notes; the first: {wrong[:5]}")
+
+    def with_failures(self, made):
+        """As many further cases, in one process: each is tried by itself, and then with a request for memory refused, or a read or a write that fails."""
+        for kind in cases.KINDS:
+            runs = [run.try_all(FAILURES=1) for run in in_process.runs_of(made, SEED, CASES, 2 * CASES, kind)]
+            wrong, tried = [it for run in runs for it in run.wrong], sum(run.count for run in runs)
+            with self.subTest(f"bytes: {kind} with failures, {len(wrong)} of {CASES}"):
+                self.assertTrue(not wrong and tried == CASES, f"seed {SEED}, {tried} were tried; the first: {wrong[:5]}")
+            failures = sum((run.failures for run in runs), collections.Counter())
+            print(f"bytes: {tried} of {kind} with a failure: " + ", ".join(f"{failures[it]} of {it}" for it in ("memory", "read", "write")), flush=True)
+
+    def alike(self, made):
+        """In one process, with the files and the memory of a library, the program answers as in a process of its own."""
+        worker = Worker(made, SEED)
+        try:
+            for kind in cases.KINDS:
+                runs = in_process.runs_of(made, SEED, 0, ALIKE, kind)
+                answers = sorted((line for run in runs for line in run.try_all(TELL=1).told), key=lambda it: int(it.split()[1]))
+                pairs = list(zip(answers, (worker.answer(kind, number) for number in range(ALIKE)), strict=True)) if len(answers) == ALIKE else []
+                other = [it for it in pairs if it[0] != it[1]]
+                with self.subTest(f"bytes: {kind} in one process, as each in its own"):
+                    self.assertTrue(len(pairs) == ALIKE and not other, f"{len(answers)} answers, of {len(other)} other ones the first: {other[:2]}")
+        finally:
+            shutil.rmtree(worker.room)
+        wrong = [it for run in in_process.runs_of(made, SEED, 0, ALIKE, "source") for it in run.try_all(REFUSALS="10").wrong]
+        with self.subTest("bytes: in one process a refusal that does not exist would be told"):
+            self.assertTrue(any("no such refusal" in it for it in wrong), f"{wrong[:3]}")
 
 
 if __name__ == "__main__":
-    sys.exit(main())
+    unittest.main()

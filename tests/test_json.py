@@ -1,6 +1,9 @@
 """Compares the objects of `agcws cover --json` and `run --notes --json` with the texts of the same calls without --json: each text can be made anew of its objects."""
 import json
 import subprocess
+import unittest
+
+from common import EMPTY, EXAMPLES, PROGRAM, Case, agcws, example_runs, write
 
 # The address of the first word of banks that need no FB; that of the others is 2000.
 FIRST = {"02": 0o4000, "03": 0o6000}
@@ -50,17 +53,48 @@ def lines_of(program, *words):
     return ran.stdout, ran.stderr, ran.returncode
 
 
-def check_objects(program, told, name, options, files, steps):
-    """Compares both of a run. Files are a program and its feed, and options stand before them."""
-    text, said, status = lines_of(program, "cover", *options, *files, steps)
-    objects = [json.loads(it) for it in lines_of(program, "cover", "--json", *options, *files, steps)[0].splitlines()]
-    told(f"cover --json of {name}", (status, said) == (0, "") and [*map(row_of, objects)] == text.splitlines() and len(objects) > 4)
-    if "--image" not in options:
-        symbols = symbols_of(program, [*options, files[0]])
-        wrong = [it for it in objects if it.get("word") and it["symbol"] != symbols.get(it["place"])]
-        told(f"the symbols of cover --json of {name}", not wrong, f"{wrong[:2]}")
-    options = [it for it in options if it != "--symbols" and not it.endswith(".lst")]
-    out, text, status = lines_of(program, "run", "--notes", *options, *files, steps)
-    got = lines_of(program, "run", "--notes", "--json", *options, *files, steps)
-    objects = [json.loads(it) for it in got[1].splitlines()]
-    told(f"run --notes --json of {name}", (got[0], got[2]) == (out, status) and [*map(note_of, objects)] == text.splitlines(), f"{objects[:2]}")
+class Beside:
+    """Compares objects with the text of the same call."""
+
+    def compare(self, name, options, files, steps):
+        """Compares both of a run. Files are a program and its feed, and options stand before them."""
+        text, said, status = lines_of(PROGRAM, "cover", *options, *files, steps)
+        objects = [json.loads(it) for it in lines_of(PROGRAM, "cover", "--json", *options, *files, steps)[0].splitlines()]
+        with self.subTest(f"cover --json of {name}"):
+            self.assertTrue((status, said) == (0, "") and [*map(row_of, objects)] == text.splitlines() and len(objects) > 4)
+        if "--image" not in options:
+            symbols = symbols_of(PROGRAM, [*options, files[0]])
+            wrong = [it for it in objects if it.get("word") and it["symbol"] != symbols.get(it["place"])]
+            with self.subTest(f"the symbols of cover --json of {name}"):
+                self.assertFalse(wrong, f"{wrong[:2]}")
+        options = [it for it in options if it != "--symbols" and not it.endswith(".lst")]
+        out, text, status = lines_of(PROGRAM, "run", "--notes", *options, *files, steps)
+        got = lines_of(PROGRAM, "run", "--notes", "--json", *options, *files, steps)
+        objects = [json.loads(it) for it in got[1].splitlines()]
+        with self.subTest(f"run --notes --json of {name}"):
+            self.assertTrue((got[0], got[2]) == (out, status) and [*map(note_of, objects)] == text.splitlines(), f"{objects[:2]}")
+
+
+class Objects(Beside, Case):
+    """Objects of a program, beside the text of the same call."""
+
+    def test_examples(self):
+        for name, files in example_runs():
+            self.compare(name, [], files, "2000")
+
+    def test_images(self):
+        rope = f"{self.room}/covered.rope"
+        agcws("asm", f"{EXAMPLES}/five_plus_five.agc", rope)
+        self.compare("an image", ["--image"], [rope, EMPTY], "40")
+        names = write(f"{self.room}/covered.lst", b'START 02,4000\nA"B\\C 02,4005\n')
+        self.compare("an image with names", ["--image", "--symbols", names], [rope, EMPTY], "40")
+
+    def test_odd_sources(self):
+        """A name and a text with all that is escaped, words of two, and each kind of note; and a flight source."""
+        odd = b' SETLOC 4000\nA"B\\C TC 1000\n# "\t\\ / <~>\nFAR 2CADR A"B\\C\n\n SETLOC 100\n"\\ ERASE\n'
+        self.compare("escaped names", [], [write(f"{self.room}/escaped.agc", odd), EMPTY], "7")
+        self.compare("a flight source", ["--flight"], [write(f"{self.room}/flown.agc", b" SETLOC 4000\nX OCT -1\n TC X\n"), EMPTY], "9")
+
+
+if __name__ == "__main__":
+    unittest.main()

@@ -1,64 +1,50 @@
-#!/usr/bin/env python3
 """Compares the module of the program with the native program, byte for byte: exit status, both outputs, and the files that are written.
 
-usage: page/check.py [--all] [--seed SEED] [--module FILE] [PART ..]
+The module is AGCWS_MODULE, or it is made first, in out/module: of the proved program's bitcode where a build has kept it, else of the quick program's. Tried are
 
-Without FILE the module is made first, in out/module: of the proved program's bitcode where a build has kept it, else of the quick program's. The native
-program has to be built. The parts, which run side by side:
+- what tests of the program try, with the module in its place, but for what no page has: devices, links, terminals, signals. Rows are tried always, the others with AGCWS_ALL
+- images, wrong files, wrong words, help, and each refusal and warning explained
+- sessions of random commands, hostile inputs (hostile/cases.py), the heap and arithmetic of 128 bits, by AGCWS_SEED: with AGCWS_ALL ten times as many
+- the greatest sources and feeds (bench/inputs.py), memory that is refused, and wrong hosts, each of which one of these calls has to tell
+- a page from the disk in Chromium, Firefox and WebKit
 
-    documents, traces, checks, rows, ropes     what examples/check.py tries, with the module in place of the program, but for what no page has: devices,
-                  links, terminals, signals
-    refusals      images, wrong files, wrong words, help, and each refusal and warning explained
-    sessions      sessions of random commands by SEED, over the examples
-    hostile       hostile inputs of each kind by SEED (hostile/cases.py)
-    inputs        the greatest sources and feeds (bench/inputs.py)
-    memory        memory that is refused, and the heap
-    mutants       wrong hosts, each of which one of the calls above has to tell
-    arithmetic    arithmetic of 128 bits by SEED
-    chromium, firefox, webkit     a page from the disk in each of these browsers
-
-Without parts, documents, traces, checks and ropes are left to --all, which has more sessions and hostile inputs too. What is not installed is told, with how it is had. The last line is 'N passed, M failed'.
+What is not installed is told, with how it is had.
 """
-import argparse
 import base64
+import fcntl
 import functools
 import glob
 import hashlib
 import http.server
+import importlib.machinery
+import importlib.util
 import json
 import os
 import random
 import re
-import resource
 import shutil
 import subprocess
 import sys
 import tempfile
 import threading
 import time
-from concurrent.futures import ThreadPoolExecutor
+import unittest
+from unittest import mock
 
-sys.dont_write_bytecode = True
-HERE = os.path.dirname(os.path.realpath(__file__))
-ROOT = os.path.dirname(HERE)
-EXAMPLES = f"{ROOT}/examples"
-sys.path[:0] = [f"{ROOT}/{it}" for it in ("gate", "page/module", "bench", "examples", "hostile")]
+from common import EXAMPLES, PROGRAM, ROOT, TESTS, Case, read, rows_of_runs, write
 import one_file
 import released
-import tally
-from files import read, write
-from tally import told
+import session
 
-PROGRAM = os.environ.get("AGCWS", f"{ROOT}/crates/agcws/out/agcws")
-COMMAND = f"{HERE}/module/command.js"
+PAGES = f"{ROOT}/page"
+COMMAND = f"{PAGES}/module/command.js"
 # Of what a module is made beside its bitcode.
-SCRIPTS = [f"{HERE}/module/{it}" for it in ("build.py", "layer.c", "retarget.py")]
+SCRIPTS = [f"{PAGES}/module/{it}" for it in ("build.py", "layer.c", "retarget.py")]
 MOST_MEMORY = 1 << 28
-# The most seconds of a part, of a page in a browser, and of a call: many times what they take, since a machine may be busy.
-MOST_SECONDS, MOST_SECONDS_OF_PAGE, MOST_SECONDS_OF_CALL = 1500, 900, 300
-
-
-# The module
+# The most seconds of a page in a browser, and of a call: many times what they take, since a machine may be busy.
+MOST_SECONDS_OF_PAGE, MOST_SECONDS_OF_CALL = 900, 300
+# Whether more is tried, and by which seed.
+ALL, SEED = bool(os.environ.get("AGCWS_ALL")), os.environ.get("AGCWS_SEED", time.strftime("%Y-%m-%dT%H:%M:%S"))
 
 
 def pack():
@@ -74,20 +60,38 @@ def pack():
 
 def made_module():
     """Returns the file of the module: of the proved program's bitcode, where a build has kept that; else the release's, where it was made of these sources; else
-    the quick program's."""
+    the quick program's. Several processes may ask for it."""
     packing = pack()
     kept = packing.toolchain.bitcode(packing.program_crate())
     sources = [kept] if kept else sorted(glob.glob(f"{ROOT}/crates/*/src/**/*.rt", recursive=True))
     key = hashlib.sha256(b"".join(hashlib.sha256(read(it)).digest() for it in sources + SCRIPTS)).hexdigest()[:16]
-    made = f"{ROOT}/out/module/{key}.wasm"
-    if not os.path.exists(made):
-        shutil.rmtree(os.path.dirname(made), ignore_errors=True)
-        os.makedirs(os.path.dirname(made))
-        if not kept and (given := released.current_module()):
-            return write(made, given)
-        with tempfile.TemporaryDirectory(prefix="agcws-module-") as room:
-            shutil.copy(packing.make_module(room, room, bool(kept)), made)
+    folder = f"{ROOT}/out/module"
+    os.makedirs(folder, exist_ok=True)
+    made = f"{folder}/{key}.wasm"
+    with open(f"{folder}/lock", "w", encoding="utf-8") as lock:
+        fcntl.flock(lock, fcntl.LOCK_EX)
+        if not os.path.exists(made):
+            for it in glob.glob(f"{folder}/*.wasm"):
+                os.remove(it)
+            if not kept and (given := released.current_module()):
+                return write(made, given)
+            with tempfile.TemporaryDirectory(prefix="agcws-module-") as room:
+                shutil.copy(packing.make_module(room, room, bool(kept)), made)
     return made
+
+
+@functools.cache
+def module_file():
+    """The file of the module. Skips the tests where there is none."""
+    if not shutil.which("node"):
+        raise unittest.SkipTest("node is not there: apt-get install nodejs")
+    if given := os.environ.get("AGCWS_MODULE"):
+        return os.path.abspath(given)
+    import build
+
+    if why := build.missing():
+        raise unittest.SkipTest(f"the module cannot be made, since {why}")
+    return made_module()
 
 
 def about(path):
@@ -108,7 +112,7 @@ class Module:
     def call(self, words, folder, given=b"", most=MOST_MEMORY):
         """What the program answers in a folder: its status, its output and its error output. What the engine refuses is an error output of its own."""
         line = {"words": list(words), "folder": folder, "input": base64.b64encode(given).decode(), "most": most}
-        # (parts of examples/check.py call side by side)
+        # (parts of tests/test_documents.py call side by side)
         with self.is_free:
             self.ran.stdin.write(json.dumps(line).encode() + b"\n")
             self.ran.stdin.flush()
@@ -130,8 +134,8 @@ def natively(words, folder, given=b""):
 class Sides:
     """The native program and the module, each in a folder of its own with the same files."""
 
-    def __init__(self, module, room, command=COMMAND):
-        self.module, self.room, self.wrong, self.count = Module(module, command), room, [], 0
+    def __init__(self, test, room=None, command=COMMAND):
+        self.test, self.module, self.room, self.wrong, self.count = test, Module(test.module, command), room or test.room, [], 0
 
     def answer(self, side, call, files):
         folder = f"{self.room}/{side}"
@@ -153,9 +157,16 @@ class Sides:
 
     def tell(self, label):
         """Tells what came of the comparisons so far."""
-        told(f"{label}, {len(self.wrong)} of {self.count}", self.count and not self.wrong, "; ".join(self.wrong[:3]))
+        with self.test.subTest(f"{label}, {len(self.wrong)} of {self.count}"):
+            self.test.assertTrue(self.count and not self.wrong, "; ".join(self.wrong[:3]))
         print(f"{label}: {self.count} calls compared", flush=True)
         self.wrong, self.count = [], 0
+
+
+def example_files():
+    """The examples that are run: the name, the source, the feed and the steps of each."""
+    for name, feed, steps in rows_of_runs():
+        yield name, read(f"{EXAMPLES}/{name}.agc"), read(f"{EXAMPLES}/{feed}"), int(steps)
 
 
 def different(native, got):
@@ -164,101 +175,6 @@ def different(native, got):
         if one != other:
             return f"{name}: natively {one!r:.200}, by the module {other!r:.200}"
     return "nothing"
-
-
-def example_runs():
-    """The examples that are run: the name, the source, the feed and the steps of each."""
-    for line in read(f"{EXAMPLES}/runs.txt").decode().splitlines():
-        if line and not line.startswith("#"):
-            name, feed, steps = line.split()
-            yield name, read(f"{EXAMPLES}/{name}.agc"), read(f"{EXAMPLES}/{feed}"), int(steps)
-
-
-# The parts
-
-
-def check_examples(group, module, room, _):
-    """A group of the parts of examples/check.py that use nothing of a system but files."""
-    import check as examples
-
-    program = f"{room}/program/agcws"
-    os.mkdir(os.path.dirname(program))
-    write(program, f'#!/bin/sh\nexec node "{COMMAND}" "{module}" "$@"\n'.encode())
-    os.chmod(program, 0o755)
-    by_module = Module(module)
-    run, simple = subprocess.run, {"stdin", "input", "capture_output", "stdout", "stderr", "timeout", "cwd", "text", "check"}
-
-    def run_by_module(words, **how):
-        """Calls the module where a part calls the program with pipes alone."""
-        if how.get("timeout"):
-            how["timeout"] = MOST_SECONDS_OF_CALL
-        if words[0] == program and any(isinstance(it, bytes) for it in words):
-            # (no page has words that are no text)
-            return run([PROGRAM, *words[1:]], **how)
-        plain = words[0] == program and set(how) <= simple and how.get("stdout", -1) == how.get("stderr", -1) == -1
-        if not plain or how.get("stdin", subprocess.DEVNULL) != subprocess.DEVNULL:
-            return run(words, **how)
-        given = how.get("input") or b""
-        given = given.encode() if isinstance(given, str) else given
-        status, out, err = by_module.call(words[1:], os.path.abspath(how.get("cwd", ".")), given)
-        out, err = (out.decode(), err.decode()) if how.get("text") else (out, err)
-        made = subprocess.CompletedProcess(words, status, out, err)
-        if how.get("check"):
-            made.check_returncode()
-        return made
-
-    subprocess.run, examples.PROGRAM, examples.Session.waits = run_by_module, program, waits
-    examples.WAIT = examples.Session.longest = MOST_SECONDS_OF_CALL
-    for name, wants in PARTS_OF_EXAMPLES[group].items():
-        part = getattr(examples, name)
-        with tempfile.TemporaryDirectory(dir=room) as own:
-            what = {"R": own, "P": program, "T": told, "E": EXAMPLES}
-            part(*(what[it] for it in wants))
-
-
-def waits(session):
-    """Returns whether the program of a session sleeps in a read of its input: node has other threads, for which the first one sleeps too."""
-    with open(f"/proc/{session.ran.pid}/syscall", encoding="ascii") as file:
-        return file.read().startswith("0 0x0 ")
-
-
-
-# Those parts, by the names of their functions, and what each is given: the folder (R), the program (P), told (T), the examples (E).
-PARTS_OF_EXAMPLES = {
-    "documents": {"check_documents": "R", "check_examples": "R", "check_flight": "R", "check_long_texts": "R", "check_likely_mistakes": "R"},
-    "traces": {"check_traces": "R", "check_covers": "R", "check_operators": "", "check_one_processor": "", "check_inputs": "R", "check_debugger": "R"},
-    "checks": {"check_checks": "PRT", "check_slips": "PRTE", "check_notes": "R", "check_end": "R", "check_command_line": ""},
-    "rows": {"check_rows": "PTR", "check_arguments": "PTR"},
-    "ropes": {
-        "check_upgrade": "R", "check_ropes": "R", "check_parities": "R", "check_sums_made": "R", "check_sources_of_ropes": "R", "check_form_sums": "R",
-        "check_names_of_images": "R",
-    },
-}
-
-
-def check_refusals(module, room, _):
-    """Images that are whole, wrong, short, long, or none; files that are none; words that are wrong; and all that explains a refusal."""
-    both = Sides(module, room)
-    asm = lambda name: both.compare(["asm", "my.agc", "made.rope"], {"my.agc": read(f"{EXAMPLES}/{name}.agc")})[3]["made.rope"]
-    rope, other = asm("lost_sum"), asm("bank_sum")
-    bad = bytes(it ^ (at in (777, 4242)) for at, it in enumerate(rope))
-    files = {"a.rope": rope, "b.rope": other, "bad.rope": bad, "short.rope": rope[:1000], "long.rope": rope + b"x", "empty": b""}
-    files |= {"my.lst": b"FIVE 02,4005\nSUM 100\n", "bad.lst": b"nonsense here now\n", "my.agc": read(f"{EXAMPLES}/lost_sum.agc")}
-    for it in ("a.rope", "b.rope", "bad.rope", "short.rope", "long.rope", "none.rope", "none/none.rope", "my.agc/none", ".", "", "/dev/null"):
-        for words in IMAGE_CALLS:
-            both.compare([it if word == "IT" else word for word in words], files)
-        both.compare(["asm", "my.agc", it], files)
-        both.compare(["check", "my.agc", it], files)
-        both.compare(["run", it, it, "3"], files)
-        both.compare(["debug", it, "empty"], files, b"step 1\n")
-    compare_in_place(both)
-    both.tell("images and files")
-    commands = "asm run trace cover debug check explain upgrade words compare sums parity help".split()
-    for words in [[], ["--version"], ["-V"], ["--help"], ["bogus"], ["--bogus"], *([it, *more] for it in commands for more in ([], ["--help"], ["--bogus"], ["a", "b", "c", "d", "e"]))]:
-        both.compare(words, files)
-    for it in [f"{kind}{number}" for kind in ("E", "W", "") for number in range(64)]:
-        both.compare(["explain", it])
-    both.tell("words")
 
 
 def compare_in_place(both):
@@ -272,7 +188,6 @@ IMAGE_CALLS = [
     for it in """words IT;words --source IT;words --parity ignore IT;words --form hardware IT;words --symbols my.lst IT;words --symbols bad.lst IT;words --where IT;sums IT
 sums --forms IT;parity IT;compare a.rope IT;compare IT b.rope;compare --only my.agc IT;run --image IT empty 100;upgrade IT new.rope;upgrade IT IT;upgrade IT ./a.rope""".replace("\n", ";").split(";")
 ]
-
 # Lines of sessions, in which a word in capitals is some such thing.
 LINES = """run COUNT;run COUNT;run MANY;step;step COUNT;back;back COUNT;back MANY;goto STEP;on COUNT;over COUNT;out COUNT;until MANY;regs;regs all;mem PLACE;mem PLACE COUNT;mem NUMBER NUMBER
 chan NUMBER;last PLACE;sym NAME;changed STEP;tail;tail COUNT;break at PLACE;break word PLACE NUMBER;break chan NUMBER NUMBER;break change PLACE;break exec NAME;seek;clear;inputs;why;why PLACE
@@ -299,20 +214,11 @@ def some_lines(chance, names):
 
 def sessions(count, seed):
     """Random sessions: the words of each, its files and its input."""
-    chance, runs = random.Random(f"sessions {seed}"), [*example_runs(), ("mix", read(f"{ROOT}/bench/mix.agc"), b"", 0)]
+    chance, runs = random.Random(f"sessions {seed}"), [*example_files(), ("mix", read(f"{ROOT}/bench/mix.agc"), b"", 0)]
     for _ in range(count):
         _, source, feed, _ = chance.choice(runs)
         names = NAMES + re.findall(r"^([A-Z][A-Z0-9]*)\b", source.decode("latin-1"), re.M)
         yield ["debug", "--extended", "my.agc", "my.feed"], {"my.agc": source, "my.feed": feed}, some_lines(chance, names)
-
-
-def check_sessions(module, room, given):
-    both, most = Sides(module, room), 0
-    compare_last_lines(both)
-    for words, files, lines in sessions(2000 if given.all else 200, given.seed):
-        most = max(most, len(both.compare(words, files, lines)[1]))
-    both.tell("sessions")
-    told("a session has replies", most > 2000)
 
 
 def compare_last_lines(both):
@@ -328,85 +234,6 @@ MUTANTS = [
     ("a last line without a newline is dropped", "const bytes = input(Number(count));", "const all = input(Number(count)), bytes = all.subarray(0, all.lastIndexOf(10) + 1);", compare_last_lines),
     ("a file that was written is not handed on", "file.isWritten ||= (flags & Linux.O_ACCESS) !== 0;", "file.isWritten ||= false;", compare_in_place),
 ]
-
-
-def check_mutants(module, room, _):
-    """Each wrong host answers otherwise than the native program."""
-    for number, (label, old, new, compare) in enumerate(MUTANTS):
-        folder = f"{room}/{number}"
-        os.mkdir(folder)
-        text = read(f"{HERE}/module/host.js").decode()
-        told(f"{label}: the text stands once", text.count(old) == 1, f"{text.count(old)} times")
-        write(f"{folder}/host.js", text.replace(old, new).encode())
-        write(f"{folder}/command.js", read(COMMAND))
-        write(f"{folder}/package.json", b'{"type": "module"}')
-        both = Sides(module, folder, f"{folder}/command.js")
-        compare(both)
-        told(f"{label}: that is told", both.wrong, f"{both.count} calls compared")
-
-
-def check_hostile(module, room, given):
-    """Hostile inputs of each kind, each by a call of its own."""
-    import cases
-
-    if not shutil.which("cc"):
-        return print("hostile inputs are not tried, since there is no C compiler cc: apt-get install gcc libc6-dev")
-    cases.PROGRAM = PROGRAM
-    os.mkdir(f"{room}/made")
-    made = cases.Made(f"{room}/made")
-    maker, both = cases.Maker(made, given.seed), Sides(module, room)
-    for kind in cases.KINDS:
-        for number in range(2000 if given.all else 120):
-            words, case = cases.any_call_of(kind, number), maker.case(kind, number)
-            files = {"case": case, "rope": read(made.rope)} | ({"twin": maker.twin(kind, number, case)} if "twin" in words else {})
-            both.compare([it.replace("/dev/zero", "rope") for it in words], files, read(made.commands) if "case" in words else case)
-        both.tell(f"hostile: {kind}")
-
-
-def check_inputs(module, room, _):
-    """The greatest sources and feeds."""
-    import inputs
-
-    both, comment = Sides(module, room), b"# what the next lines do\n"
-    source, feed = inputs.source(65536).encode(), inputs.feed(65536).encode()
-    faults = b" BOGUS 1\n" * 65536
-    files = {"my.agc": source, "my.feed": feed, "bad.agc": faults, "loop.agc": read(f"{ROOT}/bench/loop.agc"), "mix.agc": read(f"{ROOT}/bench/mix.agc"), "empty": b""}
-    for it in ("asm my.agc made.rope;check my.agc my.feed;check bad.agc;asm bad.agc made.rope;run --end --notes my.agc my.feed 300000;cover my.agc my.feed 300000;trace my.agc my.feed 60000;"
-               "run --end loop.agc empty 3000000;run --end mix.agc empty 3000000").split(";"):
-        both.compare(it.split(), files)
-    for lines in (65536, 65537):
-        both.compare(["check", "my.agc"], {"my.agc": comment * lines})
-    for size in (8388608, 8388609):
-        both.compare(["check", "my.agc"], {"my.agc": comment[:-1] + b"\n" * (size - len(comment) + 1)})
-    both.compare(["run", "my.agc", "my.feed", "5"], {"my.agc": b" SETLOC 4000\n", "my.feed": b"7 TIME1 PINC\n" * 65537})
-    both.compare(["debug", "loop.agc", "empty"], files, b"x" * (16777216 - 8) + b"\nstep 1\n")
-    both.compare(["debug", "--extended", "mix.agc", "empty"], files, b"run 1000000\nback 1\nback 700000\nwhy A 40\nbreak change 100\nseek\ngoto 999\nregs all\n")
-    both.tell("greatest inputs")
-
-
-def check_memory(module, room, given):
-    """With less and less memory a call answers as with all of it, or refuses by itself; and it does both."""
-    import inputs
-
-    own, folder = Module(module), f"{room}/memory"
-    os.mkdir(folder)
-    write(f"{folder}/my.agc", inputs.source(16384).encode())
-    write(f"{folder}/my.feed", inputs.feed(16384).encode())
-    for it in ("check my.agc my.feed", "asm my.agc made.rope", "run my.agc my.feed 2000", "cover my.agc my.feed 2000", "trace my.agc my.feed 500"):
-        wanted, refused, wrong = natively(it.split(), folder), 0, []
-        for pages in [*range(33, 330, 9), 4096]:
-            got = own.call(it.split(), folder, most=pages << 16)
-            refused += got == (3, b"", b"agcws: E2\n")
-            if got not in (wanted, (3, b"", b"agcws: E2\n")):
-                wrong.append((pages, got[0], got[1][:80], got[2][:200]))
-        told(f"{it} with less memory", not wrong and wanted[0] == 0 and refused > 2 and got == wanted, f"{wrong[:2]} {refused} refused")
-    lines = b"run 200000\nback 1\nback 150000\nregs\n" * 8
-    write(f"{folder}/mix.agc", read(f"{ROOT}/bench/mix.agc"))
-    words = ["debug", "mix.agc", "/dev/null"]
-    told("a session in 4 MB", own.call(words, folder, lines, 4 << 20) == natively(words, folder, lines))
-    check_heap(room, given)
-
-
 # Takes blocks, makes them larger and smaller and gives them back, as lines say: NUMBER SIZE, where a size of 0 gives one back. Each is filled with its own bytes,
 # which are there until the end; and when all are given back, one of nearly all the memory is had without more.
 HEAP = """
@@ -449,24 +276,6 @@ it.rattle_alloc(ANSWER, BigInt(all - 131072), 8n);
 taken();
 console.log(JSON.stringify({wrong: wrong.slice(0, 3), grown: it.memory.buffer.byteLength - all, share: all / most}));
 """
-
-
-def check_heap(room, given):
-    """The heap of the layer by SEED, with blocks of all sizes."""
-    import build
-
-    if why := build.missing():
-        return print(f"the heap is not tried, since {why}")
-    chance = random.Random(f"heap {given.seed}")
-    build.layer_alone(f"{room}/layer.wasm", ["rattle_alloc", "rattle_realloc", "rattle_dealloc"])
-    sizes = lambda: chance.randrange(1, 1 << chance.randrange(1, 21 if chance.randrange(20) == 0 else 12)) if chance.randrange(3) else 0
-    lines = "".join(f"{chance.randrange(400)} {sizes()}\n" for _ in range(300000 if given.all else 30000))
-    ran = subprocess.run(["node", "-e", HEAP, f"{room}/layer.wasm"], input=lines, capture_output=True, text=True, timeout=MOST_SECONDS_OF_CALL)
-    got = json.loads(ran.stdout) if ran.returncode == 0 else {"wrong": ran.stderr[-400:]}
-    told("the heap keeps what it gives, and joins what it gets back", got["wrong"] == [] and got["grown"] == 0, f"{got}")
-    print(f"heap: {len(lines.splitlines())} rows, {got.get('share', 0):.2f} times what was taken at most at a time", flush=True)
-
-
 # Calls the functions of the layer, for lines of their arguments, and answers a line each.
 ARITHMETIC = """
 const fs = require('fs'), imports = new Proxy({}, {get: () => () => 0n});
@@ -483,32 +292,6 @@ for (const line of fs.readFileSync(0, 'utf8').trim().split('\\n')) {
 }
 console.log(out.join('\\n'));
 """
-
-
-def check_arithmetic(_, room, given):
-    """The functions of 128 bits of the layer, beside Python's numbers."""
-    import build
-
-    if why := build.missing():
-        return print(f"arithmetic of 128 bits is not tried, since {why}")
-    chance, all_ones = random.Random(f"arithmetic {given.seed}"), (1 << 128) - 1
-    functions = {"__multi3": lambda a, b: a * b, "__udivti3": lambda a, b: a // b, "__umodti3": lambda a, b: a % b, "__ashlti3": lambda a, b: a << b, "__lshrti3": lambda a, b: a >> b}
-    build.layer_alone(f"{room}/layer.wasm", functions)
-    some = lambda bits: chance.choice((chance.getrandbits(chance.randrange(1, bits + 1)), (1 << chance.randrange(bits)) - chance.randrange(2) & all_ones, all_ones - chance.getrandbits(7)))
-    rows = []
-    for _ in range(200000 if given.all else 20000):
-        name = chance.choice([*functions])
-        rows.append((name, some(128), chance.randrange(128) if "sh" in name else some(128) or 1))
-    lines = "".join(f"{name} {a} {b}\n" for name, a, b in rows)
-    ran = subprocess.run(["node", "-e", ARITHMETIC, f"{room}/layer.wasm"], input=lines, capture_output=True, text=True, timeout=MOST_SECONDS_OF_CALL)
-    wanted = [functions[name](a, b) & all_ones for name, a, b in rows]
-    got = [int(it) for it in ran.stdout.split()] if ran.returncode == 0 else []
-    wrong = [(row, it, other) for row, it, other in zip(rows, wanted, got) if it != other]
-    told("arithmetic of 128 bits", len(got) == len(rows) and not wrong, f"{wrong[:2]} {ran.stderr[-400:]}")
-    print(f"arithmetic: {len(rows)} rows", flush=True)
-
-
-# Pages in browsers
 
 
 class Answers:
@@ -562,7 +345,7 @@ def page_cases(room):
     """The cases of a page, and what the native program answers to each."""
     folder, chance = f"{room}/page", random.Random("page")
     os.mkdir(folder)
-    for number, (name, source, feed, steps) in enumerate(example_runs()):
+    for number, (name, source, feed, steps) in enumerate(example_files()):
         few = str(min(steps, 200))
         files = {"my.agc": source, "my.feed": feed}
         for words in (["run", "--end", "--notes", "my.agc", "my.feed", str(steps)], ["asm", "my.agc", "made.rope"], ["check", "my.agc", "my.feed"], ["cover", "my.agc", "my.feed", few], ["trace", "my.agc", "my.feed", few]):
@@ -636,28 +419,6 @@ BROWSERS = {
 }
 
 
-def check_browser(name, module, room, _):
-    """A page from the disk in a browser."""
-    browser, packages, is_there = BROWSERS[name]
-    if not is_there():
-        return print(f"{name} is skipped, since it is not there: apt-get install {packages}")
-    answers, (cases, wanted) = Answers(), zip(*page_cases(room))
-    script = one_file.script([f"{HERE}/module/host.js", f"{HERE}/engine.js", f"{HERE}/trial.js"])
-    text = json.dumps({"address": answers.address, "cases": cases}).replace("</", "<\\/")
-    page = write(f"{room}/page.html", PAGE.format(module=one_file.packed(read(module)), cases=text, script=script).encode())
-    words, env = browser(room, f"file://{page}")
-    with tempfile.TemporaryFile() as said:
-        home = {"HOME": room, "XDG_CONFIG_HOME": room, "XDG_CACHE_HOME": room}
-        ran = subprocess.Popen(words, env={**os.environ, **home, **env}, stdin=subprocess.DEVNULL, stdout=said, stderr=said, start_new_session=True)
-        got = json.loads(answers.wait() or "null")
-        end(ran)
-        said.seek(0)
-        last = said.read()[-600:]
-    if not got or "failed" in got:
-        return told(f"{name}: the page answers", False, f"{(got or {}).get('failed', last)}")
-    told_of_page(name, got, cases, wanted, about(module)["proved"])
-
-
 def end(ran):
     """Ends what was started, with all that it has started."""
     os.killpg(ran.pid, 15)
@@ -668,93 +429,333 @@ def end(ran):
         ran.wait()
 
 
-def told_of_page(name, got, cases, wanted, is_proved):
-    """Tells what a page has answered."""
-    wrong = [f"{' '.join(case['words'])}: {differing(one, other)}" for case, one, other in zip(cases, wanted, got["answers"]) if one != other]
-    told(f"{name}: as the native program, {len(wrong)} of {len(cases)}", len(got["answers"]) == len(cases) and not wrong, "; ".join(wrong[:3]))
-    told(f"{name}: the module says whether it is proved", got["about"]["proved"] is is_proved, f"{got['about']}")
-    for promise, why in got["promises"].items():
-        told(f"{name}: {promise}", why == "", why)
-    waits = "waits for lines" if got["about"]["waits"] else "gives lines anew"
-    print(f"{name}: {len(cases)} calls and sessions compared, {waits}; ready {got['ready']:.2f} s after the script has started: {got['agent']}", flush=True)
-
-
 def differing(wanted, got):
     """Returns which fields of a page's answer differ, and how."""
     return {it: (f"{wanted.get(it)!s:.120}", f"{got.get(it)!s:.120}") for it in wanted if wanted[it] != got.get(it)}
 
 
-PARTS = {
-    **{group: functools.partial(check_examples, group) for group in PARTS_OF_EXAMPLES}, "chromium": lambda *given: check_browser("chromium", *given), "firefox": lambda *given: check_browser("firefox", *given),
-    "webkit": lambda *given: check_browser("webkit", *given), "refusals": check_refusals, "sessions": check_sessions, "hostile": check_hostile, "inputs": check_inputs,
-    "memory": check_memory, "mutants": check_mutants, "arithmetic": check_arithmetic,
-}
+class ModuleCase(Case):
+    """Tests of the module."""
+
+    @classmethod
+    def setUpClass(cls):
+        super().setUpClass()
+        cls.module = module_file()
+        is_proved = about(cls.module)["proved"]
+        print(f"{cls.__name__}: the module of the {'proved' if is_proved else 'quick, unproved'} program, {os.path.getsize(cls.module)} bytes, by AGCWS_SEED={SEED}", flush=True)
+
+    @classmethod
+    def tearDownClass(cls):
+        while Module.begun:
+            Module.begun.pop().end()
+        super().tearDownClass()
 
 
-# What ./check leaves out, so that it stays short.
-ONLY_WITH_ALL = {"documents", "traces", "checks", "ropes"}
+class Refusals(ModuleCase):
+    """Images that are whole, wrong, short, long, or none; wrong words; and all that explains a refusal."""
+
+    def test_images_files_and_words(self):
+        """Images that are whole, wrong, short, long, or none; files that are none; words that are wrong; and all that explains a refusal."""
+        both = Sides(self)
+        asm = lambda name: both.compare(["asm", "my.agc", "made.rope"], {"my.agc": read(f"{EXAMPLES}/{name}.agc")})[3]["made.rope"]
+        rope, other = asm("lost_sum"), asm("bank_sum")
+        bad = bytes(it ^ (at in (777, 4242)) for at, it in enumerate(rope))
+        files = {"a.rope": rope, "b.rope": other, "bad.rope": bad, "short.rope": rope[:1000], "long.rope": rope + b"x", "empty": b""}
+        files |= {"my.lst": b"FIVE 02,4005\nSUM 100\n", "bad.lst": b"nonsense here now\n", "my.agc": read(f"{EXAMPLES}/lost_sum.agc")}
+        for it in ("a.rope", "b.rope", "bad.rope", "short.rope", "long.rope", "none.rope", "none/none.rope", "my.agc/none", ".", "", "/dev/null"):
+            for words in IMAGE_CALLS:
+                both.compare([it if word == "IT" else word for word in words], files)
+            both.compare(["asm", "my.agc", it], files)
+            both.compare(["check", "my.agc", it], files)
+            both.compare(["run", it, it, "3"], files)
+            both.compare(["debug", it, "empty"], files, b"step 1\n")
+        compare_in_place(both)
+        both.tell("images and files")
+        commands = "asm run trace cover debug check explain upgrade words compare sums parity help".split()
+        for words in [[], ["--version"], ["-V"], ["--help"], ["bogus"], ["--bogus"], *([it, *more] for it in commands for more in ([], ["--help"], ["--bogus"], ["a", "b", "c", "d", "e"]))]:
+            both.compare(words, files)
+        for it in [f"{kind}{number}" for kind in ("E", "W", "") for number in range(64)]:
+            both.compare(["explain", it])
+        both.tell("words")
 
 
-def run_part(words):
-    """Runs a part in a process of its own. Returns what it said, and the seconds that it took."""
-    started = time.monotonic()
-    ran = subprocess.run([sys.executable, os.path.realpath(__file__), *words], stdin=subprocess.DEVNULL, stdout=subprocess.PIPE, stderr=subprocess.STDOUT, text=True, errors="replace", check=False)
-    return ran.stdout, time.monotonic() - started
+class Sessions(ModuleCase):
+    """Sessions of random commands."""
+
+    def test_sessions(self):
+        both, most = Sides(self), 0
+        compare_last_lines(both)
+        for words, files, lines in sessions(2000 if ALL else 200, SEED):
+            most = max(most, len(both.compare(words, files, lines)[1]))
+        both.tell("sessions")
+        with self.subTest("a session has replies"):
+            self.assertTrue(most > 2000)
 
 
-def run_all(given, parts):
-    """Runs parts side by side, and counts what has passed."""
-    options = ["--one", "--seed", given.seed, "--module", given.module, *["--all"] * given.all]
-    with ThreadPoolExecutor(len(os.sched_getaffinity(0))) as pool:
-        for part, (said, seconds) in zip(parts, pool.map(lambda it: run_part([*options, it]), parts)):
-            found = re.search(r"^(\d+) passed, (\d+) failed\n\Z", said, re.M)
-            passes, fails = map(int, found.groups()) if found else (0, 1)
-            print(said[: found.start()] if found else said, end="")
-            print(f"{seconds:4.0f} s  {part}: {passes} passed, {fails} failed", flush=True)
-            tally.passed += passes
-            tally.failed += [part] * fails
-    used = resource.getrusage(resource.RUSAGE_CHILDREN)
-    print(f"{used.ru_utime + used.ru_stime:.0f} s of processor time", flush=True)
+class Hostile(ModuleCase):
+    """Hostile inputs of each kind."""
+
+    def test_hostile(self):
+        """Hostile inputs of each kind, each by a call of its own."""
+        import cases
+
+        if not shutil.which("cc"):
+            self.skipTest("there is no C compiler cc: apt-get install gcc libc6-dev")
+        cases.PROGRAM = PROGRAM
+        os.mkdir(f"{self.room}/made")
+        made = cases.Made(f"{self.room}/made")
+        maker, both = cases.Maker(made, SEED), Sides(self)
+        for kind in cases.KINDS:
+            for number in range(2000 if ALL else 120):
+                words, case = cases.any_call_of(kind, number), maker.case(kind, number)
+                files = {"case": case, "rope": read(made.rope)} | ({"twin": maker.twin(kind, number, case)} if "twin" in words else {})
+                both.compare([it.replace("/dev/zero", "rope") for it in words], files, read(made.commands) if "case" in words else case)
+            both.tell(f"hostile: {kind}")
 
 
-def main():
-    parser = argparse.ArgumentParser(description=__doc__, formatter_class=argparse.RawDescriptionHelpFormatter)
-    parser.add_argument("--all", action="store_true")
-    parser.add_argument("--seed", default=time.strftime("%Y-%m-%dT%H:%M:%S"))
-    parser.add_argument("--module")
-    parser.add_argument("--one", action="store_true", help=argparse.SUPPRESS)
-    parser.add_argument("parts", nargs="*", choices=[[], *PARTS], metavar="PART")
-    given = parser.parse_args()
-    if not tally.is_built(PROGRAM):
-        return 1
-    if not shutil.which("node"):
-        print("the module is not tried, since node is not there: apt-get install nodejs")
-        return tally.end()
-    if given.one:
-        with tempfile.TemporaryDirectory(prefix="agcws-page-") as room:
-            part = PARTS[given.parts[0]]
-            part.__name__ = given.parts[0]
-            tally.tried(part, given.module, room, given, most_seconds=MOST_SECONDS)
-        for it in Module.begun:
-            it.end()
-        used = [resource.getrusage(it) for it in (resource.RUSAGE_SELF, resource.RUSAGE_CHILDREN)]
-        print(f"{sum(it.ru_utime + it.ru_stime for it in used):4.0f} s of processor time", flush=True)
-        return tally.end()
-    if not given.module:
+class Inputs(ModuleCase):
+    """The greatest inputs."""
+
+    def test_greatest(self):
+        """The greatest sources and feeds."""
+        import inputs
+
+        both, comment = Sides(self), b"# what the next lines do\n"
+        source, feed = inputs.source(65536).encode(), inputs.feed(65536).encode()
+        faults = b" BOGUS 1\n" * 65536
+        files = {"my.agc": source, "my.feed": feed, "bad.agc": faults, "loop.agc": read(f"{ROOT}/bench/loop.agc"), "mix.agc": read(f"{ROOT}/bench/mix.agc"), "empty": b""}
+        for it in ("asm my.agc made.rope;check my.agc my.feed;check bad.agc;asm bad.agc made.rope;run --end --notes my.agc my.feed 300000;cover my.agc my.feed 300000;trace my.agc my.feed 60000;"
+                   "run --end loop.agc empty 3000000;run --end mix.agc empty 3000000").split(";"):
+            both.compare(it.split(), files)
+        for lines in (65536, 65537):
+            both.compare(["check", "my.agc"], {"my.agc": comment * lines})
+        for size in (8388608, 8388609):
+            both.compare(["check", "my.agc"], {"my.agc": comment[:-1] + b"\n" * (size - len(comment) + 1)})
+        both.compare(["run", "my.agc", "my.feed", "5"], {"my.agc": b" SETLOC 4000\n", "my.feed": b"7 TIME1 PINC\n" * 65537})
+        both.compare(["debug", "loop.agc", "empty"], files, b"x" * (16777216 - 8) + b"\nstep 1\n")
+        both.compare(["debug", "--extended", "mix.agc", "empty"], files, b"run 1000000\nback 1\nback 700000\nwhy A 40\nbreak change 100\nseek\ngoto 999\nregs all\n")
+        both.tell("greatest inputs")
+
+
+class Memory(ModuleCase):
+    """Memory that is refused, and the heap."""
+
+    def test_less_and_less(self):
+        """With less and less memory a call answers as with all of it, or refuses by itself; and it does both."""
+        import inputs
+
+        own, folder = Module(self.module), f"{self.room}/memory"
+        os.mkdir(folder)
+        write(f"{folder}/my.agc", inputs.source(16384).encode())
+        write(f"{folder}/my.feed", inputs.feed(16384).encode())
+        for it in ("check my.agc my.feed", "asm my.agc made.rope", "run my.agc my.feed 2000", "cover my.agc my.feed 2000", "trace my.agc my.feed 500"):
+            wanted, refused, wrong = natively(it.split(), folder), 0, []
+            for pages in [*range(33, 330, 9), 4096]:
+                got = own.call(it.split(), folder, most=pages << 16)
+                refused += got == (3, b"", b"agcws: E2\n")
+                if got not in (wanted, (3, b"", b"agcws: E2\n")):
+                    wrong.append((pages, got[0], got[1][:80], got[2][:200]))
+            with self.subTest(f"{it} with less memory"):
+                self.assertTrue(not wrong and wanted[0] == 0 and refused > 2 and got == wanted, f"{wrong[:2]} {refused} refused")
+        lines = b"run 200000\nback 1\nback 150000\nregs\n" * 8
+        write(f"{folder}/mix.agc", read(f"{ROOT}/bench/mix.agc"))
+        words = ["debug", "mix.agc", "/dev/null"]
+        with self.subTest("a session in 4 MB"):
+            self.assertEqual(own.call(words, folder, lines, 4 << 20), natively(words, folder, lines))
+
+    def test_heap(self):
+        """The heap of the layer by SEED, with blocks of all sizes."""
         import build
 
         if why := build.missing():
-            print(f"the module is not tried, since {why}")
-            return tally.end()
-        started = time.monotonic()
-        given.module = made_module()
-        print(f"{time.monotonic() - started:4.0f} s  the module is made", flush=True)
-    given.module = os.path.abspath(given.module)
-    size = len(read(given.module))
-    print(f"the module of the {'proved' if about(given.module)['proved'] else 'quick, unproved'} program, {size} bytes, by --seed {given.seed}", flush=True)
-    run_all(given, given.parts or [it for it in PARTS if given.all or it not in ONLY_WITH_ALL])
-    return tally.end()
+            self.skipTest(why)
+        chance = random.Random(f"heap {SEED}")
+        build.layer_alone(f"{self.room}/layer.wasm", ["rattle_alloc", "rattle_realloc", "rattle_dealloc"])
+        sizes = lambda: chance.randrange(1, 1 << chance.randrange(1, 21 if chance.randrange(20) == 0 else 12)) if chance.randrange(3) else 0
+        lines = "".join(f"{chance.randrange(400)} {sizes()}\n" for _ in range(300000 if ALL else 30000))
+        ran = subprocess.run(["node", "-e", HEAP, f"{self.room}/layer.wasm"], input=lines, capture_output=True, text=True, timeout=MOST_SECONDS_OF_CALL)
+        got = json.loads(ran.stdout) if ran.returncode == 0 else {"wrong": ran.stderr[-400:]}
+        with self.subTest("the heap keeps what it gives, and joins what it gets back"):
+            self.assertTrue(got["wrong"] == [] and got["grown"] == 0, f"{got}")
+        print(f"heap: {len(lines.splitlines())} rows, {got.get('share', 0):.2f} times what was taken at most at a time", flush=True)
+
+
+class Mutants(ModuleCase):
+    """Wrong hosts, each of which is told."""
+
+    def test_mutants(self):
+        """Each wrong host answers otherwise than the native program."""
+        for number, (label, old, new, compare) in enumerate(MUTANTS):
+            folder = f"{self.room}/{number}"
+            os.mkdir(folder)
+            text = read(f"{PAGES}/module/host.js").decode()
+            with self.subTest(f"{label}: the text stands once"):
+                self.assertEqual(text.count(old), 1, f"{text.count(old)} times")
+            write(f"{folder}/host.js", text.replace(old, new).encode())
+            write(f"{folder}/command.js", read(COMMAND))
+            write(f"{folder}/package.json", b'{"type": "module"}')
+            both = Sides(self, folder, f"{folder}/command.js")
+            compare(both)
+            with self.subTest(f"{label}: that is told"):
+                self.assertTrue(both.wrong, f"{both.count} calls compared")
+
+
+class Arithmetic(ModuleCase):
+    """Arithmetic of 128 bits."""
+
+    def test_arithmetic(self):
+        """The functions of 128 bits of the layer, beside Python's numbers."""
+        import build
+
+        if why := build.missing():
+            self.skipTest(why)
+        chance, all_ones = random.Random(f"arithmetic {SEED}"), (1 << 128) - 1
+        functions = {"__multi3": lambda a, b: a * b, "__udivti3": lambda a, b: a // b, "__umodti3": lambda a, b: a % b, "__ashlti3": lambda a, b: a << b, "__lshrti3": lambda a, b: a >> b}
+        build.layer_alone(f"{self.room}/layer.wasm", functions)
+        some = lambda bits: chance.choice((chance.getrandbits(chance.randrange(1, bits + 1)), (1 << chance.randrange(bits)) - chance.randrange(2) & all_ones, all_ones - chance.getrandbits(7)))
+        rows = []
+        for _ in range(200000 if ALL else 20000):
+            name = chance.choice([*functions])
+            rows.append((name, some(128), chance.randrange(128) if "sh" in name else some(128) or 1))
+        lines = "".join(f"{name} {a} {b}\n" for name, a, b in rows)
+        ran = subprocess.run(["node", "-e", ARITHMETIC, f"{self.room}/layer.wasm"], input=lines, capture_output=True, text=True, timeout=MOST_SECONDS_OF_CALL)
+        wanted = [functions[name](a, b) & all_ones for name, a, b in rows]
+        got = [int(it) for it in ran.stdout.split()] if ran.returncode == 0 else []
+        wrong = [(row, it, other) for row, it, other in zip(rows, wanted, got) if it != other]
+        with self.subTest("arithmetic of 128 bits"):
+            self.assertTrue(len(got) == len(rows) and not wrong, f"{wrong[:2]} {ran.stderr[-400:]}")
+        print(f"arithmetic: {len(rows)} rows", flush=True)
+
+
+class Browsers(ModuleCase):
+    """Pages from the disk."""
+
+    def test_chromium(self):
+        self.try_browser("chromium")
+
+    def test_firefox(self):
+        self.try_browser("firefox")
+
+    def test_webkit(self):
+        self.try_browser("webkit")
+
+    def try_browser(self, name):
+        """A page from the disk in a browser."""
+        browser, packages, is_there = BROWSERS[name]
+        if not is_there():
+            self.skipTest(f"{name} is not there: apt-get install {packages}")
+        answers, (cases, wanted) = Answers(), zip(*page_cases(self.room))
+        script = one_file.script([f"{PAGES}/module/host.js", f"{PAGES}/engine.js", f"{PAGES}/trial.js"])
+        text = json.dumps({"address": answers.address, "cases": cases}).replace("</", "<\\/")
+        page = write(f"{self.room}/page.html", PAGE.format(module=one_file.packed(read(self.module)), cases=text, script=script).encode())
+        words, env = browser(self.room, f"file://{page}")
+        with tempfile.TemporaryFile() as said:
+            home = {"HOME": self.room, "XDG_CONFIG_HOME": self.room, "XDG_CACHE_HOME": self.room}
+            ran = subprocess.Popen(words, env={**os.environ, **home, **env}, stdin=subprocess.DEVNULL, stdout=said, stderr=said, start_new_session=True)
+            got = json.loads(answers.wait() or "null")
+            end(ran)
+            said.seek(0)
+            last = said.read()[-600:]
+        if not got or "failed" in got:
+            with self.subTest(f"{name}: the page answers"):
+                self.fail(f"{(got or {}).get('failed', last)}")
+            return
+        self.told_of_page(name, got, cases, wanted, about(self.module)["proved"])
+
+    def told_of_page(self, name, got, cases, wanted, is_proved):
+        """Tells what a page has answered."""
+        wrong = [f"{' '.join(case['words'])}: {differing(one, other)}" for case, one, other in zip(cases, wanted, got["answers"]) if one != other]
+        with self.subTest(f"{name}: as the native program, {len(wrong)} of {len(cases)}"):
+            self.assertTrue(len(got["answers"]) == len(cases) and not wrong, "; ".join(wrong[:3]))
+        with self.subTest(f"{name}: the module says whether it is proved"):
+            self.assertTrue(got["about"]["proved"] is is_proved, f"{got['about']}")
+        for promise, why in got["promises"].items():
+            with self.subTest(f"{name}: {promise}"):
+                self.assertEqual(why, "", why)
+        waits = "waits for lines" if got["about"]["waits"] else "gives lines anew"
+        print(f"{name}: {len(cases)} calls and sessions compared, {waits}; ready {got['ready']:.2f} s after the script has started: {got['agent']}", flush=True)
+
+
+class InPlace(ModuleCase):
+    """Runs the module where a test calls the program with pipes alone."""
+
+    simple = {"stdin", "input", "capture_output", "stdout", "stderr", "timeout", "cwd", "text", "check"}
+
+    @classmethod
+    def setUpClass(cls):
+        super().setUpClass()
+        room = tempfile.TemporaryDirectory(prefix="agcws-module-")
+        cls.addClassCleanup(room.cleanup)
+        cls.program = f"{room.name}/agcws"
+        write(cls.program, f'#!/bin/sh\nexec node "{COMMAND}" "{cls.module}" "$@"\n'.encode())
+        os.chmod(cls.program, 0o755)
+        cls.by_module, cls.run_natively = Module(cls.module), subprocess.run
+        cls.replace(subprocess, "run", cls.run_by_module)
+        cls.replace(session.Session, "waits", waits)
+        cls.replace(session.Session, "longest", MOST_SECONDS_OF_CALL)
+        for it in [it for name, it in sys.modules.items() if hasattr(it, "PROGRAM") and it is not sys.modules[__name__] and os.path.dirname(it.__file__ or "") == TESTS]:
+            cls.replace(it, "PROGRAM", cls.program)
+
+    @classmethod
+    def replace(cls, owner, name, value):
+        patch = mock.patch.object(owner, name, value)
+        patch.start()
+        cls.addClassCleanup(patch.stop)
+
+    @classmethod
+    def run_by_module(cls, words, **how):
+        if how.get("timeout"):
+            how["timeout"] = MOST_SECONDS_OF_CALL
+        if words[0] == cls.program and any(isinstance(it, bytes) for it in words):
+            # (no page has words that are no text)
+            return cls.run_natively([PROGRAM, *words[1:]], **how)
+        plain = words[0] == cls.program and set(how) <= cls.simple and how.get("stdout", -1) == how.get("stderr", -1) == -1
+        if not plain or how.get("stdin", subprocess.DEVNULL) != subprocess.DEVNULL:
+            return cls.run_natively(words, **how)
+        given = how.get("input") or b""
+        given = given.encode() if isinstance(given, str) else given
+        status, out, err = cls.by_module.call(words[1:], os.path.abspath(how.get("cwd", ".")), given)
+        out, err = (out.decode(), err.decode()) if how.get("text") else (out, err)
+        made = subprocess.CompletedProcess(words, status, out, err)
+        if how.get("check"):
+            made.check_returncode()
+        return made
+
+
+def waits(session):
+    """Returns whether the program of a session sleeps in a read of its input: node has other threads, for which the first one sleeps too."""
+    with open(f"/proc/{session.ran.pid}/syscall", encoding="ascii") as file:
+        return file.read().startswith("0 0x0 ")
+
+
+def in_place(name, is_always, **tests):
+    """A class that has some tests of others, file by file, with the module in place of the program: all of a file's only class, or those that are named."""
+    bases = [getattr(__import__(file), cls) for file, (cls, _) in tests.items()]
+    wanted = {it for (_, names), base in zip(tests.values(), bases) for it in names or unittest.defaultTestLoader.getTestCaseNames(base)}
+    others = {it: None for base in bases for it in unittest.defaultTestLoader.getTestCaseNames(base) if it not in wanted}
+    made = type(name, (InPlace, *bases), {"__module__": __name__, "__doc__": f"{name} by the module.", **others})
+    return made if is_always else unittest.skipUnless(ALL, "AGCWS_ALL tries them")(made)
+
+
+RowsInPlace = in_place("RowsInPlace", True, test_rows=("Rows", None))
+ArgumentsInPlace = in_place("ArgumentsInPlace", True, test_arguments=("Arguments", None))
+DocumentsInPlace = in_place("DocumentsInPlace", False, test_documents=("Documents", None))
+ExamplesInPlace = in_place("ExamplesInPlace", False, test_examples=("Examples", ["test_examples", "test_flight", "test_operators", "test_one_processor"]))
+TextsInPlace = in_place("TextsInPlace", False, test_refusals=("Refusals", ["test_long_texts"]))
+DebugInPlace = in_place("DebugInPlace", False, test_debug=("Debug", ["test_likely_mistakes", "test_inputs", "test_sessions"]))
+TracesInPlace = in_place("TracesInPlace", False, test_trace=("Trace", None))
+CoversInPlace = in_place("CoversInPlace", False, test_cover=("Cover", None))
+ObjectsInPlace = in_place("ObjectsInPlace", False, test_json=("Objects", None))
+AccessInPlace = in_place("AccessInPlace", False, test_access=("Access", None))
+DelaysInPlace = in_place("DelaysInPlace", False, test_delays=("Delays", None))
+ChecksInPlace = in_place("ChecksInPlace", False, test_check=("Check", None))
+CheckJsonInPlace = in_place("CheckJsonInPlace", False, test_check_json=("CheckJson", None))
+SlipsInPlace = in_place("SlipsInPlace", False, test_slips=("Slips", None))
+NotesInPlace = in_place("NotesInPlace", False, test_notes=("Notes", None))
+RunInPlace = in_place("RunInPlace", False, test_run=("Run", ["test_end"]))
+CommandLineInPlace = in_place("CommandLineInPlace", False, test_command_line=("CommandLine", ["test_command_line"]))
+ImagesInPlace = in_place("ImagesInPlace", False, test_images=("Images", None))
 
 
 if __name__ == "__main__":
-    sys.exit(main())
+    unittest.main()

@@ -5,6 +5,9 @@ import os
 import random
 import re
 import subprocess
+import unittest
+
+from common import EXAMPLES, PROGRAM, Case
 
 BANKS, WORDS = 36, 1024
 EXTEND, RESUME = 0o6, 0o50017
@@ -65,14 +68,11 @@ def numbers_in(words):
     return count
 
 
-class Sources:
-    """The program that is tried, and the room for its files."""
-
-    def __init__(self, program, told, room):
-        self.program, self.told, self.room = program, told, room
+class NamedSources(Case):
+    """The sources with names of all examples, and of images by seeds."""
 
     def ran(self, *words):
-        return subprocess.run([self.program, *words], capture_output=True, timeout=300)
+        return subprocess.run([PROGRAM, *words], capture_output=True, timeout=300)
 
     def comes_back(self, label, image, rows, bank=()):
         """An image with a table of names comes back to its bytes by the source, and the names to what they stand for."""
@@ -85,7 +85,8 @@ class Sources:
             file.write(wrote.stdout)
         made = self.ran("asm", paths[2], paths[3])
         is_written = (wrote.returncode, wrote.stderr, made.returncode) == (0, b"", 0)
-        self.told(f"the source with names of {label}", is_written, f"{wrote.stderr} {made.stderr}")
+        with self.subTest(f"the source with names of {label}"):
+            self.assertTrue(is_written, f"{wrote.stderr} {made.stderr}")
         if not is_written:
             return
         with open(paths[3], "rb") as file:
@@ -94,43 +95,48 @@ class Sources:
         if bank:
             entry = {0: 2, 1: 3, 2: 0, 3: 1}.get(int(bank[0], 8), int(bank[0], 8))
             words = [word if at // WORDS == entry else 0 for at, word in enumerate(words)]
-        self.told(f"the image of the source with names of {label}", back == image_of(words))
+        with self.subTest(f"the image of the source with names of {label}"):
+            self.assertEqual(back, image_of(words))
         lines = wrote.stdout.decode().splitlines()
         octal = sum(line[9:13] == "OCT " for line in lines)
         wanted = numbers_in(words) - (0 if not bank else (BANKS - 1) * WORDS)
-        self.told(f"the octal words of {label}", lines[0] == "A        EQUALS  0" and octal == wanted, f"{lines[0]}, {octal} in place of {wanted}")
+        with self.subTest(f"the octal words of {label}"):
+            self.assertTrue(lines[0] == "A        EQUALS  0" and octal == wanted, f"{lines[0]}, {octal} in place of {wanted}")
         names = dict(row.split(" ", 1) for row in reversed(rows))
         got = dict(line.split(" ", 1) for line in made.stdout.decode().split("\nSYMBOLS ")[1].splitlines()[1:])
         got = {name: value.strip() for name, value in got.items() if name not in REGISTERS}
-        self.told(f"the names of {label}", got == {name: value for name, value in names.items() if is_label(name)}, f"{len(got)} of {len(names)}")
+        with self.subTest(f"the names of {label}"):
+            self.assertEqual(got, {name: value for name, value in names.items() if is_label(name)}, f"{len(got)} of {len(names)}")
+
+    def test_examples_and_seeds(self):
+        """The sources with names of all examples, and of images by seeds."""
+        for path in sorted(glob.glob(f"{EXAMPLES}/**/*.agc", recursive=True)):
+            flight = ["--flight"] if "/flight/" in path else []
+            made = self.ran("asm", *flight, path, f"{self.room}/example.rope")
+            if made.returncode == 0:
+                with open(f"{self.room}/example.rope", "rb") as file:
+                    rows = [" ".join(line.split()) for line in made.stdout.decode().split("\nSYMBOLS ")[1].splitlines()[1:]]
+                    self.comes_back(os.path.relpath(path, EXAMPLES), file.read(), rows)
+        for seed in range(2):
+            for kind in words_of("zeros", None)[1]:
+                chance = random.Random(seed)
+                self.comes_back(f"{kind} {seed}", image_of(words_of(kind, chance)[0]), table(chance, 2000 * seed))
+        chance = random.Random(7)
+        image, rows = image_of(words_of("random words", chance)[0]), table(chance, 500)
+        for bank in ("00", "02", "3", "43"):
+            self.comes_back(f"bank {bank} alone", image, rows, (bank,))
+        self.many_names(image)
+
+    def many_names(self, image):
+        """With more names than a source has lines the words stand in octal."""
+        paths = f"{self.room}/many.rope", f"{self.room}/many.txt"
+        for path, content in zip(paths, (image, b"".join(b"N%x ERASABLE 0100\n" % it for it in range(20000)))):
+            with open(path, "wb") as file:
+                file.write(content)
+        wanted, got = self.ran("words", "--source", paths[0]), self.ran("words", "--source", "--symbols", paths[1], paths[0])
+        with self.subTest("a source with too many names"):
+            self.assertEqual((got.returncode, got.stdout), (0, wanted.stdout), got.stdout[:80])
 
 
-def check_named_sources(program, told, room, examples):
-    """The sources with names of all examples, and of images by seeds."""
-    sources = Sources(program, told, room)
-    for path in sorted(glob.glob(f"{examples}/**/*.agc", recursive=True)):
-        flight = ["--flight"] if "/flight/" in path else []
-        made = sources.ran("asm", *flight, path, f"{room}/example.rope")
-        if made.returncode == 0:
-            with open(f"{room}/example.rope", "rb") as file:
-                rows = [" ".join(line.split()) for line in made.stdout.decode().split("\nSYMBOLS ")[1].splitlines()[1:]]
-                sources.comes_back(os.path.relpath(path, examples), file.read(), rows)
-    for seed in range(2):
-        for kind in words_of("zeros", None)[1]:
-            chance = random.Random(seed)
-            sources.comes_back(f"{kind} {seed}", image_of(words_of(kind, chance)[0]), table(chance, 2000 * seed))
-    chance = random.Random(7)
-    image, rows = image_of(words_of("random words", chance)[0]), table(chance, 500)
-    for bank in ("00", "02", "3", "43"):
-        sources.comes_back(f"bank {bank} alone", image, rows, (bank,))
-    many_names(sources, image)
-
-
-def many_names(sources, image):
-    """With more names than a source has lines the words stand in octal."""
-    paths = f"{sources.room}/many.rope", f"{sources.room}/many.txt"
-    for path, content in zip(paths, (image, b"".join(b"N%x ERASABLE 0100\n" % it for it in range(20000)))):
-        with open(path, "wb") as file:
-            file.write(content)
-    wanted, got = sources.ran("words", "--source", paths[0]), sources.ran("words", "--source", "--symbols", paths[1], paths[0])
-    sources.told("a source with too many names", (got.returncode, got.stdout) == (0, wanted.stdout), got.stdout[:80])
+if __name__ == "__main__":
+    unittest.main()

@@ -3,8 +3,10 @@ import os
 import re
 import subprocess
 import tempfile
+import unittest
 
-ROWS = os.path.join(os.path.dirname(os.path.abspath(__file__)), "rows", "planted.txt")
+from common import PROGRAM, ROWS, Case
+
 STEPS = "3000"
 
 
@@ -20,40 +22,51 @@ def fed(text, sign):
 
 def rows():
     """Each mistake: its number and name, its source and feed, its test, and what tells of it."""
-    with open(ROWS, encoding="utf-8") as file:
+    with open(f"{ROWS}/planted.txt", encoding="utf-8") as file:
         for block in re.split(r"^== ", file.read(), flags=re.M)[1:]:
             name, rest = block.split("\n", 1)
             source, feed, expect, told = re.fullmatch(r"(.*?\n)(?:feed\n(.*?))?expect\n(.*?)TOLD (.*?)\n\s*", rest, re.S).groups()
             yield name, source, feed or "", expect, told.split()
 
 
-def check_planted(program, told):
-    """Tries each mistake, and what is right, of which nothing is told, and how many are told by which way."""
-    found = {"check": 0, "notes": 0, "expect": 0, "any": 0}
-    with tempfile.TemporaryDirectory() as room:
+class Planted(Case):
+    """Each mistake, and the program without it."""
 
-        def call(*words):
-            return subprocess.run([program, *words], capture_output=True, text=True, timeout=60, cwd=room)
+    def test_mistakes(self):
+        """Tries each mistake, and what is right, of which nothing is told, and how many are told by which way."""
+        found = {"check": 0, "notes": 0, "expect": 0, "any": 0}
+        with tempfile.TemporaryDirectory() as room:
 
-        def tells(name, sign, source, feed, expect):
-            """What tells of a program: what check says first, the kinds of notes, and whether the test fails."""
-            for file, text in (("my.agc", part(source, sign)), ("my.feed", fed(feed, sign)), ("my.expect", f"SOURCE my.agc\nFEED my.feed\nSTEPS {STEPS}\n{expect}")):
-                with open(os.path.join(room, file), "w", encoding="utf-8") as out:
-                    out.write(text)
-            checked = re.findall(r": (?:error|warning) ([EW]\d+)", call("check", "my.agc", "my.feed").stdout)
-            ran = call("run", "--notes", "my.agc", "my.feed", STEPS)
-            if ran.returncode:
-                return checked[:1], [], False
-            kinds = list(dict.fromkeys(re.findall(r"^NOTE (\S+)", ran.stderr, re.M)))
-            return checked[:1], kinds, call("expect", "my.expect").stdout.startswith("FAIL")
+            def call(*words):
+                return subprocess.run([PROGRAM, *words], capture_output=True, text=True, timeout=60, cwd=room)
 
-        for name, source, feed, expect, wanted in rows():
-            right = tells(name, "+", source, feed, expect)
-            told(f"{name}: what is right", right == ([], [], False), str(right))
-            checked, kinds, fails = tells(name, "-", source, feed, expect)
-            got = checked + kinds + ["EXPECT"] * fails
-            told(f"{name}: is told", sorted(got) == sorted(wanted), " ".join(got))
-            told(f"{name}: has a test of three lines at most", len(expect.splitlines()) <= 3)
-            for way, tells_so in (("check", checked), ("notes", kinds), ("expect", fails), ("any", got)):
-                found[way] += bool(tells_so)
-    told("how many of 37 mistakes are told", found == {"check": 5, "notes": 18, "expect": 32, "any": 37}, str(found))
+            def tells(name, sign, source, feed, expect):
+                """What tells of a program: what check says first, the kinds of notes, and whether the test fails."""
+                for file, text in (("my.agc", part(source, sign)), ("my.feed", fed(feed, sign)), ("my.expect", f"SOURCE my.agc\nFEED my.feed\nSTEPS {STEPS}\n{expect}")):
+                    with open(os.path.join(room, file), "w", encoding="utf-8") as out:
+                        out.write(text)
+                checked = re.findall(r": (?:error|warning) ([EW]\d+)", call("check", "my.agc", "my.feed").stdout)
+                ran = call("run", "--notes", "my.agc", "my.feed", STEPS)
+                if ran.returncode:
+                    return checked[:1], [], False
+                kinds = list(dict.fromkeys(re.findall(r"^NOTE (\S+)", ran.stderr, re.M)))
+                return checked[:1], kinds, call("expect", "my.expect").stdout.startswith("FAIL")
+
+            for name, source, feed, expect, wanted in rows():
+                right = tells(name, "+", source, feed, expect)
+                with self.subTest(f"{name}: what is right"):
+                    self.assertEqual(right, ([], [], False))
+                checked, kinds, fails = tells(name, "-", source, feed, expect)
+                got = checked + kinds + ["EXPECT"] * fails
+                with self.subTest(f"{name}: is told"):
+                    self.assertEqual(sorted(got), sorted(wanted), " ".join(got))
+                with self.subTest(f"{name}: has a test of three lines at most"):
+                    self.assertTrue(len(expect.splitlines()) <= 3)
+                for way, tells_so in (("check", checked), ("notes", kinds), ("expect", fails), ("any", got)):
+                    found[way] += bool(tells_so)
+        with self.subTest("how many of 37 mistakes are told"):
+            self.assertEqual(found, {"check": 5, "notes": 18, "expect": 32, "any": 37})
+
+
+if __name__ == "__main__":
+    unittest.main()

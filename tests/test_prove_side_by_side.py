@@ -1,5 +1,4 @@
-#!/usr/bin/env python3
-"""Tests of prove_side_by_side: the order and the number of its proofs, and the whole on a repository of three small crates. The last line is 'N passed, M failed'."""
+"""Tests of prove_side_by_side: the order and the number of its proofs, and the whole on a repository of three small crates."""
 import importlib.machinery
 import importlib.util
 import io
@@ -12,8 +11,9 @@ import time
 import unittest
 from unittest import mock
 
-sys.dont_write_bytecode = True
-RUNNER = os.path.join(os.path.dirname(os.path.realpath(__file__)), "prove_side_by_side")
+from common import ROOT
+
+RUNNER = f"{ROOT}/gate/prove_side_by_side"
 loader = importlib.machinery.SourceFileLoader("prove_side_by_side", RUNNER)
 runner = importlib.util.module_from_spec(importlib.util.spec_from_loader("prove_side_by_side", loader))
 loader.exec_module(runner)
@@ -162,7 +162,4 @@ class WholeRuns(unittest.TestCase):
 
 
 if __name__ == "__main__":
-    result = unittest.main(exit=False).result
-    failed = len(result.failures) + len(result.errors)
-    print(f"{result.testsRun - failed} passed, {failed} failed")
-    sys.exit(1 if failed else 0)
+    unittest.main()

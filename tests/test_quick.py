@@ -1,5 +1,4 @@
-#!/usr/bin/env python3
-"""Tests of quick and passed: what they take for changed, and the whole on a repository of two small libraries, a program and tests. The last line is 'N passed, M failed'."""
+"""Tests of quick and passed: what they take for changed, and the whole on a repository of two small libraries, a program and tests."""
 import os
 import shutil
 import subprocess
@@ -7,10 +6,10 @@ import sys
 import tempfile
 import unittest
 
-sys.dont_write_bytecode = True
+from common import ROOT
 from files import write_text
-GATE = os.path.dirname(os.path.realpath(__file__))
-sys.path.insert(0, GATE)
+
+GATE = f"{ROOT}/gate"
 import passed
 
 HEAD = "//! A small crate.\n#![tactic(auto)]\n\n"
@@ -67,10 +66,23 @@ mod tests {
 }
 """
 HARMLESS = "file: src/lib.rt\nold:     u16::from(x) + u16::from(y)\nnew:     u16::from(y) + u16::from(x)\n"
-SCRIPT = """import subprocess
-ran = subprocess.run(["crates/agcws/out/agcws"])
-right = open("examples/example").read() == "sound" and "harmful" not in open("docs/MANUAL.md").read()
-print("1 passed, 0 failed" if right and not ran.returncode else "0 passed, 1 failed")
+TESTS_OF_PROGRAM = """import subprocess
+import unittest
+
+class Examples(unittest.TestCase):
+    def test_example(self):
+        self.assertEqual(subprocess.run(["crates/agcws/out/agcws"]).returncode, 0)
+        self.assertEqual(open("examples/example").read(), "sound")
+        self.assertNotIn("harmful", open("docs/MANUAL.md").read())
+"""
+TESTS_OF_OTHERS = """import unittest
+
+class Devices(unittest.TestCase):
+    def test_nothing(self):
+        pass
+
+class Sizes(Devices):
+    pass
 """
 
 
@@ -90,9 +102,9 @@ def repository(room):
         "docs/THEOREMS.md": "| `words`: `more` |\n\n[edits](TESTING.md#wrong-edits), `crates/words`, `gate/quick`, `examples/example`\n",
         "docs/MANUAL.md": "sound",
         "examples/example": "sound",
-        "examples/check.py": SCRIPT,
-        "views/check.py": 'print("1 passed, 0 failed")\n',
-        "hostile/check.py": 'print("1 passed, 0 failed")\n',
+        "tests/test_examples.py": TESTS_OF_PROGRAM,
+        "tests/test_views.py": TESTS_OF_OTHERS.partition("\nclass Sizes")[0],
+        "tests/test_hostile.py": TESTS_OF_OTHERS,
         "docs/TESTING.md": "## Wrong edits\n",
         "docs/ARCHITECTURE.md": "| `words` | sums | |\n| `workshop` | more sums | |\n| `agcws` | a program | |\n",
         "docs/pictures/crates.svg": "",
@@ -200,10 +212,10 @@ class WholeRuns(unittest.TestCase):
 
     def test_changes_are_found_and_nothing_else_is_done(self):
         all_new = "changed: words workshop agcws; tests to run: low_tests; the program is to be built"
-        # two edits read, their clauses, a row of definitions, four links and files that pages name, a picture, three crates, tests, examples, views, hostile inputs
-        self.quick(all_new, "low_tests: tests passed", "not done by --quick: ", counts=(16, 0))
+        # two edits read, their clauses, a row of definitions, four links and files that pages name, a picture, three crates, tests, the program's, the views', two of hostile inputs
+        self.quick(all_new, "low_tests: tests passed", "not done by --quick: ", counts=(17, 0))
         nothing = "changed: no crate; tests to run: none; the program is as it was built"
-        self.quick(nothing, counts=(9, 0), others=["proof passed", "examples and manual:"])
+        self.quick(nothing, counts=(9, 0), others=["proof passed", "tests of the program:"])
         self.assertEqual(last(run(self.room, "gate/wrong_edits", "--all")), "1 passed, 0 failed")
         self.assertEqual(self.tried(), "0 passed, 0 failed")
         self.documents_and_examples()
@@ -214,8 +226,8 @@ class WholeRuns(unittest.TestCase):
     def documents_and_examples(self):
         """A wrong edit of a document, of an example, of a page that names definitions, of a heading that a link names, and of a wrong edit's text."""
         for path, old, new, said in (
-            ("docs/MANUAL.md", "sound", "harmful", "examples and manual: 0 passed, 1 failed"),
-            ("examples/example", "sound", "other", "examples and manual: 0 passed, 1 failed"),
+            ("docs/MANUAL.md", "sound", "harmful", "tests of the program: 0 passed, 1 failed"),
+            ("examples/example", "sound", "other", "tests of the program: 0 passed, 1 failed"),
             ("docs/THEOREMS.md", "`more`", "`less`", "definitions that the page of theorems names: 0 passed, 1 failed"),
             ("crates/workshop/wrong-edits/two_more_adds_one.edit", "clause: `two_more`", "clause: `two_more`, clause `none`", "the clauses that wrong edits name: 0 passed, 1 failed"),
             ("docs/ARCHITECTURE.md", "more sums", "other", "the picture of the crates: 0 passed, 1 failed"),
@@ -223,7 +235,7 @@ class WholeRuns(unittest.TestCase):
             ("crates/workshop/wrong-edits/two_more_adds_one.edit", "(x) + 1", "(x) + 9", "wrong edits, read: 1 passed, 1 failed"),
         ):
             self.put(path, old, new)
-            self.quick(said, counts=(11, 1))
+            self.quick(said, counts=(12, 1))
             self.put(path, new, old)
 
         self.assertIn("| `two_more_adds_one` | one |", run(self.room, "gate/edits_page", "workshop::two_more").stdout)
@@ -242,7 +254,7 @@ class WholeRuns(unittest.TestCase):
         self.put("crates/words/src/lib.rt", "u16::from(x) + 1", "u16::from(x) + 2")
         self.quick("fn words::one_more: no proof", "low_tests: tests LEFT")
         self.put("crates/words/src/lib.rt", "u16::from(x) + 2", "1 + u16::from(x)")
-        self.quick("changed: words; tests to run: low_tests; the program stays as it was built", "words: proof passed", "the program with its new bodies", others=["workshop: proof passed", "examples and manual:"], counts=(11, 0))
+        self.quick("changed: words; tests to run: low_tests; the program stays as it was built", "words: proof passed", "the program with its new bodies", others=["workshop: proof passed", "tests of the program:"], counts=(11, 0))
         self.assertEqual(self.tried(), "0 passed, 0 failed")
 
     def definitions(self):
@@ -263,7 +275,4 @@ class WholeRuns(unittest.TestCase):
 
 
 if __name__ == "__main__":
-    result = unittest.main(exit=False).result
-    failed = len(result.failures) + len(result.errors)
-    print(f"{result.testsRun - failed} passed, {failed} failed")
-    sys.exit(1 if failed else 0)
+    unittest.main()

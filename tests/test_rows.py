@@ -1,12 +1,12 @@
-"""Runs the built program on the rows of examples/rows: sources, feeds, and programs of a few words, each with what the program answers. Each file says in its first lines
+"""Runs the built program on the rows of rows/: sources, feeds, and programs of a few words, each with what the program answers. Each file says in its first lines
 what its rows are."""
 import os
 import re
 import subprocess
+import unittest
 
-from files import read, write
+from common import PROGRAM, ROWS, Case, write
 
-ROWS = os.path.join(os.path.dirname(os.path.abspath(__file__)), "rows")
 SYMBOLS = b"X EQUALS 100\nF EQUALS 4100\n"
 
 
@@ -22,80 +22,6 @@ def text_of(shown):
     """The bytes of a text as a row shows it, with a line feed at the end."""
     text = shown.replace(";", "\n").replace("\\r", "\r").encode() + b"\n"
     return re.sub(rb"\\x([0-9A-F]{2})", lambda found: bytes([int(found[1], 16)]), text)
-
-
-class Rows:
-    """Tries rows by a program, in a folder."""
-
-    def __init__(self, program, told, room):
-        self.program, self.told = program, told
-        self.source, self.feed, self.rope = (f"{room}/row.{it}" for it in ("agc", "feed", "rope"))
-
-    def ran(self, *words, commands=""):
-        """The status of the program, its output and its error output."""
-        ran = subprocess.run([self.program, *words], input=commands.encode(), capture_output=True, timeout=300)
-        return ran.returncode, ran.stdout.decode(), ran.stderr.decode()
-
-    def session(self, commands):
-        """What a session over the source and the feed of a row replies to some lines of commands."""
-        return self.ran("debug", self.source, self.feed, commands="".join(f"{it}\n" for it in commands))
-
-    def is_refused(self, got, wanted):
-        return got == (1, "", f"agcws: {wanted}\n")
-
-    def assemble(self, label, source, wanted):
-        """A source that is refused, with no image, or whose listing has a word at a place."""
-        write(self.source, source)
-        status, out, err = got = self.ran("asm", self.source, self.rope)
-        if wanted.startswith("E"):
-            self.told(label, self.is_refused(got, wanted) and not os.path.exists(self.rope), f"wanted {wanted}, got {got}")
-        else:
-            words = set(re.findall(r"^ *\d+ (\d\d,\d{4} \d{5})(?:  |$)", out, re.M))
-            self.told(label, (status, err) == (0, "") and (wanted == "-" or wanted in words), f"wanted {wanted}, got {got}")
-            os.remove(self.rope)
-
-    def try_sources(self):
-        for shown, wanted in rows_of("sources"):
-            self.assemble(f"the source {shown}", text_of(shown), wanted)
-        for shown, wanted in rows_of("symbols"):
-            self.assemble(f"{shown}, and then its symbols", text_of(shown) + SYMBOLS, wanted)
-            self.assemble(f"{shown}, after its symbols", SYMBOLS + text_of(shown), wanted)
-
-    def try_feeds(self):
-        write(self.source, b"")
-        for shown, wanted in rows_of("feeds"):
-            write(self.feed, text_of(shown))
-            got = self.ran("run", self.source, self.feed, "0")
-            self.told(f"the feed {shown}", self.is_refused(got, wanted) if wanted != "-" else got == (0, "", ""), f"wanted {wanted}, got {got}")
-
-    def try_steps(self):
-        for words, feed, *groups in rows_of("steps"):
-            write(self.source, b" SETLOC 4000\n" + "".join(f" OCT {it}\n" for it in words.split() if it != "-").encode())
-            write(self.feed, b"" if feed == "-" else text_of(feed))
-            self.try_groups(words, groups)
-
-    def try_groups(self, words, groups):
-        """What a session shows after each of some steps."""
-        before, commands, wanted = 0, [], []
-        for step, readings in (it.split(": ") for it in groups):
-            wanted.append(dict(it.split("=") for it in readings.split()))
-            commands += [f"step {int(step) - before}", "regs", *(command_of(it) for it in wanted[-1] if command_of(it)), "sym #"]
-            before = int(step)
-        status, out, err = self.session(commands)
-        self.told(f"the session of {words}", (status, err) == (0, ""), f"{status} {err}")
-        for said, group, readings in zip(out.split("E50 COMMAND\n"), groups, wanted):
-            shown = shown_by(said, [it for it in readings if command_of(it)])
-            got = {it: shown.get(it) for it in readings}
-            self.told(f"{words}, after {group.split(':')[0]} steps", got == readings, f"wanted {readings}, got {got}")
-
-
-class RowsInAVector(Rows):
-    """Tries sessions whose images stand in a vector, by the program vector_session: it takes all from its input, and replies after a line DONE."""
-
-    def session(self, commands):
-        parts = [read(self.source), read(self.feed), "".join(f"{it}\n" for it in commands).encode()]
-        ran = subprocess.run([self.program], input=b"---\n".join(parts), capture_output=True, timeout=300)
-        return ran.returncode, ran.stdout.decode().partition("DONE\n")[2], ran.stderr.decode()
 
 
 def command_of(reading):
@@ -213,100 +139,140 @@ def bank_of_words(state):
     return b"".join(lines)
 
 
-def check_long_rows(rows):
-    for name, source, wanted in long_sources():
-        rows.assemble(f"a source of {name}", source, wanted)
-    write(rows.source, b"")
-    for name, feed, wanted in long_feeds():
-        write(rows.feed, feed)
-        got = rows.ran("run", rows.source, rows.feed, "0")
-        rows.told(f"a feed of {name}", rows.is_refused(got, wanted) if wanted != "-" else got == (0, "", ""), f"wanted {wanted}, got {got}")
+class OnRows:
+    """What both ways of keeping images are tried by."""
+
+    def setUp(self):
+        super().setUp()
+        self.source, self.feed, self.rope = (f"{self.room}/row.{it}" for it in ("agc", "feed", "rope"))
+
+    def ran(self, *words, commands=""):
+        """The status of the program, its output and its error output."""
+        ran = subprocess.run([PROGRAM, *words], input=commands.encode(), capture_output=True, timeout=300)
+        return ran.returncode, ran.stdout.decode(), ran.stderr.decode()
+
+    def session(self, commands):
+        """What a session over the source and the feed of a row replies to some lines of commands."""
+        return self.ran("debug", self.source, self.feed, commands="".join(f"{it}\n" for it in commands))
+
+    def is_refused(self, got, wanted):
+        return got == (1, "", f"agcws: {wanted}\n")
+
+    def assemble(self, label, source, wanted):
+        """A source that is refused, with no image, or whose listing has a word at a place."""
+        write(self.source, source)
+        status, out, err = got = self.ran("asm", self.source, self.rope)
+        if wanted.startswith("E"):
+            with self.subTest(label):
+                self.assertTrue(self.is_refused(got, wanted) and not os.path.exists(self.rope), f"wanted {wanted}, got {got}")
+        else:
+            words = set(re.findall(r"^ *\d+ (\d\d,\d{4} \d{5})(?:  |$)", out, re.M))
+            with self.subTest(label):
+                self.assertTrue((status, err) == (0, "") and (wanted == "-" or wanted in words), f"wanted {wanted}, got {got}")
+            os.remove(self.rope)
+
+    def shown_at(self, commands_of):
+        """What a session shows at each of some steps, which commands lead to: where it stands, its registers, and in each twentieth all words and channels."""
+        everything = [f"mem {it:o}" for it in range(2048)] + [f"chan {it:o}" for it in range(512)]
+        asked = [[*commands_of(it), "regs", *(everything if at % 20 == 0 else [])] for at, it in enumerate(SHOWN)]
+        _, out, err = self.session([it for part in asked for it in [*part, "sym"]])
+        found = [[line for line in said.split("\n") if " CH " not in line] for said in out.split("E50 COMMAND\n")[:-1]]
+        return found if not err else []
+
+    def test_programs_that_execute_everything(self):
+        """Programs that execute everything: at each step that is shown all is as in a session that only goes forward, and the words that a row names are executed."""
+        write(self.feed, INPUTS)
+        programs = [(text_of(shown), wanted) for shown, wanted in PROGRAMS] + [(bank_of_words(it), [("4000", "00003", "0")]) for it in (7, 1969, 65537)]
+        for number, (source, wanted) in enumerate(programs):
+            write(self.source, b" SETLOC 4000\n" + source)
+            before = [0, *SHOWN]
+            forward = self.shown_at(lambda it: [f"step {it - before[SHOWN.index(it)]}"])
+            back = self.shown_at(lambda it: [*([f"step {STEPS}"] if it == 0 else []), f"goto {it}"])
+            back = [it[1:] if at == 0 else it for at, it in enumerate(back)]
+            with self.subTest(f"program {number} of those that execute everything is shown as it was"):
+                self.assertTrue(len(forward) == len(SHOWN) and back == forward)
+            met = {(it[0].split()[-1], it[2].split()[1], it[1].split()[15], it[1].split()[11]) for it in forward}
+            met |= {it[:3] for it in met}
+            with self.subTest(f"program {number} executes what it is for"):
+                self.assertTrue(set(wanted) <= met, f"{set(wanted) - met}")
+
+    def test_added_inputs(self):
+        """Inputs that are added: each step is as in a run that had them from the start. Before each new step the first is shown."""
+        write(self.source, b" SETLOC 4000\n TCF 4000\n")
+        everywhere = [it for t in range(41) for it in (f"goto {t}", "regs", "mem 25")]
+        shown = []
+        for feed, added in ((b"", ["add 30 TIME1 PINC", "add 25 TIME1 PINC", "add 30 TIME1 PINC"]), (b"25 TIME1 PINC\n30 TIME1 PINC\n30 TIME1 PINC\n", [])):
+            write(self.feed, feed)
+            status, out, err = self.session(["run 20", *added, *(it for _ in range(20) for it in ("goto 0", "run 1")), "clear", *everywhere])
+            shown.append((status, out.partition("CLEAR\n")[2], err))
+        with self.subTest("inputs added change nothing past"):
+            self.assertTrue(shown[0] == shown[1] and shown[0][::2] == (0, "") and shown[0][1].endswith("MEM 00003\n"), f"{shown}")
+        write(self.source, b" CA FIVE\n AD FIVE\n EXTEND\n WRITE 10\n TCF 4000\nFIVE OCT 5\n")
+        write(self.feed, b"")
+        got = self.session([it for _ in range(23) for it in ("goto 0", "run 1")])
+        lines = [it for it in got[1].split("\n") if " CH " in it]
+        with self.subTest("steps after the start was shown"):
+            self.assertEqual(lines, [f"{8 * it + 7} CH 010 00012" for it in range(4)])
 
 
-def shown_at(rows, commands_of):
-    """What a session shows at each of some steps, which commands lead to: where it stands, its registers, and in each twentieth all words and channels."""
-    everything = [f"mem {it:o}" for it in range(2048)] + [f"chan {it:o}" for it in range(512)]
-    asked = [[*commands_of(it), "regs", *(everything if at % 20 == 0 else [])] for at, it in enumerate(SHOWN)]
-    _, out, err = rows.session([it for part in asked for it in [*part, "sym"]])
-    found = [[line for line in said.split("\n") if " CH " not in line] for said in out.split("E50 COMMAND\n")[:-1]]
-    return found if not err else []
+class Rows(OnRows, Case):
+    """The rows, and sources, feeds and programs that are too long for one."""
+
+    def test_sources(self):
+        for shown, wanted in rows_of("sources"):
+            self.assemble(f"the source {shown}", text_of(shown), wanted)
+        for shown, wanted in rows_of("symbols"):
+            self.assemble(f"{shown}, and then its symbols", text_of(shown) + SYMBOLS, wanted)
+            self.assemble(f"{shown}, after its symbols", SYMBOLS + text_of(shown), wanted)
+
+    def test_feeds(self):
+        write(self.source, b"")
+        for shown, wanted in rows_of("feeds"):
+            write(self.feed, text_of(shown))
+            got = self.ran("run", self.source, self.feed, "0")
+            with self.subTest(f"the feed {shown}"):
+                self.assertTrue(self.is_refused(got, wanted) if wanted != "-" else got == (0, "", ""), f"wanted {wanted}, got {got}")
+
+    def test_steps(self):
+        for words, feed, *groups in rows_of("steps"):
+            write(self.source, b" SETLOC 4000\n" + "".join(f" OCT {it}\n" for it in words.split() if it != "-").encode())
+            write(self.feed, b"" if feed == "-" else text_of(feed))
+            self.try_groups(words, groups)
+
+    def try_groups(self, words, groups):
+        """What a session shows after each of some steps."""
+        before, commands, wanted = 0, [], []
+        for step, readings in (it.split(": ") for it in groups):
+            wanted.append(dict(it.split("=") for it in readings.split()))
+            commands += [f"step {int(step) - before}", "regs", *(command_of(it) for it in wanted[-1] if command_of(it)), "sym #"]
+            before = int(step)
+        status, out, err = self.session(commands)
+        with self.subTest(f"the session of {words}"):
+            self.assertEqual((status, err), (0, ""), f"{status} {err}")
+        for said, group, readings in zip(out.split("E50 COMMAND\n"), groups, wanted):
+            shown = shown_by(said, [it for it in readings if command_of(it)])
+            got = {it: shown.get(it) for it in readings}
+            with self.subTest(f"{words}, after {group.split(':')[0]} steps"):
+                self.assertEqual(got, readings)
+
+    def test_long_sources_and_feeds(self):
+        for name, source, wanted in long_sources():
+            self.assemble(f"a source of {name}", source, wanted)
+        write(self.source, b"")
+        for name, feed, wanted in long_feeds():
+            write(self.feed, feed)
+            got = self.ran("run", self.source, self.feed, "0")
+            with self.subTest(f"a feed of {name}"):
+                self.assertTrue(self.is_refused(got, wanted) if wanted != "-" else got == (0, "", ""), f"wanted {wanted}, got {got}")
+
+    def test_many_added_inputs(self):
+        """The 65,537th input that is added is refused, and a cycle that is too early before that."""
+        write(self.source, b" CA FIVE\n AD FIVE\n EXTEND\n WRITE 10\n TCF 4000\nFIVE OCT 5\n")
+        write(self.feed, b"")
+        got = self.session(["step 1", *(f"add {1000 + it} TIME1 PINC" for it in range(65536)), "add 1000 TIME1 PINC", "add 2 TIME1 PINC", "step 1"])
+        with self.subTest("65,537 inputs added"):
+            self.assertEqual(got, (0, "AT 1 2 4001\n" + 65536 * "ADDED\n" + "E32 TOO MANY\nE42 TOO EARLY\nAT 2 4 4002\n", ""), got[1][-200:])
 
 
-def check_programs(rows):
-    """Programs that execute everything: at each step that is shown all is as in a session that only goes forward, and the words that a row names are executed."""
-    write(rows.feed, INPUTS)
-    programs = [(text_of(shown), wanted) for shown, wanted in PROGRAMS] + [(bank_of_words(it), [("4000", "00003", "0")]) for it in (7, 1969, 65537)]
-    for number, (source, wanted) in enumerate(programs):
-        write(rows.source, b" SETLOC 4000\n" + source)
-        before = [0, *SHOWN]
-        forward = shown_at(rows, lambda it: [f"step {it - before[SHOWN.index(it)]}"])
-        back = shown_at(rows, lambda it: [*([f"step {STEPS}"] if it == 0 else []), f"goto {it}"])
-        back = [it[1:] if at == 0 else it for at, it in enumerate(back)]
-        rows.told(f"program {number} of those that execute everything is shown as it was", len(forward) == len(SHOWN) and back == forward)
-        met = {(it[0].split()[-1], it[2].split()[1], it[1].split()[15], it[1].split()[11]) for it in forward}
-        met |= {it[:3] for it in met}
-        rows.told(f"program {number} executes what it is for", set(wanted) <= met, f"{set(wanted) - met}")
-
-
-def check_added(rows):
-    """Inputs that are added: each step is as in a run that had them from the start. Before each new step the first is shown."""
-    write(rows.source, b" SETLOC 4000\n TCF 4000\n")
-    everywhere = [it for t in range(41) for it in (f"goto {t}", "regs", "mem 25")]
-    shown = []
-    for feed, added in ((b"", ["add 30 TIME1 PINC", "add 25 TIME1 PINC", "add 30 TIME1 PINC"]), (b"25 TIME1 PINC\n30 TIME1 PINC\n30 TIME1 PINC\n", [])):
-        write(rows.feed, feed)
-        status, out, err = rows.session(["run 20", *added, *(it for _ in range(20) for it in ("goto 0", "run 1")), "clear", *everywhere])
-        shown.append((status, out.partition("CLEAR\n")[2], err))
-    rows.told("inputs added change nothing past", shown[0] == shown[1] and shown[0][::2] == (0, "") and shown[0][1].endswith("MEM 00003\n"), f"{shown}")
-    write(rows.source, b" CA FIVE\n AD FIVE\n EXTEND\n WRITE 10\n TCF 4000\nFIVE OCT 5\n")
-    write(rows.feed, b"")
-    got = rows.session([it for _ in range(23) for it in ("goto 0", "run 1")])
-    lines = [it for it in got[1].split("\n") if " CH " in it]
-    rows.told("steps after the start was shown", lines == [f"{8 * it + 7} CH 010 00012" for it in range(4)], f"{lines}")
-
-
-def check_many_added(rows):
-    """The 65,537th input that is added is refused, and a cycle that is too early before that."""
-    write(rows.source, b" CA FIVE\n AD FIVE\n EXTEND\n WRITE 10\n TCF 4000\nFIVE OCT 5\n")
-    write(rows.feed, b"")
-    got = rows.session(["step 1", *(f"add {1000 + it} TIME1 PINC" for it in range(65536)), "add 1000 TIME1 PINC", "add 2 TIME1 PINC", "step 1"])
-    rows.told("65,537 inputs added", got == (0, "AT 1 2 4001\n" + 65536 * "ADDED\n" + "E32 TOO MANY\nE42 TOO EARLY\nAT 2 4 4002\n", ""), got[1][-200:])
-
-
-def check_rows(program, told, room):
-    rows = Rows(program, told, room)
-    rows.try_sources()
-    rows.try_feeds()
-    rows.try_steps()
-    check_long_rows(rows)
-    check_added(rows)
-    check_many_added(rows)
-    check_programs(rows)
-
-
-def sessions():
-    """The sessions of sessions.md: a source, a feed, commands and the replies to all of them."""
-    source, feed = b"", b""
-    with open(f"{ROWS}/sessions.md", encoding="utf-8") as file:
-        for words, body in re.findall(r"^```(\S.*)\n((?s:.*?))^```$", file.read(), re.M):
-            kind, *files = words.split()
-            if kind == "agc":
-                source, feed = body.encode(), b""
-            elif kind == "feed":
-                feed = body.encode()
-            elif kind == "debug":
-                lines = body.splitlines()
-                over = (source, feed) if files == ["my.agc"] else [read(f"{ROWS}/../../{it}") for it in files]
-                yield (*over, [it[2:] for it in lines if it.startswith("> ")], "".join(f"{it}\n" for it in lines if not it.startswith("> ")))
-
-
-def check_vector(program, told, room):
-    """The sessions of sessions.md, and programs that execute everything, with images in a vector."""
-    rows = RowsInAVector(program, told, room)
-    for source, feed, commands, replies in sessions():
-        write(rows.source, source)
-        write(rows.feed, feed)
-        got = rows.session(commands)
-        told(f"a session with images in a vector, {commands[0]}", got == (0, replies, ""), f"wanted {replies}, got {got}")
-    check_added(rows)
-    check_programs(rows)
+if __name__ == "__main__":
+    unittest.main()

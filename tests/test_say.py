@@ -1,6 +1,10 @@
 """Compares the sentences of `agcws trace --say` with the lines of `agcws trace --reads` of the same steps: what each found, and what it left."""
+import os
 import re
 import subprocess
+import unittest
+
+from common import EMPTY, EXAMPLES, PROGRAM, Case, rows_of_runs
 
 STEPS = 10_000
 # What a sentence says nothing of: where to go on, the bank registers, and what an interrupt keeps by itself.
@@ -24,6 +28,16 @@ WAYS = {
     "BZMF": ("it goes to", "next word follows"),
     "TS": ("takes A: ", "word is skipped"),
 }
+
+
+def said_runs():
+    """The examples that are run, and the model solutions of the course: a name, the source, the feed and the steps."""
+    for name, feed, steps in rows_of_runs():
+        yield name, f"{EXAMPLES}/{name}.agc", f"{EXAMPLES}/{feed}", int(steps)
+    for folder in sorted(os.listdir(f"{EXAMPLES}/course")):
+        room = f"{EXAMPLES}/course/{folder}"
+        feed = f"{room}/exercise.feed"
+        yield f"lesson {folder}", f"{room}/model.agc", feed if os.path.exists(feed) else EMPTY, 2000
 
 
 def value_of(word):
@@ -93,49 +107,55 @@ def lines_of(program, option, files, steps):
     return subprocess.run([program, "trace", option, *files, str(steps)], capture_output=True, text=True, timeout=300).stdout.splitlines()
 
 
-def check_says(program, told, runs):
-    """Compares the first steps of each run."""
-    met = {}
-    for name, source, feed, steps in runs:
-        files, steps = [source, feed], min(steps, STEPS)
-        traced = list(map(Traced, lines_of(program, "--reads", files, steps)))
-        said = list(map(Said, lines_of(program, "--say", files, steps)))
+class Say(Case):
+    """Sentences of steps, beside traces."""
+
+    def test_examples_and_model_solutions(self):
+        """Compares the first steps of each run."""
+        met = {}
+        for name, source, feed, steps in said_runs():
+            files, steps = [source, feed], min(steps, STEPS)
+            traced = list(map(Traced, lines_of(PROGRAM, "--reads", files, steps)))
+            said = list(map(Said, lines_of(PROGRAM, "--say", files, steps)))
+            wrong = [f"{why}: {b.what} {b.sentence}" for a, b in zip(traced, said) for why in [wrong_in(a, b)] if why]
+            with self.subTest(f"the sentences of {name}"):
+                self.assertTrue(len(said) == len(traced) == steps and not wrong, f"{len(said)} lines; {len(wrong)} wrong, as {wrong[:3]}")
+            for it in said:
+                met.setdefault(it.what[3].split()[0], set()).add(it.sentence)
+        with self.subTest("a sentence of each instruction was met"):
+            self.assertTrue(INSTRUCTIONS <= set(met), f"{sorted(INSTRUCTIONS - set(met))}")
+        for name, ways in WAYS.items():
+            with self.subTest(f"each way of {name} was met"):
+                self.assertTrue(all(any(way in it for it in met.get(name, ())) for way in ways), f"{[way for way in ways if not any(way in it for it in met.get(name, ()))]}")
+
+    def test_each_input(self):
+        """A run with each input and each interrupt: all have a sentence, which names them, and none is wrong."""
+        source, feed = f"{self.room}/each.agc", f"{self.room}/each.feed"
+        vectors = "".join(f" SETLOC {0o4000 + 4 * k:o}\n RESUME\n" for k in range(1, 11))
+        with open(source, "w", encoding="ascii") as file:
+            file.write(f" SETLOC 4000\n TCF START\n{vectors} SETLOC 4100\nSTART RELINT\nIDLE TCF IDLE\n")
+        pulses = [f"{counter} {sequence}" for counters, sequences in SEQUENCES.items() for counter in counters.split() for sequence in sequences.split()]
+        inputs = pulses + ["CHAN 015 00021", "CHAN 016 00021", "CHAN 030 77777"] + [f"RUPT {k}" for k in range(1, 11)]
+        with open(feed, "w", encoding="ascii") as file:
+            file.writelines(f"{100 + 50 * i} {it}\n" for i, it in enumerate(inputs))
+        traced = list(map(Traced, lines_of(PROGRAM, "--reads", [source, feed], 2000)))
+        said = list(map(Said, lines_of(PROGRAM, "--say", [source, feed], 2000)))
         wrong = [f"{why}: {b.what} {b.sentence}" for a, b in zip(traced, said) for why in [wrong_in(a, b)] if why]
-        told(f"the sentences of {name}", len(said) == len(traced) == steps and not wrong, f"{len(said)} lines; {len(wrong)} wrong, as {wrong[:3]}")
-        for it in said:
-            met.setdefault(it.what[3].split()[0], set()).add(it.sentence)
-    told("a sentence of each instruction was met", INSTRUCTIONS <= set(met), f"{sorted(INSTRUCTIONS - set(met))}")
-    for name, ways in WAYS.items():
-        told(f"each way of {name} was met", all(any(way in it for it in met.get(name, ())) for way in ways), f"{[way for way in ways if not any(way in it for it in met.get(name, ()))]}")
-    return met
+        with self.subTest("the sentences of each input"):
+            self.assertTrue(len(said) == len(traced) == 2000 and not wrong, f"{wrong[:3]}")
+        taken = {a.text.partition(" ASKS ")[0] for a in traced if a.kind == "INPUT"}
+        with self.subTest("each input has a sentence"):
+            self.assertEqual(taken, set(inputs))
+        entered = {a.text for a in traced if a.kind == "ENTRY"}
+        with self.subTest("each interrupt has a sentence"):
+            self.assertEqual(entered, set(INTERRUPTS))
 
-
-def check_each_input(program, told, room):
-    """A run with each input and each interrupt: all have a sentence, which names them, and none is wrong."""
-    source, feed = f"{room}/each.agc", f"{room}/each.feed"
-    vectors = "".join(f" SETLOC {0o4000 + 4 * k:o}\n RESUME\n" for k in range(1, 11))
-    with open(source, "w", encoding="ascii") as file:
-        file.write(f" SETLOC 4000\n TCF START\n{vectors} SETLOC 4100\nSTART RELINT\nIDLE TCF IDLE\n")
-    pulses = [f"{counter} {sequence}" for counters, sequences in SEQUENCES.items() for counter in counters.split() for sequence in sequences.split()]
-    inputs = pulses + ["CHAN 015 00021", "CHAN 016 00021", "CHAN 030 77777"] + [f"RUPT {k}" for k in range(1, 11)]
-    with open(feed, "w", encoding="ascii") as file:
-        file.writelines(f"{100 + 50 * i} {it}\n" for i, it in enumerate(inputs))
-    traced = list(map(Traced, lines_of(program, "--reads", [source, feed], 2000)))
-    said = list(map(Said, lines_of(program, "--say", [source, feed], 2000)))
-    wrong = [f"{why}: {b.what} {b.sentence}" for a, b in zip(traced, said) for why in [wrong_in(a, b)] if why]
-    told("the sentences of each input", len(said) == len(traced) == 2000 and not wrong, f"{wrong[:3]}")
-    taken = {a.text.partition(" ASKS ")[0] for a in traced if a.kind == "INPUT"}
-    told("each input has a sentence", taken == set(inputs), f"{taken ^ set(inputs)}")
-    entered = {a.text for a in traced if a.kind == "ENTRY"}
-    told("each interrupt has a sentence", entered == set(INTERRUPTS), f"{entered ^ set(INTERRUPTS)}")
-
-
-def check_named_cells(program, told, room):
-    """What a line calls a cell: its symbol, the manual's name of one with a use of its own, the symbol before it; and in a sentence. A number by EQUALS names none: it may be
-    a channel."""
-    source = f"{room}/named.agc"
-    with open(source, "w", encoding="ascii") as file:
-        file.write("""KEEP EQUALS 10
+    def test_named_cells(self):
+        """What a line calls a cell: its symbol, the manual's name of one with a use of its own, the symbol before it; and in a sentence. A number by EQUALS names none: it may be
+        a channel."""
+        source = f"{self.room}/named.agc"
+        with open(source, "w", encoding="ascii") as file:
+            file.write("""KEEP EQUALS 10
 SPOT EQUALS 300
  SETLOC 100
 BUFFER ERASE +3
@@ -150,19 +170,25 @@ LATER ERASE
 DONE TCF DONE
 FIVE DEC 5
 """)
-    lines = [re.split("  +", it) for it in lines_of(program, "--reads", [source, "/dev/null"], 6)]
-    cells = [(it[4], [cell for cell in it[6].split(" ") if cell]) for it in lines]
-    told("cells by their names", cells == [
-        ("CA FIVE", ["A=000005"]), ("TS BUFFER +1", ["BUFFER+1=00005"]), ("TS QRUPT", ["QRUPT=00005"]), ("TS LATER", ["LATER=00005"]), ("TS 0300", ["E0,0300=00005"]),
-        ("TS 0013", ["E0,0013=00005"])], str(cells))
-    said = [re.split("  +", it)[-1] for it in lines_of(program, "--say", [source, "/dev/null"], 3)]
-    told("a word behind a symbol in a sentence", said[1:] == ["BUFFER +1 takes A: 00005 (5).", "QRUPT takes A: 00005 (5)."], str(said))
+        lines = [re.split("  +", it) for it in lines_of(PROGRAM, "--reads", [source, "/dev/null"], 6)]
+        cells = [(it[4], [cell for cell in it[6].split(" ") if cell]) for it in lines]
+        with self.subTest("cells by their names"):
+            self.assertEqual(cells, [
+            ("CA FIVE", ["A=000005"]), ("TS BUFFER +1", ["BUFFER+1=00005"]), ("TS QRUPT", ["QRUPT=00005"]), ("TS LATER", ["LATER=00005"]), ("TS 0300", ["E0,0300=00005"]),
+            ("TS 0013", ["E0,0013=00005"])])
+        said = [re.split("  +", it)[-1] for it in lines_of(PROGRAM, "--say", [source, "/dev/null"], 3)]
+        with self.subTest("a word behind a symbol in a sentence"):
+            self.assertEqual(said[1:], ["BUFFER +1 takes A: 00005 (5).", "QRUPT takes A: 00005 (5)."])
+
+    def test_edrupt(self):
+        """EDRUPT, which no operator names: a word 07000 behind one that is EXTEND's."""
+        source = f"{self.room}/edrupt.agc"
+        with open(source, "w", encoding="ascii") as file:
+            file.write(" SETLOC 4000\n OCT 6\n OCT 7000\nDONE TCF DONE\n")
+        said = [Said(it) for it in lines_of(PROGRAM, "--say", [source, "/dev/null"], 2)]
+        with self.subTest("the sentence of EDRUPT"):
+            self.assertTrue(said[1].what[3] == "EDRUPT 000" and said[1].sentence == "Nothing happens.", f"{said[1].what} {said[1].sentence}")
 
 
-def check_edrupt(program, told, room):
-    """EDRUPT, which no operator names: a word 07000 behind one that is EXTEND's."""
-    source = f"{room}/edrupt.agc"
-    with open(source, "w", encoding="ascii") as file:
-        file.write(" SETLOC 4000\n OCT 6\n OCT 7000\nDONE TCF DONE\n")
-    said = [Said(it) for it in lines_of(program, "--say", [source, "/dev/null"], 2)]
-    told("the sentence of EDRUPT", said[1].what[3] == "EDRUPT 000" and said[1].sentence == "Nothing happens.", f"{said[1].what} {said[1].sentence}")
+if __name__ == "__main__":
+    unittest.main()

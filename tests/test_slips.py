@@ -3,6 +3,9 @@ import concurrent.futures
 import os
 import re
 import subprocess
+import unittest
+
+from common import EXAMPLES, PROGRAM, Case
 
 # Sources, a semicolon between two lines, whether they are read with --flight, and the line, the column and the number of each error that is told.
 FOLLOWING = [
@@ -70,23 +73,32 @@ def slips(text, flight):
                 yield i + 1, field, "\n".join([*lines[:i], wrong, *lines[i + 1 :]])
 
 
-def check_slips(program, room, told, examples):
-    def errors_in(number, text, flight):
-        path = f"{room}/slip{number}.agc"
-        with open(path, "w", encoding="utf-8") as file:
-            file.write(text)
-        found = errors_of(program, path, flight)
-        os.remove(path)
-        return found
+class Slips(Case):
+    """Errors of slips."""
 
-    with concurrent.futures.ThreadPoolExecutor(os.cpu_count()) as pool:
-        for number, (source, flight, wanted) in enumerate(FOLLOWING):
-            got = errors_in(number, source.replace(";", "\n") + "\n", flight)
-            told(f"errors of {source[:60].strip()}", got == wanted, f"wanted {wanted}, got {got}")
-        for folder, flight in (("", False), ("flight/", True)):
-            for name in sorted(it for it in os.listdir(f"{examples}/{folder}") if it.endswith(".agc")):
-                with open(f"{examples}/{folder}{name}", encoding="utf-8") as file:
-                    tried = list(slips(file.read(), flight))
-                found = pool.map(lambda it: errors_in(f"{it[0]}", it[1][2], flight), enumerate(tried))
-                wrong = [(line, field, got) for (line, field, _), got in zip(tried, found) if len(got) != 1]
-                told(f"each of {len(tried)} slips in {folder}{name} draws one error", tried and not wrong, f"{len(wrong)} do not: {wrong[:3]}")
+    def test_slips(self):
+        def errors_in(number, text, flight):
+            path = f"{self.room}/slip{number}.agc"
+            with open(path, "w", encoding="utf-8") as file:
+                file.write(text)
+            found = errors_of(PROGRAM, path, flight)
+            os.remove(path)
+            return found
+
+        with concurrent.futures.ThreadPoolExecutor(os.cpu_count()) as pool:
+            for number, (source, flight, wanted) in enumerate(FOLLOWING):
+                got = errors_in(number, source.replace(";", "\n") + "\n", flight)
+                with self.subTest(f"errors of {source[:60].strip()}"):
+                    self.assertEqual(got, wanted)
+            for folder, flight in (("", False), ("flight/", True)):
+                for name in sorted(it for it in os.listdir(f"{EXAMPLES}/{folder}") if it.endswith(".agc")):
+                    with open(f"{EXAMPLES}/{folder}{name}", encoding="utf-8") as file:
+                        tried = list(slips(file.read(), flight))
+                    found = pool.map(lambda it: errors_in(f"{it[0]}", it[1][2], flight), enumerate(tried))
+                    wrong = [(line, field, got) for (line, field, _), got in zip(tried, found) if len(got) != 1]
+                    with self.subTest(f"each of {len(tried)} slips in {folder}{name} draws one error"):
+                        self.assertTrue(tried and not wrong, f"{len(wrong)} do not: {wrong[:3]}")
+
+
+if __name__ == "__main__":
+    unittest.main()

@@ -1,6 +1,9 @@
 """Compares the lines of `agcws trace` with what `agcws debug` replies of the same steps: step 1, changed, regs, mem and chan."""
 import re
 import subprocess
+import unittest
+
+from common import EXAMPLES, PROGRAM, Case, agcws, example_runs, write
 
 STEPS = 10_000
 REGISTERS = {"A": 0, "L": 1, "Q": 2, "EB": 3, "FB": 4, "Z": 5, "BB": 6}
@@ -115,18 +118,71 @@ def is_right(line, before, after, symbols):
     return (line.step, line.cycles, line.output) == (after.step, after.cycles, after.output) and kind and what and place and after.changed - NOT_SHOWN <= shown
 
 
-def check_trace(program, told, name, files):
-    """Compares the first steps of a program."""
-    text = subprocess.run([program, "trace", *files, str(STEPS)], capture_output=True, text=True, timeout=300).stdout
-    lines = [Line(it) for it in text.splitlines()]
-    symbols, steps = symbols_of(program, files[0]), steps_of(program, files)
-    wrong = [it for it, before, after in zip(lines, steps, steps[1:]) if not is_right(it, before, after, symbols)]
-    told(f"trace of {name} beside debug", len(lines) == STEPS and not wrong, f"{len(lines)} lines, {vars(wrong[0]) if wrong else ''}")
-    commands, wanted = [], []
-    for line in lines:
-        commands += ["step 1"] + [place_asked(place, symbols) for place, _ in line.written]
-        wanted += [word[-5:] if place not in ("A", "Q") else word for place, word in line.written]
-    got = [it.split()[1] for it in replies(program, files, commands) if it.startswith(("MEM ", "CHAN "))]
-    # (mem shows the 15 bits of A and Q that a word has)
-    same = [a if len(a) == 5 else f"{int(a, 8) >> 1 & 0o40000 | int(a, 8) & 0o37777:05o}" for a in wanted]
-    told(f"what trace of {name} shows written", got == same, f"{len(got)} and {len(same)}")
+class Trace(Case):
+    """Lines of traces, beside sessions of the same steps."""
+
+    def test_examples(self):
+        for name, files in example_runs():
+            self.compare(name, files)
+
+    def compare(self, name, files):
+        """Compares the first steps of a program."""
+        text = subprocess.run([PROGRAM, "trace", *files, str(STEPS)], capture_output=True, text=True, timeout=300).stdout
+        lines = [Line(it) for it in text.splitlines()]
+        symbols, steps = symbols_of(PROGRAM, files[0]), steps_of(PROGRAM, files)
+        wrong = [it for it, before, after in zip(lines, steps, steps[1:]) if not is_right(it, before, after, symbols)]
+        with self.subTest(f"trace of {name} beside debug"):
+            self.assertTrue(len(lines) == STEPS and not wrong, f"{len(lines)} lines, {vars(wrong[0]) if wrong else ''}")
+        commands, wanted = [], []
+        for line in lines:
+            commands += ["step 1"] + [place_asked(place, symbols) for place, _ in line.written]
+            wanted += [word[-5:] if place not in ("A", "Q") else word for place, word in line.written]
+        got = [it.split()[1] for it in replies(PROGRAM, files, commands) if it.startswith(("MEM ", "CHAN "))]
+        # (mem shows the 15 bits of A and Q that a word has)
+        same = [a if len(a) == 5 else f"{int(a, 8) >> 1 & 0o40000 | int(a, 8) & 0o37777:05o}" for a in wanted]
+        with self.subTest(f"what trace of {name} shows written"):
+            self.assertEqual(got, same)
+
+    def test_inputs(self):
+        """What INDEX adds, here minus one, and what inputs ask for: the keyboards' channels, DINC of a zero, and RUPT."""
+        source = write(f"{self.room}/traced.agc", b" SETLOC 100\nX ERASE\n SETLOC 4000\n CA MINUS\n TS X\n INDEX X\n CA TABLE +1\nDONE TCF DONE\nMINUS OCT 77776\nTABLE OCT 7\n OCT 10\n")
+        feed = write(f"{self.room}/traced.feed", b"8 CHAN 015 00021\n8 TIME6 DINC\n8 RUPT 10\n8 CDUX PCDU\n")
+        lines = [
+            b"1         2         02,4000  34005  CA MINUS            A=177776\n",
+            b"2         4         02,4001  54100  TS X                X=77776\n",
+            b"3         6         02,4002  50100  INDEX X             -\n",
+            b"4         8         02,4003  34006  CA 4007 -1          A=000007\n",
+            b"5         8         -        INPUT  CHAN 015 00021 ASKS KEYRUPT1   CH015=00021\n",
+            b"6         9         -        INPUT  TIME6 DINC ASKS T6RUPT   TIME6=00000\n",
+            b"7         9         -        INPUT  RUPT 10 ASKS RUPT10   -\n",
+            b"8         10        -        INPUT  CDUX PCDU           CDUX=00001\n",
+        ]
+        with self.subTest("a trace of inputs"):
+            self.assertAnswer(agcws("trace", source, feed, "8"), 0, b"".join(lines))
+
+    def test_images_and_spans(self):
+        """Traces of an image, of some steps, of none, and of a refused feed."""
+        source, empty, rope = f"{EXAMPLES}/five_plus_five.agc", f"{EXAMPLES}/empty.feed", f"{self.room}/traced.rope"
+        agcws("asm", source, rope)
+        lines = [
+            b"1         2         02,4000  34005  CA 4005             A=000005\n",
+            b"2         4         02,4001  64005  AD 4005             A=000012\n",
+            b"3         5         02,4002  00006  EXTEND              -\n",
+            b"4         7         02,4003  01010  WRITE 010           CH010=00012  7 CH 010 00012\n",
+        ]
+        with self.subTest("a trace of an image"):
+            self.assertAnswer(agcws("trace", "--image", rope, empty, "4"), 0, b"".join(lines))
+        with self.subTest("a trace of some steps"):
+            self.assertAnswer(agcws("trace", "--image", rope, empty, "1099511627774", "--from", "2", "--to", "3"), 0, b"".join(lines[1:3]))
+        with self.subTest("a trace of later steps than there are"):
+            self.assertAnswer(agcws("trace", source, empty, "4", "--from", "5", "--to", "9"), 0, b"")
+        with self.subTest("a trace that ends before it begins"):
+            self.assertAnswer(agcws("trace", source, empty, "60", "--from", "50", "--to", "40"), 2, b"", b"error: --to names an earlier step than --from, which is 1 where it is not given\n")
+        with self.subTest("a trace of no steps"):
+            self.assertAnswer(agcws("trace", source, empty, "0"), 0, b"")
+        with self.subTest("a trace of a refused feed"):
+            self.assertAnswer(agcws("trace", source, source, "4"), 1, b"", b"agcws: E30 LINE 2\n")
+
+
+if __name__ == "__main__":
+    unittest.main()

@@ -1,9 +1,7 @@
-#!/usr/bin/env python3
-"""Tests of what tries and judges wrong edits, trial.py and copies.py, on texts. The last line is 'N passed, M failed'."""
-import sys
+"""Tests of what tries and judges wrong edits, trial.py and copies.py, on texts."""
 import unittest
 
-sys.dont_write_bytecode = True
+import common
 import copies
 import trial
 
@@ -232,7 +230,4 @@ fn c::m::h: no proof: it calls `c::m::g`, which is not proved
 
 
 if __name__ == "__main__":
-    ran = unittest.main(exit=False).result
-    failed = len(ran.failures) + len(ran.errors)
-    print(f"{ran.testsRun - failed} passed, {failed} failed")
-    sys.exit(1 if failed else 0)
+    unittest.main()

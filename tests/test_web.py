@@ -7,10 +7,11 @@ import struct
 import subprocess
 import sys
 import time
+import unittest
 
-from tally import told
+from common import VIEWS
+from viewing import ViewCase
 
-VIEWS = os.path.dirname(os.path.realpath(__file__))
 UPGRADE = "Upgrade: websocket\r\nConnection: Upgrade\r\nSec-WebSocket-Version: 13\r\nSec-WebSocket-Key: dGhlIHNhbXBsZSBub25jZQ==\r\n"
 ENDLESS = " SETLOC 4000\nHERE TCF HERE\n"
 STEPS = "1099511627774"
@@ -18,10 +19,6 @@ STEPS = "1099511627774"
 
 def packed(text):
     return base64.b64encode(text.encode()).decode()
-
-
-def same(label, got, wanted):
-    told(f"web: {label}", got == wanted, f"wanted {wanted!r}, got {got!r}")
 
 
 class Served:
@@ -104,89 +101,121 @@ def wait_until(holds):
     return holds()
 
 
-def check_requests(served):
-    """Requests that are not of the page."""
-    own = f"Origin: http://{served.host}\r\n"
-    for path in ("/", "//", "/index.html", "/x/", f"/{served.token}", f"/{served.token[:-1]}/", f"/{served.token}x/", f"/x/{served.token}/", "/%00/"):
-        same(f"no token in {path}", served.status(path), 403)
-    for path in ("../web", "..%2fweb", "%2e%2e/views/web", "//etc/passwd", "engine.js/..", "engine.js%00", "engine.js/", "check.py", "module/layer.c"):
-        same(f"no file {path}", served.status(f"/{served.token}/{path}"), 404)
-    same("a file", served.status(f"/{served.token}/engine.js"), 200)
-    for host in ("evil.example", f"evil.example:{served.port}", "127.0.0.1", f"127.0.0.1:{served.port + 1}", f"{served.host}, evil", " "):
-        same(f"the host {host}", served.status(f"/{served.token}/engine.js", host=host), 421)
-    same("two hosts", served.status(f"/{served.token}/engine.js", more="Host: evil.example\r\n"), 421)
-    for origin in ("http://evil.example", "null"):
-        same(f"the origin {origin}", served.status(f"/{served.token}/engine.js", more=f"Origin: {origin}\r\n"), 403)
-        same(f"a socket of {origin}", served.status(f"/{served.token}/engine", more=f"{UPGRADE}Origin: {origin}\r\n"), 403)
-    for method in ("POST", "PUT", "DELETE", "PATCH", "OPTIONS"):
-        same(method, served.status(f"/{served.token}/", method), 405)
-    same("a body", served.status(f"/{served.token}/", "POST", more="Content-Length: 99999999999\r\n"), 413)
-    same("a body in chunks", served.status(f"/{served.token}/", "POST", more="Transfer-Encoding: chunked\r\n"), 413)
-    same("a long path", served.status("/" + "a" * 70000 + "/"), 414)
-    same("a socket without a token", served.status("/x/engine", more=UPGRADE + own), 403)
-    same("a socket of no page", served.status(f"/{served.token}/engine", more=UPGRADE), 403)
-    same("no socket", served.status(f"/{served.token}/engine", more=own), 400)
+class Web(ViewCase):
+    """Requests, messages and runs."""
 
+    def try_requests(self, served):
+        """Requests that are not of the page."""
+        own = f"Origin: http://{served.host}\r\n"
+        for path in ("/", "//", "/index.html", "/x/", f"/{served.token}", f"/{served.token[:-1]}/", f"/{served.token}x/", f"/x/{served.token}/", "/%00/"):
+            with self.subTest(f"no token in {path}"):
+                self.assertEqual(served.status(path), 403)
+        for path in ("../web", "..%2fweb", "%2e%2e/views/web", "//etc/passwd", "engine.js/..", "engine.js%00", "engine.js/", "check.py", "module/layer.c"):
+            with self.subTest(f"no file {path}"):
+                self.assertEqual(served.status(f"/{served.token}/{path}"), 404)
+        with self.subTest("a file"):
+            self.assertEqual(served.status(f"/{served.token}/engine.js"), 200)
+        for host in ("evil.example", f"evil.example:{served.port}", "127.0.0.1", f"127.0.0.1:{served.port + 1}", f"{served.host}, evil", " "):
+            with self.subTest(f"the host {host}"):
+                self.assertEqual(served.status(f"/{served.token}/engine.js", host=host), 421)
+        with self.subTest("two hosts"):
+            self.assertEqual(served.status(f"/{served.token}/engine.js", more="Host: evil.example\r\n"), 421)
+        for origin in ("http://evil.example", "null"):
+            with self.subTest(f"the origin {origin}"):
+                self.assertEqual(served.status(f"/{served.token}/engine.js", more=f"Origin: {origin}\r\n"), 403)
+            with self.subTest(f"a socket of {origin}"):
+                self.assertEqual(served.status(f"/{served.token}/engine", more=f"{UPGRADE}Origin: {origin}\r\n"), 403)
+        for method in ("POST", "PUT", "DELETE", "PATCH", "OPTIONS"):
+            with self.subTest(method):
+                self.assertEqual(served.status(f"/{served.token}/", method), 405)
+        with self.subTest("a body"):
+            self.assertEqual(served.status(f"/{served.token}/", "POST", more="Content-Length: 99999999999\r\n"), 413)
+        with self.subTest("a body in chunks"):
+            self.assertEqual(served.status(f"/{served.token}/", "POST", more="Transfer-Encoding: chunked\r\n"), 413)
+        with self.subTest("a long path"):
+            self.assertEqual(served.status("/" + "a" * 70000 + "/"), 414)
+        with self.subTest("a socket without a token"):
+            self.assertEqual(served.status("/x/engine", more=UPGRADE + own), 403)
+        with self.subTest("a socket of no page"):
+            self.assertEqual(served.status(f"/{served.token}/engine", more=UPGRADE), 403)
+        with self.subTest("no socket"):
+            self.assertEqual(served.status(f"/{served.token}/engine", more=own), 400)
 
-def check_messages(served):
-    """Frames and messages that are none: the page is left, and the server goes on."""
-    frames = [b"\x81\x05hello", b"\xf1\x80\0\0\0\0", b"\x81\xff" + b"\x7f" * 8 + bytes(4), b"\x89\xfe\x01\0" + bytes(4), b"\x81\x82" + bytes(4) + b"[]", b"\x81\xfe\x4e\x20" + bytes(4) + b"[" * 20000]
-    good = {"words": ["--version"], "files": {}, "input": "", "memory": 0, "most": 100}
-    for change in ({"words": "x"}, {"words": ["/etc/passwd"]}, {"words": ["x\0"]}, {"words": ["x"] * 65}, {"files": {"../x": ""}}, {"files": {".": ""}}, {"files": {"x": 5}}, {"files": {"x": "?"}}, {"input": 5}, {"most": "x"}):
-        frames.append({"id": 1, "begin": {**good, **change}})
-    for it in [*frames, {"begin": good}, {"id": "x", "begin": good}]:
+    def try_messages(self, served):
+        """Frames and messages that are none: the page is left, and the server goes on."""
+        frames = [b"\x81\x05hello", b"\xf1\x80\0\0\0\0", b"\x81\xff" + b"\x7f" * 8 + bytes(4), b"\x89\xfe\x01\0" + bytes(4), b"\x81\x82" + bytes(4) + b"[]", b"\x81\xfe\x4e\x20" + bytes(4) + b"[" * 20000]
+        good = {"words": ["--version"], "files": {}, "input": "", "memory": 0, "most": 100}
+        for change in ({"words": "x"}, {"words": ["/etc/passwd"]}, {"words": ["x\0"]}, {"words": ["x"] * 65}, {"files": {"../x": ""}}, {"files": {".": ""}}, {"files": {"x": 5}}, {"files": {"x": "?"}}, {"input": 5}, {"most": "x"}):
+            frames.append({"id": 1, "begin": {**good, **change}})
+        for it in [*frames, {"begin": good}, {"id": "x", "begin": good}]:
+            page = Page(served)
+            page.next()
+            page.line.sendall(it) if isinstance(it, bytes) else page.send(it)
+            with self.subTest(f"the page is left after {it!r:.60}"):
+                self.assertEqual(page.until("status", "failed")[1], None)
+            page.close()
+        pages = [Page(served) for _ in range(8)]
+        with self.subTest("a ninth page"):
+            self.assertEqual(Page(served).first.split()[1], b"503")
+        for it in pages:
+            it.close()
+        with self.subTest("a page after those"):
+            self.assertTrue(wait_until(lambda: b"101" in Page(served).first))
+
+    def try_runs(self, served):
+        """Calls and sessions, as the engine asks for them."""
         page = Page(served)
-        page.next()
-        page.line.sendall(it) if isinstance(it, bytes) else page.send(it)
-        same(f"the page is left after {it!r:.60}", page.until("status", "failed")[1], None)
+        about = page.next()["about"]
+        with self.subTest("the source of the command line"):
+            self.assertEqual(about["given"]["source"]["name"], "lost_sum.agc")
+        page.begin(["--version"], {})
+        text, end = page.until("status")
+        with self.subTest("a call"):
+            self.assertEqual((text, end["status"], end["files"]), (f"agcws {about['version']}\n", 0, {}))
+        page.begin(["asm", "my.agc", "made.rope"], {"my.agc": ENDLESS})
+        with self.subTest("a file that is made"):
+            self.assertEqual(len(base64.b64decode(page.until("status")[1]["files"]["made.rope"])), 73728)
+        page.begin(["run", "my.agc", "my.feed", STEPS], {"my.agc": " SETLOC 4000\nHERE EXTEND\n WRITE 10\n TCF HERE\n", "my.feed": ""}, most=100000)
+        text, end = page.until("status", "failed")
+        with self.subTest("what is written is bounded"):
+            self.assertTrue(len(text) <= 100000 and "100000 bytes" in end.get("failed", ""), f"{len(text)} {end}")
+        number = page.begin(["debug", "--extended", "my.agc", "my.feed"], {"my.agc": ENDLESS, "my.feed": ""}, None)
+        page.until("waits")
+        for lines, wanted in (("step 1\n", "AT 1 1 02,4000\n"), ("step 1\nstep 1\n", "AT 2 2 02,4000\nAT 3 3 02,4000\n"), ("run 3000000\n", "AT 3000003 3000003 02,4000\n")):
+            page.send({"id": number, "lines": packed(lines)})
+            with self.subTest(f"a session, at {lines!r}"):
+                self.assertEqual(page.until("waits")[0], wanted)
+        page.send({"id": number, "end": True})
+        with self.subTest("the end of a session"):
+            self.assertEqual(page.until("status")[1]["status"], 0)
+        numbers = [page.begin(["run", "my.agc", "my.feed", STEPS], {"my.agc": ENDLESS, "my.feed": ""}) for _ in range(12)]
+        page.begin(["--version"], {})
+        with self.subTest("a run more than a page may have"):
+            self.assertIn("12 runs", page.until("failed")[1]["failed"])
+        page.send({"id": numbers[0], "stop": True})
+        with self.subTest("a run is stopped"):
+            self.assertTrue(wait_until(lambda: len(served.engines()) == 11), f"{served.engines()}")
         page.close()
-    pages = [Page(served) for _ in range(8)]
-    same("a ninth page", Page(served).first.split()[1], b"503")
-    for it in pages:
-        it.close()
-    told("web: a page after those", wait_until(lambda: b"101" in Page(served).first))
+        with self.subTest("what a page runs ends with it"):
+            self.assertTrue(wait_until(lambda: not served.engines()), f"{served.engines()}")
+
+    def test_web(self):
+        examples = f"{os.path.dirname(VIEWS)}/examples"
+        served = Served(f"{examples}/lost_sum.agc", f"{examples}/lost_sum.feed")
+        try:
+            self.try_requests(served)
+            self.try_messages(served)
+            self.try_runs(served)
+            page = Page(served)
+            page.begin(["run", "my.agc", "my.feed", STEPS], {"my.agc": ENDLESS, "my.feed": ""})
+            with self.subTest("a run before the end"):
+                self.assertTrue(wait_until(served.engines))
+            left = served.engines()
+        finally:
+            served.end()
+        with self.subTest("what runs ends with the server"):
+            self.assertTrue(wait_until(lambda: not any(os.path.exists(f"/proc/{it}") for it in left)), f"{left}")
 
 
-def check_runs(served):
-    """Calls and sessions, as the engine asks for them."""
-    page = Page(served)
-    about = page.next()["about"]
-    same("the source of the command line", about["given"]["source"]["name"], "lost_sum.agc")
-    page.begin(["--version"], {})
-    text, end = page.until("status")
-    same("a call", (text, end["status"], end["files"]), (f"agcws {about['version']}\n", 0, {}))
-    page.begin(["asm", "my.agc", "made.rope"], {"my.agc": ENDLESS})
-    same("a file that is made", len(base64.b64decode(page.until("status")[1]["files"]["made.rope"])), 73728)
-    page.begin(["run", "my.agc", "my.feed", STEPS], {"my.agc": " SETLOC 4000\nHERE EXTEND\n WRITE 10\n TCF HERE\n", "my.feed": ""}, most=100000)
-    text, end = page.until("status", "failed")
-    told("web: what is written is bounded", len(text) <= 100000 and "100000 bytes" in end.get("failed", ""), f"{len(text)} {end}")
-    number = page.begin(["debug", "--extended", "my.agc", "my.feed"], {"my.agc": ENDLESS, "my.feed": ""}, None)
-    page.until("waits")
-    for lines, wanted in (("step 1\n", "AT 1 1 02,4000\n"), ("step 1\nstep 1\n", "AT 2 2 02,4000\nAT 3 3 02,4000\n"), ("run 3000000\n", "AT 3000003 3000003 02,4000\n")):
-        page.send({"id": number, "lines": packed(lines)})
-        same(f"a session, at {lines!r}", page.until("waits")[0], wanted)
-    page.send({"id": number, "end": True})
-    same("the end of a session", page.until("status")[1]["status"], 0)
-    numbers = [page.begin(["run", "my.agc", "my.feed", STEPS], {"my.agc": ENDLESS, "my.feed": ""}) for _ in range(12)]
-    page.begin(["--version"], {})
-    told("web: a run more than a page may have", "12 runs" in page.until("failed")[1]["failed"])
-    page.send({"id": numbers[0], "stop": True})
-    told("web: a run is stopped", wait_until(lambda: len(served.engines()) == 11), f"{served.engines()}")
-    page.close()
-    told("web: what a page runs ends with it", wait_until(lambda: not served.engines()), f"{served.engines()}")
-
-
-def check_web(_):
-    examples = f"{os.path.dirname(VIEWS)}/examples"
-    served = Served(f"{examples}/lost_sum.agc", f"{examples}/lost_sum.feed")
-    try:
-        check_requests(served)
-        check_messages(served)
-        check_runs(served)
-        page = Page(served)
-        page.begin(["run", "my.agc", "my.feed", STEPS], {"my.agc": ENDLESS, "my.feed": ""})
-        told("web: a run before the end", wait_until(served.engines))
-        left = served.engines()
-    finally:
-        served.end()
-    told("web: what runs ends with the server", wait_until(lambda: not any(os.path.exists(f"/proc/{it}") for it in left)), f"{left}")
+if __name__ == "__main__":
+    unittest.main()

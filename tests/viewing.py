@@ -4,18 +4,22 @@ import subprocess
 from collections import defaultdict
 from html.parser import HTMLParser
 
-import check as examples
+import common
+from common import EXAMPLES, VIEWS, Case, rows_of_runs
 import pipe
-from tally import told
 
-VIEWS = os.path.dirname(os.path.realpath(__file__))
-EXAMPLES = f"{os.path.dirname(VIEWS)}/examples"
-EMPTY = f"{EXAMPLES}/empty.feed"
 LOST = [f"{EXAMPLES}/lost_sum.agc", f"{EXAMPLES}/lost_sum.feed"]
 
 
-def same(label, got, wanted):
-    told(label, got == wanted, f"wanted {wanted!r}, got {got!r}")
+class ViewCase(Case):
+    """Tests of a view, which run the program that all tests run."""
+
+    most_seconds = 120
+
+    @classmethod
+    def setUpClass(cls):
+        super().setUpClass()
+        common.program()
 
 
 def call(view, *words, given="", **more):
@@ -26,10 +30,8 @@ def call(view, *words, given="", **more):
 
 def runs():
     """The examples that are run: source, feed and steps."""
-    for line in examples.text_of("examples/runs.txt").splitlines():
-        if line and not line.startswith("#"):
-            name, feed, steps = line.split()
-            yield f"{EXAMPLES}/{name}.agc", f"{EXAMPLES}/{feed}", int(steps)
+    for name, feed, steps in rows_of_runs():
+        yield f"{EXAMPLES}/{name}.agc", f"{EXAMPLES}/{feed}", int(steps)
 
 
 def refusal(work):
@@ -56,13 +58,14 @@ def init_of(words, path):
 class Page(HTMLParser):
     """A page's cells by rows, its texts by tag, all that stands within a tag, and its tags and attributes."""
 
-    def __init__(self, text):
+    def __init__(self, test, text):
         super().__init__()
         self.rows, self.texts, self.inside, self.tags, self.attributes, self.open = [], defaultdict(list), defaultdict(str), set(), set(), []
         self.is_well, self.targets, self.links = True, set(), []
         self.feed(text)
         self.close()
-        told("each tag of a page has its end", self.is_well and not self.open)
+        with test.subTest("each tag of a page has its end"):
+            test.assertTrue(self.is_well and not self.open)
 
     def handle_starttag(self, tag, attrs):
         self.tags.add(tag)

@@ -8,7 +8,7 @@ import subprocess
 from files import read, write
 
 HERE = os.path.dirname(os.path.abspath(__file__))
-ROOT = os.path.dirname(HERE)
+ROOT = os.path.dirname(os.path.dirname(HERE))
 EXAMPLES = f"{ROOT}/examples"
 PROGRAM = os.environ.get("AGCWS", f"{ROOT}/crates/agcws/out/agcws")
 IMAGE_BYTES, MOST_BYTES = 73728, 1 << 18
@@ -164,17 +164,6 @@ changed 0
 seek
 quit
 """ % (ADDED, ADDED.replace(b"5000", b"6000"))
-
-
-def is_any_missing(script, *programs):
-    """Says what a script lacks, and ends its output as a failed one."""
-    found = [f"{os.path.relpath(it, ROOT)} is not built: `rt run` in crates/{os.path.basename(it)} builds it" for it in (PROGRAM, *programs) if not os.access(it, os.X_OK)]
-    found += [] if shutil.which("cc") else ["there is no C compiler cc"]
-    for why in found:
-        print(f"{script}: {why}")
-    if found:
-        print("0 passed, 1 failed")
-    return bool(found)
 
 
 def call_of(kind, number):
