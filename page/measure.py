@@ -10,8 +10,8 @@ import sys
 import tempfile
 
 sys.dont_write_bytecode = True
-sys.path.insert(0, os.path.dirname(os.path.realpath(__file__)))
-import check
+sys.path.insert(0, f"{os.path.dirname(os.path.dirname(os.path.realpath(__file__)))}/tests")
+import test_module
 import one_file
 from files import read, write
 
@@ -65,12 +65,12 @@ def seconds_of(*words):
 
 def in_chromium(module, room):
     """The processor seconds of each program in a page, and when its engine was ready."""
-    answers, found, at = check.Answers(), {}, {}
-    files = {f"{it}.agc": read(f"{check.ROOT}/bench/{it}.agc").decode() for it in NAMES} | {"my.feed": ""}
-    script = one_file.script([f"{check.HERE}/module/host.js", f"{check.HERE}/engine.js", write(f"{room}/measured.js", SCRIPT.encode())])
+    answers, found, at = test_module.Answers(), {}, {}
+    files = {f"{it}.agc": read(f"{test_module.ROOT}/bench/{it}.agc").decode() for it in NAMES} | {"my.feed": ""}
+    script = one_file.script([f"{test_module.PAGES}/module/host.js", f"{test_module.PAGES}/engine.js", write(f"{room}/measured.js", SCRIPT.encode())])
     cases = json.dumps({"address": answers.address, "names": NAMES, "steps": STEPS, "files": files}).replace("</", "<\\/")
-    page = write(f"{room}/page.html", check.PAGE.format(module=one_file.packed(read(module)), cases=cases, script=script).encode())
-    words, env = check.chromium(room, f"file://{page}")
+    page = write(f"{room}/page.html", test_module.PAGE.format(module=one_file.packed(read(module)), cases=cases, script=script).encode())
+    words, env = test_module.chromium(room, f"file://{page}")
 
     def take(body):
         what, name, *rest = body.decode().split()
@@ -83,7 +83,7 @@ def in_chromium(module, room):
     answers.take = take
     ran = subprocess.Popen(words, env={**os.environ, "HOME": room, **env}, stdout=subprocess.DEVNULL, stderr=subprocess.DEVNULL, start_new_session=True)
     last = answers.wait()
-    check.end(ran)
+    test_module.end(ran)
     return found, float(last.split()[1])
 
 
@@ -92,10 +92,10 @@ def main(module, runs=3):
     for _ in range(int(runs)):
         with tempfile.TemporaryDirectory(prefix="agcws-measure-") as room:
             found, ready = in_chromium(module, room)
-        start = seconds_of("node", check.COMMAND, module, "--version")
+        start = seconds_of("node", test_module.COMMAND, module, "--version")
         for name in NAMES:
-            words = ["run", f"{check.ROOT}/bench/{name}.agc", "/dev/null", STEPS]
-            row = [seconds_of(check.PROGRAM, *words), seconds_of("node", check.COMMAND, module, *words) - start, *found[name]]
+            words = ["run", f"{test_module.ROOT}/bench/{name}.agc", "/dev/null", STEPS]
+            row = [seconds_of(test_module.PROGRAM, *words), seconds_of("node", test_module.COMMAND, module, *words) - start, *found[name]]
             least[name] = list(map(min, zip(row, least.get(name, row))))
         least["ready"] = min(ready, least.get("ready", ready))
     print("| 20,000,000 steps of | native | node | through native | Chromium | through native | by the clock |")

@@ -1,4 +1,4 @@
-// What a page of page/check.py does: it calls the engine as its cases say, and hands on what that answers.
+// What a page of tests/test_module.py does: it calls the engine as its cases say, and hands on what that answers.
 import {engineIn, moduleEngine} from './engine.js';
 
 const given = JSON.parse(document.getElementById('cases').textContent);

@@ -4,7 +4,7 @@
 //! A source, a feed and commands come from standard input, with a line `---` between them. It writes `REFUSED` for each
 //! such step, `DONE` after the last, and then the replies to the commands. The exit status is 1 where something has
 //! changed, and 3 where a step is refused twice, what came is no source and feed, or there is no memory to begin with.
-//! `hostile/check.py` runs it with each of its requests for memory refused.
+//! `tests/test_vector.py` runs it with each of its requests for memory refused.
 #![tactic(auto)]
 
 use cpu::{Machine, Processor};

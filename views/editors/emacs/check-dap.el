@@ -1,7 +1,7 @@
 ;;; check-dap.el --- dap-mode over views/dap, without windows  -*- lexical-binding: t; -*-
 
 ;;; Commentary:
-;; `views/check.py' runs it by emacs --batch, with the folder of the views as VIEWS and the lines of README.md as the file INIT, and compares the lines that it tells with those that stand after each
+;; `tests/test_dap.py' runs it by emacs --batch, with the folder of the views as VIEWS and the lines of README.md as the file INIT, and compares the lines that it tells with those that stand after each
 ;; move.
 
 ;;; Code:

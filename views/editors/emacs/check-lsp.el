@@ -1,7 +1,7 @@
 ;;; check-lsp.el --- eglot beside views/lsp: what it shows, and what it does when asked  -*- lexical-binding: t; -*-
 
 ;;; Commentary:
-;; `views/check.py' runs it by emacs --batch -l check-lsp.el VIEWS FILE, with the lines of README.md as the file INIT, and compares the lines that it tells.
+;; `tests/test_lsp.py' runs it by emacs --batch -l check-lsp.el VIEWS FILE, with the lines of README.md as the file INIT, and compares the lines that it tells.
 
 ;;; Code:
 

@@ -1,4 +1,4 @@
-// Runs extension.js with a stand-in for VS Code, which keeps what it is given: views/check.py compares the lines that it tells.
+// Runs extension.js with a stand-in for VS Code, which keeps what it is given: tests/test_lsp.py compares the lines that it tells.
 //     node check-extension.js EXTENSION FILE
 'use strict';
 const fs = require('fs');

@@ -1,0 +1,96 @@
+"""What `agcws expect` tells of claims, by hand."""
+import unittest
+
+from common import Case, agcws, write
+
+# A program of a routine that is called twice (TC Q takes two steps: the word in Q leads back), and one in which an interrupt puts off the word at LOOP; worked by hand, with the cycles of each instruction.
+TWICE = b""" SETLOC 4000
+START CA TWO
+ TC TWICE
+ TC TWICE
+ EXTEND
+ WRITE 10
+DONE TCF DONE
+TWICE AD TWO
+ TC Q
+Q EQUALS 2
+TWO DEC 2
+"""
+PUT_OFF = b" SETLOC 100\nCOUNT ERASE\n SETLOC 4000\n RELINT\nLOOP INCR COUNT\n TCF LOOP\n SETLOC 4024\n RESUME\n"
+# Tests of the first: claims, and what is told of each after its name.
+CLAIMED = [
+    ("AT START A = 0", ""),
+    ("AT START +1 A = 2", ""),
+    ("CALLS TWICE 2", ""),
+    ("CALLS TWICE WITHIN 4 CYCLES", ""),
+    ("AT END Q +0 <> 0", ""),
+    ("AT START A = 1", ": line {}, step 0, cycle 0: it is 00000 (0); wanted = 00001 (1)"),
+    ("AT TWO A = 2", ": line {}, step 20, cycle 24: nothing came; wanted = 00002 (2)"),
+    ("CALLS TWICE 3", ": line {}, step 20, cycle 24: it is called 2 times; wanted 3"),
+    ("CALLS TWICE 1", ": line {}, step 6, cycle 8: it is called 2 times; wanted 1"),
+    ("CALLS TWO WITHIN 9 CYCLES", ": line {}, step 20, cycle 24: it is not called; wanted within 9 cycles"),
+    ("CALLS TWICE WITHIN 3 CYCLES", ": line {}, step 5, cycle 7: a call takes longer; wanted within 3 cycles"),
+    ("CHANNEL 010 7", ": line {}, step 11, cycle 15: it is 00006 (6); wanted 00007 (7)"),
+    ("CHANNEL 010 6 -1D", ": line {}, step 20, cycle 24: nothing came; wanted 77776 (-1)"),
+    ("CHANNEL 010 WITHIN 14 CYCLES 6", ": line {}, step 11, cycle 15: it is 00006 (6); wanted within 14 cycles"),
+    ("CHANNEL 010 NOTHING", ": line {}, step 11, cycle 15: it is 00006 (6); wanted no word"),
+    ("NEVER A = 4", ": line {}, step 3, cycle 5: it is 00004 (4); wanted not = 00004 (4)"),
+    ("ALWAYS A < 4", ": line {}, step 3, cycle 5: it is 00004 (4); wanted < 00004 (4)"),
+]
+# Lines that are refused, with their columns and what is asked for.
+REFUSED_CLAIMS = [
+    ("CALLS", 6, "a label or a place is asked for"),
+    ("CALLS NOWHERE 2", 7, "a label or a place is asked for"),
+    ("CALLS TWICE", 12, "a number of calls or WITHIN is asked for"),
+    ("CALLS TWICE WITHN 5 CYCLES", 13, "a number of calls or WITHIN is asked for; WITHIN is near"),
+    ("CALLS TWICE WITHIN 5 CYCLE", 22, "CYCLES is asked for; CYCLES is near"),
+    ("CALLS TWICE 2 3", 15, "the end of the line is asked for"),
+    ("AT START +2000 A = 0", 10, "a number of words after + is asked for, in octal, which stays in the bank"),
+    ("NEVER Q +8 = 0", 9, "a number of words after + is asked for, in octal, which stays in the bank"),
+    ("CALS TWICE 2", 1, "TEST, CHANNEL, AT, ALWAYS, NEVER or CALLS is asked for; CALLS is near"),
+]
+
+
+class Expect(Case):
+    """Claims that are met and that are not, lines that are refused, and verdicts as TAP and JUnit."""
+
+    def test_claims(self):
+        """What is told of claims that are met and that are not, of lines that are refused, and as TAP and JUnit do."""
+        write(f"{self.room}/my.agc", TWICE)
+        tests = [f"SOURCE my.agc", "STEPS 20", *[line for number, (claim, _) in enumerate(CLAIMED, 1) for line in (f"TEST {number} & more", f" {claim}")]]
+        for ends in ("\n", "\r\n"):
+            file = write(f"{self.room}/my.expect", ends.join([*tests, ""]).encode())
+            wanted = [f"{'FAIL' if said else 'ok  '} {number} & more{said.format(2 + 2 * number)}" for number, (_, said) in enumerate(CLAIMED, 1)]
+            status, out, err = agcws("expect", file)
+            with self.subTest(f"claims in lines that end with {ends!r}"):
+                self.assertEqual((status, out.decode().splitlines(), err), (1, wanted, b""), f"{out!r} {err!r}")
+        short = write(f"{self.room}/short.expect", b"SOURCE my.agc\nSTEPS 20\nTEST \\<1>\n CALLS TWICE 2\nTEST 2\n CHANNEL 10 7\n")
+        none = write(f"{self.room}/none.expect", b"SOURCE\n")
+        said = "line 6, step 11, cycle 15: it is 00006 (6); wanted 00007 (7)"
+        tap = f'TAP version 14\nok 1 - \\\\<1>\nnot ok 2 - 2\n  ---\n  file: "{short}"\n  message: "{said}"\n  ...\nnot ok 3 - {none}\n  ---\n  message: "it is refused"\n  ...\n1..3\n'
+        status, out, err = agcws("expect", "--tap", short, none)
+        with self.subTest("verdicts as TAP"):
+            self.assertTrue((status, out.decode()) == (2, tap) and b"SOURCE and a path are asked for" in err, f"{out!r} {err!r}")
+        case = f'<testcase classname="{short}" name='
+        xml = f'<?xml version="1.0" encoding="UTF-8"?>\n<testsuites>\n<testsuite name="{short}" tests="2" failures="1" errors="0">\n{case}"\\&lt;1&gt;"/>\n{case}"2"><failure message="{said}"/></testcase>\n</testsuite>\n'
+        xml += f'<testsuite name="{none}" tests="1" failures="0" errors="1">\n<testcase classname="{none}" name="{none}"><error message="it is refused"/></testcase>\n</testsuite>\n</testsuites>\n'
+        status, out, err = agcws("expect", "--junit", short, none)
+        with self.subTest("verdicts as JUnit"):
+            self.assertEqual((status, out.decode()), (2, xml), f"{out!r} {err!r}")
+        with self.subTest("both forms at once"):
+            self.assertEqual(agcws("expect", "--tap", "--junit", short)[0], 2)
+        for line, column, asked in REFUSED_CLAIMS:
+            file = write(f"{self.room}/refused.expect", f"SOURCE my.agc\nSTEPS 20\nTEST 1\n{line}\n".encode())
+            status, out, err = agcws("expect", file)
+            with self.subTest(f"{line} is refused"):
+                self.assertEqual((status, out, err.decode().splitlines()[:1]), (2, b"", [f"{file}:4:{column}: error: {asked}"]), f"{out!r} {err!r}")
+        # (steps: RELINT, INCR, TCF, the input, the entry, RESUME, INCR out of BRUPT, TCF, INCR, TCF)
+        write(f"{self.room}/my.agc", PUT_OFF)
+        write(f"{self.room}/my.feed", b"4 CHAN 15 1\n")
+        file = write(f"{self.room}/my.expect", b"SOURCE my.agc\nFEED my.feed\nSTEPS 10\nTEST each\n CALLS LOOP 4\n AT END COUNT = 3\n AT LOOP COUNT < 4\n")
+        with self.subTest("a word that RESUME brings back"):
+            self.assertEqual(agcws("expect", file), (0, b"ok   each\n", b""))
+
+
+if __name__ == "__main__":
+    unittest.main()

@@ -1,0 +1,72 @@
+"""Runs 37 programs with a planted mistake each, and the same without it: what tells of it, `agcws check`, `run --notes`, or a test of `expect` of three lines at most."""
+import os
+import re
+import subprocess
+import tempfile
+import unittest
+
+from common import PROGRAM, ROWS, Case
+
+STEPS = "3000"
+
+
+def part(text, sign):
+    """The lines of a text that are in both programs, and those of a sign."""
+    return "".join(f"{line[1:]}\n" for line in text.splitlines() if line[0] in (" ", sign))
+
+
+def fed(text, sign):
+    """The lines of a feed, of which those of the other sign are left out."""
+    return "".join(f"{line.lstrip('+-')}\n" for line in text.splitlines() if line[0] not in "+-".replace(sign, ""))
+
+
+def rows():
+    """Each mistake: its number and name, its source and feed, its test, and what tells of it."""
+    with open(f"{ROWS}/planted.txt", encoding="utf-8") as file:
+        for block in re.split(r"^== ", file.read(), flags=re.M)[1:]:
+            name, rest = block.split("\n", 1)
+            source, feed, expect, told = re.fullmatch(r"(.*?\n)(?:feed\n(.*?))?expect\n(.*?)TOLD (.*?)\n\s*", rest, re.S).groups()
+            yield name, source, feed or "", expect, told.split()
+
+
+class Planted(Case):
+    """Each mistake, and the program without it."""
+
+    def test_mistakes(self):
+        """Tries each mistake, and what is right, of which nothing is told, and how many are told by which way."""
+        found = {"check": 0, "notes": 0, "expect": 0, "any": 0}
+        with tempfile.TemporaryDirectory() as room:
+
+            def call(*words):
+                return subprocess.run([PROGRAM, *words], capture_output=True, text=True, timeout=60, cwd=room)
+
+            def tells(name, sign, source, feed, expect):
+                """What tells of a program: what check says first, the kinds of notes, and whether the test fails."""
+                for file, text in (("my.agc", part(source, sign)), ("my.feed", fed(feed, sign)), ("my.expect", f"SOURCE my.agc\nFEED my.feed\nSTEPS {STEPS}\n{expect}")):
+                    with open(os.path.join(room, file), "w", encoding="utf-8") as out:
+                        out.write(text)
+                checked = re.findall(r": (?:error|warning) ([EW]\d+)", call("check", "my.agc", "my.feed").stdout)
+                ran = call("run", "--notes", "my.agc", "my.feed", STEPS)
+                if ran.returncode:
+                    return checked[:1], [], False
+                kinds = list(dict.fromkeys(re.findall(r"^NOTE (\S+)", ran.stderr, re.M)))
+                return checked[:1], kinds, call("expect", "my.expect").stdout.startswith("FAIL")
+
+            for name, source, feed, expect, wanted in rows():
+                right = tells(name, "+", source, feed, expect)
+                with self.subTest(f"{name}: what is right"):
+                    self.assertEqual(right, ([], [], False))
+                checked, kinds, fails = tells(name, "-", source, feed, expect)
+                got = checked + kinds + ["EXPECT"] * fails
+                with self.subTest(f"{name}: is told"):
+                    self.assertEqual(sorted(got), sorted(wanted), " ".join(got))
+                with self.subTest(f"{name}: has a test of three lines at most"):
+                    self.assertTrue(len(expect.splitlines()) <= 3)
+                for way, tells_so in (("check", checked), ("notes", kinds), ("expect", fails), ("any", got)):
+                    found[way] += bool(tells_so)
+        with self.subTest("how many of 37 mistakes are told"):
+            self.assertEqual(found, {"check": 5, "notes": 18, "expect": 32, "any": 37})
+
+
+if __name__ == "__main__":
+    unittest.main()
