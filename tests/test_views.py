@@ -274,6 +274,8 @@ class Views(ViewCase):
             status, out, err = call(view, "--help")
             with self.subTest(f"{view} --help"):
                 self.assertTrue((status, err) == (0, "") and out.startswith(f"usage: {view} "), f"{out} {err}")
+            with self.subTest(f"{view} --help fits 80 columns"):
+                self.assertLessEqual(max(map(len, out.splitlines())), 80, out)
         with self.subTest("a feed that is not there"):
             self.assertEqual(call("shake", LOST[0], "4", "RUPT 1", "--feed", f"{self.room}/none"), (3, "", f"shake: {self.room}/none: No such file or directory\n"))
         with self.subTest("a source that is not there"):
