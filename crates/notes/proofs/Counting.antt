@@ -1,11 +1,11 @@
 -- How often something happens, step by step.
 use Rattle.std.proofs.Common.{◌≡◌, ℕ, zero, suc, ◌+◌, ◌-◌, ◌++◌, ◌||◌, ◌<◌, append-nil, not, nat_lt, ◌≤◌, ◌^◌, ◌==◌, ◌&&◌, Bool, true}
-use Rattle.std.proofs.Common.{false, List, [], length, replicate, get_or, set, refl, sym, ap, ◌∙◌, inl, inr, Option, Some, None, is_some}
+use Rattle.std.proofs.Common.{false, List, [], length, replicate, get_or, set, refl, sym, ap, ◌∙◌, inl, inr, Option, Some, None}
 use Rattle.std.proofs.Common.{arith, add-one, subst, if◌then◌else◌}
 use Rattle.std.specs.Prelude.{codes}
 use Rattle.std.proofs.lemmas.Bool.{cases_Bool, and_parts, eqb-true, ltb-true}
 use Rattle.std.proofs.lemmas.Bool.Decides.{eqb_tells, nat_tests}
-use Rattle.std.proofs.lemmas.List.{get_or-set_same, get_or-set_other, length-replicate, length-set}
+use Rattle.std.proofs.lemmas.List.{get_or-set_same, get_or-set_other, length-replicate, length-set, set-get_or}
 use Rattle.space.specs.declared.place.Linear.{Linear}
 use Rattle.space.specs.declared.place.Linear.TheVariants.{Erasable, Fixed}
 use Rattle.rope.specs.Places.{Words, bank_words, banks, slot_at, stands}
@@ -28,7 +28,7 @@ use Rattle.cpu.specs.declared.next_step.Fetched.{Fetched}
 use Rattle.cpu.specs.declared.next_step.NextStep.{NextStep}
 use Rattle.cpu.specs.declared.next_step.NextStep.TheVariants as made
 use Rattle.notes.specs.declared.past.Past.{Past}
-use Rattle.notes.specs.Past.{comes_by, no_past, past, past_by, seen}
+use Rattle.notes.specs.Past.{comes_by, is_marked, is_passed, marked, no_past, past, past_by, seen}
 use Rattle.notes.specs.Notes.{counts_minus_zero, divides, happens, happens_in, has_word, is_at_word, is_code_in_erasable, is_named}
 use Rattle.notes.specs.Notes.{is_quiet, is_quiet_step, reaches_other, skips}
 use Rattle.notes.proofs.Divisions.{basic_never, neither}
@@ -503,9 +503,15 @@ not_so : (b : Bool) → not b ≡ true → b ≡ false
 not_so true e = absurd (cc)
 not_so false e = refl
 
-by_none : (k : Option ℕ) → is_some k ≡ false → k ≡ None
-by_none None e = refl
-by_none (Some k) e = absurd (cc)
+not_entered : (p : Past) (k : Option ℕ) → is_passed p k ≡ true → is_marked p.entered k ≡ false
+not_entered p None e = refl
+not_entered p (Some k) e = not_so (get_or p.entered k false) (and_parts (get_or p.passed k false) (not (get_or p.entered k false)) e).1
+
+passed_before : (p : Past) (k : Option ℕ) → is_passed p k ≡ true → p.passed ≡ marked p.passed k
+passed_before p None e = refl
+passed_before p (Some k) e =
+    let before : get_or p.passed k false ≡ true = (and_parts (get_or p.passed k false) (not (get_or p.entered k false)) e).0 in
+    subst (λ b. p.passed ≡ set p.passed k b) before (sym (set-get_or p.passed k false))
 
 has_a_word : (rope : Words) (place : Linear) → is_at_word rope place ≡ true → has_word rope place ≡ true
 has_a_word rope (Erasable p) e = refl
@@ -532,7 +538,7 @@ is_account rope (Erasable p) e = absurd (cc)
 is_account rope (Fixed bank offset) e = within_banks rope bank offset e
 
 -- what a quiet instruction is
-record Quiet (named : Named) (rope : Words) (s : State) (f : Fetched) : Type 0 where
+record Quiet (named : Named) (rope : Words) (s : State) (p : Past) (f : Fetched) : Type 0 where
   waited : f.waited ≡ false
   extra : f.extra ≡ false
   placed : is_at_word rope f.place ≡ true
@@ -540,17 +546,19 @@ record Quiet (named : Named) (rope : Words) (s : State) (f : Fetched) : Type 0 w
   skips : skips s f ≡ false
   zeros : counts_minus_zero rope s f ≡ false
   other : reaches_other named s f ≡ false
-  passes : comes_by s f ≡ None
+  unshared : is_marked p.entered (comes_by s f) ≡ false
+  passed : p.passed ≡ marked p.passed (comes_by s f)
 
-quiet_parts : (named : Named) (rope : Words) (s : State) (f : Fetched) → is_quiet named rope s f ≡ true → Quiet named rope s f
-quiet_parts named rope s f e =
+quiet_parts : (named : Named) (rope : Words) (s : State) (p : Past) (f : Fetched) → is_quiet named rope s p f ≡ true
+    → Quiet named rope s p f
+quiet_parts named rope s p f e =
     let one = and_parts (not f.waited) _ e in
     let two = and_parts (not f.extra) _ one.1 in
     let three = and_parts (is_at_word rope f.place) _ two.1 in
     let four = and_parts (not (f.word == 0o50017)) _ three.1 in
     let five = and_parts (not (skips s f)) _ four.1 in
     let six = and_parts (not (counts_minus_zero rope s f)) _ five.1 in
-    let seven = and_parts (not (reaches_other named s f)) (not (is_some (comes_by s f))) six.1 in
+    let seven = and_parts (not (reaches_other named s f)) (is_passed p (comes_by s f)) six.1 in
     record {
       waited = not_so f.waited one.0;
       extra = not_so f.extra two.0;
@@ -559,7 +567,8 @@ quiet_parts named rope s f e =
       skips = not_so (skips s f) five.0;
       zeros = not_so (counts_minus_zero rope s f) six.0;
       other = not_so (reaches_other named s f) seven.0;
-      passes = by_none (comes_by s f) (not_so (is_some (comes_by s f)) seven.1);
+      unshared = not_entered p (comes_by s f) seven.1;
+      passed = passed_before p (comes_by s f) seven.1;
     }
 
 never_divides : (rope : Words) (s : State) (f : Fetched) → f.extra ≡ false → divides rope s f ≡ false
@@ -567,62 +576,63 @@ never_divides rope s f e =
     let never : is_named f (codes "DV") ≡ false = rw e (basic_never f.word) in
     rw never refl
 
-quiet_none : (named : Named) (rope : Words) (s : State) (f : Fetched) (p : Past) → Quiet named rope s f → (kind : Kind)
+quiet_none : (named : Named) (rope : Words) (s : State) (f : Fetched) (p : Past) → Quiet named rope s p f → (kind : Kind)
     → happens_in named rope s p kind (made.Executes f) ≡ false
 quiet_none named rope s f p q =
     of_kinds (λ kind. happens_in named rope s p kind (made.Executes f) ≡ false) (never_divides rope s f q.extra) q.skips
     (rw (q.waited, has_a_word rope f.place q.placed) refl)
     (rw (q.waited, not_in_erasable rope f.place q.placed) refl) refl q.other (rw (q.extra, q.resumes) refl) (rw (q.waited, q.zeros) refl)
-    refl (rw (q.extra, q.resumes, q.passes) refl)
+    refl (rw (q.extra, q.resumes, q.unshared) refl)
 
-step_none : (named : Named) (rope : Words) (s : State) (step : NextStep) (p : Past) → is_quiet_step named rope s step ≡ true → (kind : Kind)
+step_none : (named : Named) (rope : Words) (s : State) (step : NextStep) (p : Past) → is_quiet_step named rope s p step ≡ true
+    → (kind : Kind)
     → happens_in named rope s p kind step ≡ false
 step_none named rope s (made.Takes input) p e = absurd (cc)
 step_none named rope s (made.Enters k) p e = absurd (cc)
-step_none named rope s (made.Executes f) p e = quiet_none named rope s f p (quiet_parts named rope s f e)
+step_none named rope s (made.Executes f) p e = quiet_none named rope s f p (quiet_parts named rope s p f e)
 
-quiet_waits : (named : Named) (rope : Words) (s : State) (step : NextStep) (number : ℕ) (waits : Waits)
-    → is_quiet_step named rope s step ≡ true → waits ≡ waits_after s step number waits
-quiet_waits named rope s (made.Takes input) number waits e = absurd (cc)
-quiet_waits named rope s (made.Enters k) number waits e = absurd (cc)
-quiet_waits named rope s (made.Executes f) number waits e = refl
+quiet_waits : (named : Named) (rope : Words) (s : State) (p : Past) (step : NextStep) (number : ℕ) (waits : Waits)
+    → is_quiet_step named rope s p step ≡ true → waits ≡ waits_after s step number waits
+quiet_waits named rope s p (made.Takes input) number waits e = absurd (cc)
+quiet_waits named rope s p (made.Enters k) number waits e = absurd (cc)
+quiet_waits named rope s p (made.Executes f) number waits e = refl
 
 still_so : (b : Bool) → b ≡ (b && true)
 still_so true = refl
 still_so false = refl
 
-quiet_past : (named : Named) (rope : Words) (s : State) (step : NextStep) (p : Past) → is_quiet_step named rope s step ≡ true
+quiet_past : (named : Named) (rope : Words) (s : State) (step : NextStep) (p : Past) → is_quiet_step named rope s p step ≡ true
     → p ≡ past_by s p step
 quiet_past named rope s (made.Takes input) p e = absurd (cc)
 quiet_past named rope s (made.Enters k) p e = absurd (cc)
 quiet_past named rope s (made.Executes f) p e =
-    let q = quiet_parts named rope s f e in
+    let q = quiet_parts named rope s p f e in
     let unread : (b : Bool) → b ≡ b && not false = λ b. still_so b in
-    rw (q.extra, q.passes) (λ i. record p { first_key = unread p.first_key i; second_key = unread p.second_key i })
+    rw q.extra (λ i. record p { first_key = unread p.first_key i; second_key = unread p.second_key i; passed = q.passed i })
 
-quiet_account : (named : Named) (rope : Words) (s : State) (step : NextStep) → is_quiet_step named rope s step ≡ true
+quiet_account : (named : Named) (rope : Words) (s : State) (p : Past) (step : NextStep) → is_quiet_step named rope s p step ≡ true
     → IsAccount (where_of step)
-quiet_account named rope s (made.Takes input) e = absurd (cc)
-quiet_account named rope s (made.Enters k) e = absurd (cc)
-quiet_account named rope s (made.Executes f) e =
-    let q = quiet_parts named rope s f e in
+quiet_account named rope s p (made.Takes input) e = absurd (cc)
+quiet_account named rope s p (made.Enters k) e = absurd (cc)
+quiet_account named rope s p (made.Executes f) e =
+    let q = quiet_parts named rope s p f e in
     rw q.waited (is_account rope f.place q.placed)
 
 -- a quiet step is noted, and taken
 pub quiet_noted : (scenario : Scenario) (s : State) (step : NextStep) (old : Book) → step ≡ next_step scenario s
-    → is_quiet_step old.named scenario.rope s step ≡ true
+    → is_quiet_step old.named scenario.rope s old.past step ≡ true
     → Notes scenario s old (record old { steps = old.steps + 1 })
 unfolding happens
 quiet_noted scenario s step old was quiet =
-    let e : is_quiet_step old.named scenario.rope s (next_step scenario s) ≡ true = rw was at quiet in
+    let e : is_quiet_step old.named scenario.rope s old.past (next_step scenario s) ≡ true = rw was at quiet in
     let none = step_none old.named scenario.rope s (next_step scenario s) old.past e in
     let number = account_number (here scenario s) in
     let new : Book = record old { steps = old.steps + 1 } in
     record {
-      known = quiet_account old.named scenario.rope s (next_step scenario s) e;
+      known = quiet_account old.named scenario.rope s old.past (next_step scenario s) e;
       each = λ kind. counts_alike old new refl kind ∙ sym (ap (λ b. counted_more (counts_of old kind) number b) (none kind));
       named = refl;
-      waits = quiet_waits old.named scenario.rope s (next_step scenario s) (old.steps + 1) old.waits e;
+      waits = quiet_waits old.named scenario.rope s old.past (next_step scenario s) (old.steps + 1) old.waits e;
       past = quiet_past old.named scenario.rope s (next_step scenario s) old.past e;
       steps = refl;
       last = sym
@@ -632,13 +642,13 @@ quiet_noted scenario s step old was quiet =
     }
 
 pub quiet_takes : (scenario : Scenario) (s : State) (step : NextStep) (old : Book) → step ≡ next_step scenario s
-    → is_quiet_step old.named scenario.rope s step ≡ true → Takes scenario s old old
+    → is_quiet_step old.named scenario.rope s old.past step ≡ true → Takes scenario s old old
 unfolding happens
 quiet_takes scenario s step old was quiet =
-    let e : is_quiet_step old.named scenario.rope s (next_step scenario s) ≡ true = rw was at quiet in
+    let e : is_quiet_step old.named scenario.rope s old.past (next_step scenario s) ≡ true = rw was at quiet in
     let none = step_none old.named scenario.rope s (next_step scenario s) old.past e in
     record {
-      known = quiet_account old.named scenario.rope s (next_step scenario s) e;
+      known = quiet_account old.named scenario.rope s old.past (next_step scenario s) e;
       each = λ kind. sym (ap (λ b. left_after (counts_of old kind) (account_number (here scenario s)) b) (none kind));
       named = refl;
       waits = refl;
@@ -646,10 +656,10 @@ quiet_takes scenario s step old was quiet =
     }
 
 pub quiet_told : (scenario : Scenario) (s : State) (step : NextStep) (old : Book) → step ≡ next_step scenario s
-    → is_quiet_step old.named scenario.rope s step ≡ true → (kind : Kind)
+    → is_quiet_step old.named scenario.rope s old.past step ≡ true → (kind : Kind)
     → taken_at scenario s old kind ≡ 0
 unfolding happens
 quiet_told scenario s step old was quiet kind =
-    let e : is_quiet_step old.named scenario.rope s (next_step scenario s) ≡ true = rw was at quiet in
+    let e : is_quiet_step old.named scenario.rope s old.past (next_step scenario s) ≡ true = rw was at quiet in
     ap (λ b. taken (counts_of old kind) (account_number (here scenario s)) b)
     (step_none old.named scenario.rope s (next_step scenario s) old.past e kind)

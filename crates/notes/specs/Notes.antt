@@ -22,7 +22,7 @@ use Rattle.notes.specs.declared.kind.Kind.{Kind}
 use Rattle.notes.specs.declared.kind.Kind.TheVariants.{Quotient, Skip, NoWord, InErasable, NoHandler, OtherBank, NotKept, MinusZero}
 use Rattle.notes.specs.declared.kind.Kind.TheVariants.{Overwritten, Shared}
 use Rattle.notes.specs.declared.past.Past.{Past}
-use Rattle.notes.specs.Past.{Seen, comes_by, enters_shared, executes_shared, loses, overwrites}
+use Rattle.notes.specs.Past.{Seen, comes_by, enters_shared, executes_shared, is_passed, loses, overwrites}
 
 -- the instruction that is executed
 abbrev pub code_in : Fetched → Code
@@ -138,13 +138,13 @@ abbrev pub is_at_word : Words → Linear → Bool
 is_at_word rope (Erasable p) = false
 is_at_word rope (Fixed bank offset) = stands rope bank offset
 
-abbrev pub is_quiet : Named → Words → State → Fetched → Bool
-is_quiet named rope s f =
+abbrev pub is_quiet : Named → Words → State → Past → Fetched → Bool
+is_quiet named rope s p f =
     not f.waited
     && (not f.extra
     && (is_at_word rope f.place && (not (f.word == 0o50017)
-    && (not (skips s f) && (not (counts_minus_zero rope s f) && (not (reaches_other named s f) && not (is_some (comes_by s f))))))))
+    && (not (skips s f) && (not (counts_minus_zero rope s f) && (not (reaches_other named s f) && is_passed p (comes_by s f)))))))
 
-abbrev pub is_quiet_step : Named → Words → State → NextStep → Bool
-is_quiet_step named rope s (Executes f) = is_quiet named rope s f
-is_quiet_step named rope s step = false
+abbrev pub is_quiet_step : Named → Words → State → Past → NextStep → Bool
+is_quiet_step named rope s p (Executes f) = is_quiet named rope s p f
+is_quiet_step named rope s p step = false

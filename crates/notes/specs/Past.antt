@@ -122,6 +122,10 @@ abbrev pub is_marked : List Bool → Option ℕ → Bool
 is_marked flags None = false
 is_marked flags (Some k) = get_or flags k false
 
+-- whether an instruction at the place of an interrupt, or at none, is known: the program came by there before, and no interrupt was entered
+abbrev pub is_passed : Past → Option ℕ → Bool
+is_passed p k = not (is_some k) || (is_marked p.passed k && not (is_marked p.entered k))
+
 -- an interrupt is entered at a place by which the program itself came; the program comes by one where an interrupt was entered, or to
 -- RESUME of none
 abbrev pub enters_shared : Past → ℕ → Bool

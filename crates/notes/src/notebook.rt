@@ -116,7 +116,7 @@ impl Notebook {
         ensures { Notes processor.now.scenario machine.now self.old self.new }
     {
         let step = processor.next_step(machine);
-        if is_quiet_step(&self.named, processor, machine, &step) {
+        if is_quiet_step(&self.named, processor, machine, &self.past, &step) {
             self.steps += 1;
             return;
         }
@@ -206,7 +206,7 @@ impl Notebook {
         ensures told { (kind : Kind) → told_of result kind ≡ taken_at processor.now.scenario machine.now self.old kind }
     {
         let step = processor.next_step(machine);
-        if is_quiet_step(&self.named, processor, machine, &step) {
+        if is_quiet_step(&self.named, processor, machine, &self.past, &step) {
             return NOTHING;
         }
         self.take_step(processor, machine, &step)

@@ -2,7 +2,7 @@
 
 ghost use Rattle.std.specs.Prelude.{◌≡◌};
 ghost use Rattle.space.specs.declared.place.Linear.TheVariants.{Fixed};
-ghost use Rattle.notes.specs.Past.{comes_by, entered_at, enters_shared, executes_shared, is_marked, marked};
+ghost use Rattle.notes.specs.Past.{comes_by, entered_at, enters_shared, executes_shared, is_marked, is_passed, marked};
 
 use crate::past::{Past, RESUME};
 use cpu::{Fetched, Machine};
@@ -74,6 +74,15 @@ pub(crate) fn marked(flags: [bool; FLAGS], interrupt: Option<Interrupt>) -> [boo
         flags[usize::from(interrupt.number())] = true;
     }
     flags
+}
+
+/// Whether an instruction at the place of an interrupt, or at none, is known: the program came by there before, and no
+/// interrupt was entered.
+pub(crate) fn is_passed(past: &Past, interrupt: Option<Interrupt>) -> bool
+    ensures { result ≡ is_passed past.now interrupt }
+{
+    interrupt.is_none()
+        || is_marked(&past.passed, interrupt) && !is_marked(&past.entered, interrupt)
 }
 
 /// Whether the flag of an interrupt is set.
