@@ -108,3 +108,6 @@ def check_access(program, told, name, files):
         places = Counter({(place, sign): count for (it, place, sign), count in wanted.items() if it == cell})
         got = counted(lines_of(program, "access", *files, str(STEPS), cell))
         told(f"access of {name} at {cell}", got == places, f"{got - places} and {places - got}")
+        for other in sorted({near(cell), re.sub("^CH0+", "CH", cell)} - {cell}):
+            again = counted(lines_of(program, "access", *files, str(STEPS), other))
+            told(f"access of {name} at {other}", again == got, f"{again - got} and {got - again}")
