@@ -121,6 +121,10 @@ class Access(Case):
             got = counted(lines_of(PROGRAM, "access", *files, str(STEPS), cell))
             with self.subTest(f"access of {name} at {cell}"):
                 self.assertEqual(got, places)
+            for other in sorted({near(cell), re.sub("^CH0+", "CH", cell)} - {cell}):
+                again = counted(lines_of(PROGRAM, "access", *files, str(STEPS), other))
+                with self.subTest(f"access of {name} at {other}"):
+                    self.assertEqual(again, got)
 
 
 if __name__ == "__main__":

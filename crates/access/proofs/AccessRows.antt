@@ -7,6 +7,9 @@ use Rattle.access.specs.AccessText.{Figures, is_shared, is_touched, is_unread, l
 use Rattle.access.specs.CellText.{near_part}
 use Rattle.words.specs.Numerals.{octal_text}
 use Rattle.access.specs.Levels.{level_name}
+use Rattle.access.specs.Asked.{cell_in_fields, channel_asked}
+use Rattle.symbols.specs.Values.{SymbolTable}
+use Rattle.symbols.specs.declared.values.Value.TheVariants.{Erasable}
 
 names : flat_map (λ l. codes " " ++ level_name l) (0 ∷ 1 ∷ 5 ∷ 10 ∷ 11 ∷ 12 ∷ []) ≡ codes " MAIN T6RUPT KEYRUPT1 RUPT10 INHIBITED INPUT"
 names = refl
@@ -76,3 +79,32 @@ near = refl
 
 alone : near_part None (codes "E0,0104") ≡ codes "E0,0104"
 alone = refl
+
+-- what is asked for as a session takes it, where VEL stands for place 103, octal, which is 67
+abbrev table : SymbolTable
+table = (codes "VEL", Erasable 67) ∷ []
+
+moved : cell_in_fields table (codes "VEL" ∷ codes "+1" ∷ []) ≡ Some 68
+moved = refl
+
+moved_too_far : cell_in_fields table (codes "VEL" ∷ codes "+4000" ∷ []) ≡ None
+moved_too_far = refl
+
+no_sign : cell_in_fields table (codes "VEL" ∷ codes "1" ∷ []) ≡ None
+no_sign = refl
+
+three_fields : cell_in_fields table (codes "VEL" ∷ codes "+1" ∷ codes "2" ∷ []) ≡ None
+three_fields = refl
+
+by_number : cell_in_fields table (codes "104" ∷ []) ≡ Some 68
+by_number = refl
+
+-- channel 15 is cell 4015, octal, and channel 2 is Q
+by_channel : channel_asked table (codes "CH15") ≡ Some 2061
+by_channel = refl
+
+q_by_channel : channel_asked table (codes "CH2") ≡ Some 2
+q_by_channel = refl
+
+no_channel : channel_asked table (codes "CH1000") ≡ None
+no_channel = refl

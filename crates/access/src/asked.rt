@@ -2,17 +2,28 @@
 
 ghost use Rattle.std.specs.Prelude.{◌≡◌, ◌<◌};
 ghost use Rattle.std.specs.Option.{option_map};
+ghost use Rattle.agc_text.specs.Fields.{runs, texts};
 ghost use Rattle.agc_text.specs.Tables.{same_name};
+ghost use Rattle.commands.specs.Commands.{channel_in, erasable_number};
+ghost use Rattle.commands.specs.NamedPlaces.{begins_with_plus};
+ghost use Rattle.commands.specs.Subjects.{channel_by};
 ghost use Rattle.trace.specs.TraceLines.{cell_name};
-ghost use Rattle.access.specs.Asked.{cell_asked, cell_of, first_shown, view_asked};
+ghost use Rattle.access.specs.Asked.{cell_asked, cell_in_fields, cell_moved, cell_of, cell_of_field, cell_shown};
+ghost use Rattle.access.specs.Asked.{channel_asked, erasable_named, first_shown, further, view_asked};
 
 use crate::view::View;
+use agc_text::{octal, split_field};
+use commands::named_place;
 use cpu::Cell;
+use space::{Chan, Eras, Linear};
 use symbols::{Symbols, Value};
 use trace::cell_name;
 
 /// How many cells there are.
 const CELLS: u16 = 0o5000;
+
+/// The most digits of a channel, and of how many words behind a place.
+const OCTAL_DIGITS: usize = 5;
 
 /// All cells where none is asked for, or the one that is; `None` where no cell is shown so.
 pub fn view_asked(symbols: &Symbols, place: Option<&[u8]>) -> Option<View>
@@ -27,9 +38,19 @@ pub fn view_asked(symbols: &Symbols, place: Option<&[u8]>) -> Option<View>
     }
 }
 
-/// The cell that is asked for: of a symbol of erasable memory its place, else the first that is shown so.
+/// The cell that is asked for: the one that is shown so, else as a session takes it.
 fn cell_asked(symbols: &Symbols, text: &[u8]) -> Option<Cell>
     ensures { result ≡ cell_asked symbols.now text.now }
+{
+    match cell_shown(symbols, text) {
+        Some(cell) => Some(cell),
+        None => cell_in_fields(symbols, text),
+    }
+}
+
+/// The cell that is named so: of a symbol of erasable memory its place, else the first that is shown so.
+fn cell_shown(symbols: &Symbols, text: &[u8]) -> Option<Cell>
+    ensures { result ≡ cell_shown symbols.now text.now }
 {
     match symbols.symbol(text) {
         Some(value) => match cell_of(value) {
@@ -37,6 +58,117 @@ fn cell_asked(symbols: &Symbols, text: &[u8]) -> Option<Cell>
             None => first_shown(symbols, text),
         },
         None => first_shown(symbols, text),
+    }
+}
+
+/// The cell as a session takes it, of an erasable place or of a channel, or that so many words behind a place.
+fn cell_in_fields(symbols: &Symbols, text: &[u8]) -> Option<Cell>
+    ensures { result ≡ cell_in_fields symbols.now (texts (runs text.now)) }
+{
+    let (field, rest) = split_field(text)?;
+    match split_field(rest) {
+        None => cell_of_field(symbols, field),
+        Some((moved, rest)) => match split_field(rest) {
+            None => cell_moved(symbols, field, moved),
+            Some(_) => None,
+        },
+    }
+}
+
+/// The cell of an erasable place or of a channel.
+fn cell_of_field(symbols: &Symbols, field: &[u8]) -> Option<Cell>
+    ensures { result ≡ cell_of_field symbols.now field.now }
+{
+    match erasable_named(symbols, field) {
+        Some(place) => Some(Cell::of_place(place)),
+        None => channel_asked(symbols, field),
+    }
+}
+
+/// An erasable place as a session takes it.
+fn erasable_named(symbols: &Symbols, field: &[u8]) -> Option<Eras>
+    ensures { result ≡ erasable_named symbols.now field.now }
+{
+    match named_place(symbols, field) {
+        Some(place) => erasable_number(place),
+        None => None,
+    }
+}
+
+/// The number of an erasable place.
+fn erasable_number(place: Linear) -> Option<Eras>
+    ensures { result ≡ erasable_number place }
+{
+    match place {
+        Linear::Erasable(number) => Some(number),
+        Linear::Fixed(..) => None,
+    }
+}
+
+/// The cell of a channel, where no symbol has its name.
+fn channel_asked(symbols: &Symbols, field: &[u8]) -> Option<Cell>
+    ensures { result ≡ channel_asked symbols.now field.now }
+{
+    if symbols.symbol(field).is_some() {
+        return None;
+    }
+    match channel_by(field) {
+        Some(channel) => Some(Cell::of_channel(channel)),
+        None => None,
+    }
+}
+
+/// The channel that is named by two letters and its number.
+fn channel_by(field: &[u8]) -> Option<Chan>
+    ensures { result ≡ channel_by field.now }
+{
+    if field.len() > 2 && &field[..2] == "CH".as_bytes() {
+        channel_in(&field[2..])
+    } else {
+        None
+    }
+}
+
+/// The channel of a number.
+fn channel_in(field: &[u8]) -> Option<Chan>
+    ensures { result ≡ channel_in field.now }
+{
+    match octal(field, OCTAL_DIGITS) {
+        Some(number) if number <= 0o777 => Chan::try_new(number as u16),
+        Some(_) => None,
+        None => None,
+    }
+}
+
+/// The cell so many words behind an erasable place, where a plus sign stands before them.
+fn cell_moved(symbols: &Symbols, field: &[u8], moved: &[u8]) -> Option<Cell>
+    ensures { result ≡ cell_moved symbols.now field.now moved.now }
+{
+    if !begins_with_plus(moved) {
+        return None;
+    }
+    let words = octal(&moved[1..], OCTAL_DIGITS)?;
+    match erasable_named(symbols, field) {
+        Some(place) => further(words, place),
+        None => None,
+    }
+}
+
+/// Whether a field begins with a plus sign.
+fn begins_with_plus(field: &[u8]) -> bool
+    ensures { result ≡ begins_with_plus field.now }
+{
+    !field.is_empty() && &field[..1] == "+".as_bytes()
+}
+
+/// The cell so many words behind an erasable place, where there is one.
+fn further(words: u64, place: Eras) -> Option<Cell>
+    ensures { result ≡ further words place }
+{
+    if words < 0o4000 && u64::from(place.number()) + words < 0o4000 {
+        Some(Cell::of_place(Eras::of_low_bits(place.number() + words as u16)))
+    } else {
+        None
     }
 }
 

@@ -69,8 +69,8 @@ const NOT_REPORTED: u8 = 3;
 
 /// What is said where no cell is shown as the one that is asked for, after what is asked for.
 const NO_CELL: &[u8] =
-    b" is no cell: PLACE is a symbol of an erasable place, or a cell as agcws access shows it, as E3,1401, Q or \
-        CH011\n";
+    b" is no cell: PLACE is a symbol of an erasable place, also as 'VEL +1', a cell as E3,1401, Q or CH11, or the \
+        octal number of an erasable place, as 104\n";
 
 /// What is said where a line of trials is one of a series.
 const NO_SERIES: &[u8] =

@@ -213,7 +213,8 @@ With PLACE there is a row for each place that has read or written this one cell,
 as
          0        159 MAIN       02,4201 54100 TS TMP
 with its word, as agcws words shows it; ENTRY, INPUT, and BRUPT for a word that
-RESUME brought. PLACE is a symbol of an erasable place, or as E0,0104, Q, CH011.
+RESUME brought. PLACE is a symbol of an erasable place, also as 'VEL +1', a
+cell as E3,1401, Q or CH11, or the octal number of an erasable place, as 104.
 All counts add up to the reads and writes of the cells in N steps: Z is written
 by each instruction.
 With --progress, after each 1048576 steps one line to standard error, as

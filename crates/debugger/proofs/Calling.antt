@@ -26,12 +26,12 @@ taken : {X : Type 0} (b : Bool) (x y : X) → cond b (Some x) None ≡ Some y �
 taken true x y e = (refl, cc)
 taken false x y e = absurd (cc)
 
-record Made (k : ℕ) (s : State) (n : NextStep) (c : Call) : Type 0 where
-  enters : entered_by s n ≡ Some c.back
-  from : c.from ≡ standing_place s
-  number : c.step ≡ k
+pub record Made (k : ℕ) (s : State) (n : NextStep) (c : Call) : Type 0 where
+  pub enters : entered_by s n ≡ Some c.back
+  pub from : c.from ≡ standing_place s
+  pub number : c.step ≡ k
 
-made_by : (k : ℕ) (s : State) (n : NextStep) (c : Call) → call_by k s n ≡ Some c → Made k s n c
+pub made_by : (k : ℕ) (s : State) (n : NextStep) (c : Call) → call_by k s n ≡ Some c → Made k s n c
 made_by k s (Takes input) c e = absurd (cc)
 made_by k s (Enters interrupt) c e = absurd (cc)
 made_by k s (Executes f) c e =
@@ -48,7 +48,7 @@ led_by scenario k s c (Some given) i e = absurd (cc)
 led_by scenario k s c None (Some i) e = absurd (cc)
 led_by scenario k s c None None e = sym (ap (λ (x : Call). x.routine) (taken _ _ c e).1)
 
-led : (scenario : Scenario) (k : ℕ) (s : State) (c : Call) → call_made scenario k s ≡ Some c → c.routine ≡ place_led_to scenario s
+pub led : (scenario : Scenario) (k : ℕ) (s : State) (c : Call) → call_made scenario k s ≡ Some c → c.routine ≡ place_led_to scenario s
 unfolding next_step
 led scenario k s c e = led_by scenario k s c (due scenario.inputs s.taken s.cycles) (entry s) e
 
@@ -64,7 +64,7 @@ record Since (scenario : Scenario) (p : ℕ) (call : Call) : Type 0 where
   not_back : (u : ℕ) → call.step ≤ u → u < p → (run scenario u).inside ≡ false
       → same_place (place_in (run scenario u) (next_address (run scenario u))) call.back ≡ false
 
-weaker : (P Q : Call → Type 0) → ((x : Call) → P x → Q x) → (first : ℕ) (xs : List Call) → OneAfterAnother P first xs
+pub weaker : (P Q : Call → Type 0) → ((x : Call) → P x → Q x) → (first : ℕ) (xs : List Call) → OneAfterAnother P first xs
     → OneAfterAnother Q first xs
 weaker P Q f first [] h = tt
 weaker P Q f first (x ∷ xs) h = (h.0, f x h.1, weaker P Q f (x.step + 1) xs h.2)
@@ -87,9 +87,8 @@ without_more place x xs other =
     ap (λ b. take (cond (not b) (1 + position_or_len (returns_to place) xs) 0) (x ∷ xs)) other ∙ ap (λ n. take n (x ∷ xs)) next
 
 -- they return to others
-front : (P Q : Call → Type 0) (place : Linear) → ((x : Call) → same_place place x.back ≡ false → P x → Q x) → (first : ℕ) (xs : List Call)
-    → OneAfterAnother P first xs
-    → OneAfterAnother Q first (without place xs)
+pub front : (P Q : Call → Type 0) (place : Linear) → ((x : Call) → same_place place x.back ≡ false → P x → Q x) → (first : ℕ)
+    (xs : List Call) → OneAfterAnother P first xs → OneAfterAnother Q first (without place xs)
 front P Q place f first [] h = tt
 front P Q place f first (x ∷ xs) h = elim (cases_Bool (same_place place x.back)) [
   | inl same ↦ subst (OneAfterAnother Q first) (sym (without_none place x xs same)) tt
@@ -97,18 +96,18 @@ front P Q place f first (x ∷ xs) h = elim (cases_Bool (same_place place x.back
       (h.0, f x other h.1, front P Q place f (x.step + 1) xs h.2)
 ]
 
-dropped : (P : Call → Type 0) (k first : ℕ) (xs : List Call) → OneAfterAnother P first xs → OneAfterAnother P first (drop k xs)
+pub dropped : (P : Call → Type 0) (k first : ℕ) (xs : List Call) → OneAfterAnother P first xs → OneAfterAnother P first (drop k xs)
 dropped P zero first xs h = h
 dropped P (suc k) first [] h = tt
 dropped P (suc k) first (x ∷ xs) h = dropped P k first xs (lower P (x.step + 1) first xs (omega (arith, h.0)) h.2)
 
 -- a later one after them
-pushed : (P : Call → Type 0) (first : ℕ) (x : Call) (xs : List Call) → OneAfterAnother (λ y. P y × (y.step < x.step)) first xs
+pub pushed : (P : Call → Type 0) (first : ℕ) (x : Call) (xs : List Call) → OneAfterAnother (λ y. P y × (y.step < x.step)) first xs
     → first ≤ x.step → P x → OneAfterAnother P first (xs ++ x ∷ [])
 pushed P first x [] h le now = (le, now, tt)
 pushed P first x (y ∷ ys) h le now = (h.0, h.1.0, pushed P (y.step + 1) x ys h.2 (omega (arith, h.1.1)) now)
 
-fewer : (place : Linear) (xs : List Call) → length (without place xs) ≤ length xs
+pub fewer : (place : Linear) (xs : List Call) → length (without place xs) ≤ length xs
 fewer place xs = omega (arith, length-take (position_or_len (returns_to place) xs) xs)
 
 module _ (scenario : Scenario) where
@@ -189,7 +188,7 @@ module _ (scenario : Scenario) where
   arrived_few place true xs h = h
   arrived_few place false xs h = omega (arith, fewer place xs, h)
 
-  with_few : (o : Option Call) (xs : List Call) → length xs ≤ most_routines → length (with_call o xs) ≤ most_routines
+  pub with_few : (o : Option Call) (xs : List Call) → length xs ≤ most_routines → length (with_call o xs) ≤ most_routines
   with_few None xs h = h
   with_few (Some x) xs h = let n = length-drop (length (without x.back xs ++ x ∷ []) - most_routines) (without x.back xs ++ x ∷ []) in omega
       (arith, n)

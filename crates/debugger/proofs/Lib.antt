@@ -47,6 +47,7 @@ pub mod OutputsOnce
 pub mod Serving
 pub mod WhyEnds
 pub mod Calling
+pub mod CallingInside
 pub mod LastFirst
 pub mod ValueTold
 mod TriedReplies

@@ -8,7 +8,7 @@ ghost use Rattle.cpu.specs.declared.spot.Spot.{Spot};
 ghost use Rattle.commands.specs.declared.extended.LinkLines.{LinkLines};
 ghost use Rattle.commands.specs.declared.subject.Subject.{Subject};
 ghost use Rattle.debugger.specs.declared.manner.Manner.{Manner};
-ghost use Rattle.debugger.specs.Calling.{RoutinesAreInProgress};
+ghost use Rattle.debugger.specs.Calling.{RoutinesAreInProgress, RoutinesInsideAreInProgress};
 ghost use Rattle.debugger.specs.Moved.{IndexIsTold};
 ghost use Rattle.debugger.specs.OutputsOnce.{OutputsAreToldOnce};
 ghost use Rattle.debugger.specs.ReadBack.{NoneAtFirst, SessionReadsBack};
@@ -80,6 +80,11 @@ pub fn surveys_leave_no_step_out()
 /// interrupt was served, one after another, and has not returned since.
 pub fn routines_are_in_progress()
     ensures { (scenario : Scenario) (p : ℕ) → RoutinesAreInProgress scenario p }
+{}
+
+/// The same of those that the interrupt made which is served: it was when each was entered, and has been ever since.
+pub fn routines_inside_are_in_progress()
+    ensures { (scenario : Scenario) (p : ℕ) → RoutinesInsideAreInProgress scenario p }
 {}
 
 /// What `value` tells of a word is its value: the fraction exactly, in 14 decimals.
