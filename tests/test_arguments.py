@@ -205,7 +205,7 @@ class Arguments(Case):
 
     def setUp(self):
         super().setUp()
-        folder = self.room
+        folder = self.folder = self.room
         for name, text in FILES.items():
             write(f"{folder}/{name}", (text.replace(";", "\n") + "\n").encode() if text else b"")
         os.mkdir(f"{folder}/folder")

@@ -207,7 +207,7 @@ class Damages(Case):
         with self.subTest(f"damages: {label}"):
             self.assertTrue(got == wanted and got == told_of(pairs), f"{got[:6]} in place of {wanted[:6]}, {told_of(pairs)[:6]}")
 
-    def check_damages(self):
+    def test_each_damage(self):
         """Each damage of a dump by one command; flipped bits; and random images."""
         banks = rope(64)
         whole = pairs_of(banks)

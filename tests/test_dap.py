@@ -584,7 +584,7 @@ class Dap(ViewCase):
     def test_moves(self):
         """A move without an end is paused, and one back; the words of an image, with breakpoints on them."""
         loop = write(f"{self.room}/loop.agc", LOOP)
-        client = Client(self, test)
+        client = Client(self)
         client.launch(program=loop, stopOnEntry=False)
         with self.subTest("an output while it runs"):
             self.assertEqual(client.until("output")["output"], "5 CH 010 00005\n")
@@ -606,7 +606,7 @@ class Dap(ViewCase):
         client.end()
         rope = f"{self.room}/adapted.rope"
         pipe.answer("asm", loop, rope)
-        client = Client(self, test)
+        client = Client(self)
         client.launch(program=rope, image=True)
         with self.subTest("an image"):
             self.assertEqual(client.stop(), ("entry", 0, "02,4000"))
@@ -679,7 +679,7 @@ class Dap(ViewCase):
 
     def test_flood(self):
         """Channel lines come many in one event."""
-        client = Client(self, test)
+        client = Client(self)
         client.launch(program=write(f"{self.room}/flood.agc", FLOOD), stopOnEntry=False)
         time.sleep(0.5)
         client.ask("pause", threadId=1)
@@ -821,7 +821,7 @@ class Dap(ViewCase):
         with self.subTest("a frame"):
             self.assertEqual((frame["line"], frame["column"], frame["source"]["path"], frame["name"]), (29, 0, uri, "LOOP +5"))
         client.end()
-        client = Client(self, test)
+        client = Client(self)
         client.launch([5], program=write(f"{self.room}/loop.agc", LOOP), noDebug=True, stopOnEntry=False)
         with self.subTest("without breakpoints"):
             self.assertEqual(client.until("output")["output"], "5 CH 010 00005\n")

@@ -5,8 +5,8 @@ import subprocess
 import unittest
 
 from common import VIEWS
-from test_dap import MOST_SECONDS, begun, framed
-from viewing import LOST, ViewCase
+from test_dap import LOST, MOST_SECONDS, begun, framed
+from viewing import ViewCase
 
 
 def request(command, seq=9, **arguments):

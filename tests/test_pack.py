@@ -71,7 +71,7 @@ class Packed(Case):
     def setUp(self):
         super().setUp()
         if not os.access(PROGRAM, os.X_OK):
-            if "AGCWS" in os.environ:
+            if os.environ.get("AGCWS") == PROGRAM:
                 self.fail("the proved program is not built: ./agcws --prove builds it")
             self.skipTest("the proved program is not built: ./agcws --prove builds it")
         # (a path with a blank)

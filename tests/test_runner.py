@@ -63,6 +63,11 @@ class Runner(Case):
         self.assertEqual((status, last), (1, "4 passed, 1 failed"))
         self.assertIn("No module named 'nowhere'", said)
 
+        write_text(f"{self.room}/tests/test_wrong.py", "[][0]\n")
+        status, last, said = self.ran()
+        self.assertEqual((status, last), (1, "4 passed, 1 failed"))
+        self.assertIn("IndexError", said)
+
     def test_a_process_that_ends_by_itself_has_failed(self):
         write_text(f"{self.room}/tests/test_wrong.py", WRONG.replace('raise ValueError("of this kind")', "__import__('os').abort()"))
         self.assertEqual(self.ran("test_wrong.Error")[:2], (1, "0 passed, 1 failed"))
