@@ -7,9 +7,8 @@ LAYOUT = "e-m:e-p:64:64-p10:8:8-p20:8:8-i64:64-i128:128-n32:64-S128-ni:1:10:20"
 TRIPLE = "wasm64-unknown-unknown"
 # Attributes of functions that say how x86-64 makes a frame, which processor it is for, and what a check at run time adds.
 DROPPED = re.compile(r' sanitize_address| "(?:frame-pointer|probe-stack|stack-probe-size|target-cpu|target-features)"="[^"]*"')
-# The crates whose functions are to be fast: those of the steps, and of what makes many of them. And modules of these that make few.
-FAST = "words space rope feed cpu replay workshop trace cover notes".split()
-SLOW = "workshop::checking workshop::expecting".split()
+# The crates and modules whose functions are to be fast: those of the steps, and of what makes many of them.
+FAST = "words space rope feed cpu trace cover notes workshop::tracing workshop::noting workshop::covering workshop::engine".split()
 FUNCTION = re.compile(r'^(define [^\n]*?@"?)(([\w.$]+)(?:::\w+)?)([^\n]*? #\d+)([^\n]*\{)$', re.M)
 EMPTY, NO_FRAME = "{ }", '{ "frame-pointer"="none" }'
 # What would mean another thing, or nothing, on another machine, so that no module with it is taken.
@@ -38,6 +37,6 @@ def retargeted(text):
 
     def small(found):
         front, module, crate, name, rest = found.groups()
-        return found[0] if crate in FAST and module not in SLOW else f"{front}{module}{name} minsize optsize{rest}"
+        return found[0] if crate in FAST or module in FAST else f"{front}{module}{name} minsize optsize{rest}"
 
     return re.sub(r"^attributes #\d+ = \{.*\}$", attributes, FUNCTION.sub(small, text), flags=re.M)
