@@ -1,5 +1,5 @@
 -- What is said of faults of feeds, and of files of another kind, by the definitions alone.
-use Rattle.std.proofs.Common.{◌≡◌, ℕ, List, [], ◌∷◌, refl, map}
+use Rattle.std.proofs.Common.{◌≡◌, ℕ, List, [], ◌∷◌, ◌++◌, refl, map}
 use Rattle.std.specs.Fmt.{digits}
 use Rattle.std.specs.Prelude.{codes, ◌==◌, slice_get, if◌then◌else◌}
 use Rattle.agc_text.specs.Fields.{fields, runs, texts}

@@ -1,5 +1,5 @@
 -- Sentences worked out by hand.
-use Rattle.std.proofs.Common.{◌≡◌, ℕ, List, [], true, false, Some, None, refl}
+use Rattle.std.proofs.Common.{◌≡◌, ℕ, List, [], ◌++◌, true, false, Some, None, refl}
 use Rattle.std.specs.Prelude.{◌-◌, ◌^◌, codes}
 use Rattle.std.specs.Fmt.{digits}
 use Rattle.words.specs.Numerals.{octal_text}

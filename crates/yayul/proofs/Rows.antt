@@ -1,5 +1,5 @@
 -- Small sources, assembled by the definitions alone: each comes to its words, or to its least fault.
-use Rattle.std.proofs.Common.{◌≡◌, ℕ, Bool, true, List, [], ◌∷◌, Err, refl, map}
+use Rattle.std.proofs.Common.{◌≡◌, ℕ, Bool, true, List, [], ◌∷◌, ◌++◌, Err, refl, map}
 use Rattle.std.specs.Prelude.{codes, ◌==◌, if◌then◌else◌, is_ok}
 use Rattle.agc_text.specs.Fields.{runs}
 use Rattle.agc_text.specs.Lines.{lines}
