@@ -1168,6 +1168,8 @@ def check_notes(room):
     compare("interrupts that wait long", agcws("run", "--notes", waiting, asked, "862"), 0, b"", b"".join(lines))
     compare("interrupts that do not wait long", agcws("run", "--notes", waiting, asked, "861"), 0, b"")
     check_other_bank(room, empty)
+    check_fixed_bank(room, empty)
+    check_way_back(room, empty)
     check_not_kept(room)
     check_minus_zero(room, empty)
     check_overwritten(room)
@@ -1213,6 +1215,37 @@ def check_other_bank(room, empty):
     image = f"{room}/other.rope"
     agcws("asm", f"{room}/other.agc", image)
     told("another bank, of an image", agcws("run", "--image", "--notes", image, empty, "7") == (0, b"", b""))
+
+
+def check_fixed_bank(room, empty):
+    """A symbol of bank 6 that is reached while FB holds bank 5, or 6."""
+
+    def notes(name, bank, code, steps, place="06"):
+        text = f" SETLOC 4000\n CA FB\n TS 4\n{code}DONE TCF DONE\nFB OCT {bank}\n BANK 5\n TCF DONE\n BANK {place}\nSQR TCF DONE\n"
+        return agcws("run", "--notes", write(f"{room}/{name}.agc", text.encode()), empty, steps)
+
+    def line(what, step, cycles):
+        return 0, b"", f"NOTE FIXEDBANK  {what}  STEP {step} CYCLES {cycles} TIMES 1\n".encode()
+
+    told("another fixed bank, by a call", notes("fb", 12000, " TC SQR\n", "3") == line("02,4002  02000  TC 2000          ", 3, 5))
+    told("another fixed bank, by a jump", notes("fb_jump", 12000, " TCF SQR\n", "3") == line("02,4002  12000  TCF 2000         ", 3, 5))
+    told("another fixed bank, by a constant", notes("fb_word", 12000, " CA SQR\n", "3") == line("02,4002  32000  CA 2000          ", 3, 6))
+    nothing = (0, b"", b"")
+    told("its own fixed bank", notes("fb_own", 14000, " TC SQR\n", "9") == nothing)
+    told("a number, which names no fixed bank", notes("fb_number", 12000, " TC 2000\n", "9") == nothing)
+    told("a bank that FB does not switch", notes("fb_stays", 12000, " TC SQR\n", "9", "3") == nothing)
+    told("an index, which leads to another fixed bank", notes("fb_index", 12000, " INDEX 7\n CA SQR\n", "9") == nothing)
+
+
+def check_way_back(room, empty):
+    """A way back that is kept in a cell is executed there; another jump in a cell is noted."""
+
+    def notes(name, code, steps):
+        return agcws("run", "--notes", write(f"{room}/{name}.agc", f" SETLOC 4000\n{code}".encode()), empty, steps)
+
+    told("a way back in a cell", notes("way_back", " TC SUB\nDONE TCF DONE\nSUB EXTEND\n QXCH 100\n TC 100\n", "9") == (0, b"", b""))
+    jump = notes("way_on", " CA JUMP\n TS 100\n TC 100\nDONE TCF DONE\nJUMP TCF DONE\n", "4")
+    told("a jump in a cell", jump == (0, b"", b"NOTE ERASABLE   E0,0100  14003  TCF DONE           STEP 4 CYCLES 6 TIMES 1\n"))
 
 
 def check_not_kept(room):

@@ -56,4 +56,4 @@ def check_planted(program, told):
             told(f"{name}: has a test of three lines at most", len(expect.splitlines()) <= 3)
             for way, tells_so in (("check", checked), ("notes", kinds), ("expect", fails), ("any", got)):
                 found[way] += bool(tells_so)
-    told("how many of 37 mistakes are told", found == {"check": 5, "notes": 18, "expect": 32, "any": 37}, str(found))
+    told("how many of 37 mistakes are told", found == {"check": 5, "notes": 19, "expect": 32, "any": 37}, str(found))
