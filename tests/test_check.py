@@ -322,7 +322,7 @@ def rows_of_refusals():
 # The kinds of `run --notes`, each with where the manual tells of it.
 KINDS = {
     "QUOTIENT": 'section 8, "DV gives 37777, or 40000"', "SKIP": "section 8.5", "NOWORD": "section 8.4", "ERASABLE": "section 8.10",
-    "NOHANDLER": 'section 8, "INT is 1"', "OTHERBANK": "section 8.6", "INSIDE": "section 8.7", "WAITING": "section 8.1",
+    "NOHANDLER": 'section 8, "INT is 1"', "OTHERBANK": "section 8.6", "FIXEDBANK": "section 8.6", "INSIDE": "section 8.7", "WAITING": "section 8.1",
     "NOTKEPT": 'section 8, "a word is wrong now and then"',
     "MINUSZERO": 'section 8, "CCS goes three words on"', "UNREAD": "section 6", "OVERWRITTEN": "section 6",
     "SHARED": 'section 8, "INT is 1"',

@@ -18,7 +18,7 @@ TOLD = {
     6: [("notes", "SKIP"), ("why CH10 index", "CA LIMITS -1"), ("why CH10", "CA 4026")],
     7: [("check", "E23"), ("check", "W3"), ("trace", "ADS SUM +1")],
     8: [("why CH10", "MP HEIGHT"), ("notes", "QUOTIENT"), ("why AREA", "MP WIDTH")],
-    9: [("trace", "05,2000"), ("notes", "OTHERBANK"), ("notes", "OTHERBANK")],
+    9: [("notes", "FIXEDBANK"), ("notes", "OTHERBANK"), ("notes", "OTHERBANK")],
     10: [("why SUM", "IN STEP"), ("notes", "INSIDE"), ("notes", "NOHANDLER")],
     11: [("why TIME3", "00005"), ("notes", "WAITING T3RUPT"), ("why TIME3", "TIME3 PINC")],
     12: [("why CH10", "RELAYS"), ("trace", "CA RELAYS +20"), ("why CH10 index", "FROM DIGIT 00000")],

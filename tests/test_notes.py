@@ -39,6 +39,8 @@ class Notes(Beside, Case):
         with self.subTest("interrupts that do not wait long"):
             self.assertAnswer(agcws("run", "--notes", waiting, asked, "861"), 0, b"")
         self.try_other_bank(empty)
+        self.try_fixed_bank(empty)
+        self.try_way_back(empty)
         self.try_not_kept()
         self.try_minus_zero(empty)
         self.try_overwritten()
@@ -96,6 +98,40 @@ class Notes(Beside, Case):
         agcws("asm", f"{self.room}/other.agc", image)
         with self.subTest("another bank, of an image"):
             self.assertEqual(agcws("run", "--image", "--notes", image, empty, "7"), (0, b"", b""))
+
+    def try_fixed_bank(self, empty):
+        """A symbol of bank 6 that is reached while FB holds bank 5, or 6."""
+
+        def notes(name, bank, code, steps, place="06"):
+            text = f" SETLOC 4000\n CA FB\n TS 4\n{code}DONE TCF DONE\nFB OCT {bank}\n BANK 5\n TCF DONE\n BANK {place}\nSQR TCF DONE\n"
+            return agcws("run", "--notes", write(f"{self.room}/{name}.agc", text.encode()), empty, steps)
+
+        def line(what, step, cycles):
+            return 0, b"", f"NOTE FIXEDBANK  {what}  STEP {step} CYCLES {cycles} TIMES 1\n".encode()
+
+        for what, got, wanted in (
+            ("by a call", notes("fb", 12000, " TC SQR\n", "3"), line("02,4002  02000  TC 2000          ", 3, 5)),
+            ("by a jump", notes("fb_jump", 12000, " TCF SQR\n", "3"), line("02,4002  12000  TCF 2000         ", 3, 5)),
+            ("by a constant", notes("fb_word", 12000, " CA SQR\n", "3"), line("02,4002  32000  CA 2000          ", 3, 6)),
+            ("its own", notes("fb_own", 14000, " TC SQR\n", "9"), (0, b"", b"")),
+            ("a number, which names none", notes("fb_number", 12000, " TC 2000\n", "9"), (0, b"", b"")),
+            ("a bank that FB does not switch", notes("fb_stays", 12000, " TC SQR\n", "9", "3"), (0, b"", b"")),
+            ("an index, which leads elsewhere", notes("fb_index", 12000, " INDEX 7\n CA SQR\n", "9"), (0, b"", b"")),
+        ):
+            with self.subTest(f"another fixed bank: {what}"):
+                self.assertEqual(got, wanted)
+
+    def try_way_back(self, empty):
+        """A way back that is kept in a cell is executed there; another jump in a cell is noted."""
+
+        def notes(name, code, steps):
+            return agcws("run", "--notes", write(f"{self.room}/{name}.agc", f" SETLOC 4000\n{code}".encode()), empty, steps)
+
+        with self.subTest("a way back in a cell"):
+            self.assertEqual(notes("way_back", " TC SUB\nDONE TCF DONE\nSUB EXTEND\n QXCH 100\n TC 100\n", "9"), (0, b"", b""))
+        with self.subTest("a jump in a cell"):
+            jump = notes("way_on", " CA JUMP\n TS 100\n TC 100\nDONE TCF DONE\nJUMP TCF DONE\n", "4")
+            self.assertEqual(jump, (0, b"", b"NOTE ERASABLE   E0,0100  14003  TCF DONE           STEP 4 CYCLES 6 TIMES 1\n"))
 
     def try_not_kept(self):
         """A handler that leaves A changed, and handlers that do not: lost_sum's, whose steps are counted by hand in its source; one that has set ZRUPT; and one that keeps A."""

@@ -42,10 +42,12 @@ place in one, with its first step, the cycles after it, and how often, as
     QUOTIENT   DV whose quotient does not fit
     SKIP       TS that skips, since A overflows
     NOWORD     a word is executed in fixed memory where none stands
-    ERASABLE   a word is executed in erasable memory, but at Q
+    ERASABLE   a word is executed in erasable memory, but at Q, and but TC to
+               fixed memory, as at a kept Q
     NOHANDLER  an interrupt is entered where no word stands
     OTHERBANK  another bank is reached than that of the erasable place that the
                instruction's source names
+    FIXEDBANK  the same, of a place of a switched bank of fixed memory
     NOTKEPT    RESUME goes back while A, L, Q, EB, FB or the superbank is not as
                the interrupt has found it
     MINUSZERO  CCS of -0 goes another way than +0 would

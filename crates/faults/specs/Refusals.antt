@@ -91,6 +91,7 @@ note_meanings =
     ∷ (codes "ERASABLE", codes "a word is executed in erasable memory")
     ∷ (codes "NOHANDLER", codes "an interrupt is entered where no word stands")
     ∷ (codes "OTHERBANK", codes "an erasable symbol is reached in another bank than its own")
+    ∷ (codes "FIXEDBANK", codes "a symbol of a switched fixed bank is reached in another bank than its own")
     ∷ (codes "INSIDE", codes "the run ends within an interrupt")
     ∷ (codes "WAITING", codes "an interrupt is asked for, and is not entered for 853 cycles or more")
     ∷ (codes "NOTKEPT", codes "a handler ends, and a register is not what it was at its entry")

@@ -57,7 +57,7 @@ fn meanings() -> &'static [(&'static str, &'static str)]
     &MEANINGS
 }
 
-const MEANINGS: [(&str, &str); 13] = [
+const MEANINGS: [(&str, &str); 14] = [
     ("QUOTIENT", "the quotient of DV does not fit"),
     (
         "SKIP",
@@ -72,6 +72,10 @@ const MEANINGS: [(&str, &str); 13] = [
     (
         "OTHERBANK",
         "an erasable symbol is reached in another bank than its own",
+    ),
+    (
+        "FIXEDBANK",
+        "a symbol of a switched fixed bank is reached in another bank than its own",
     ),
     ("INSIDE", "the run ends within an interrupt"),
     (
@@ -106,6 +110,7 @@ NOWORD: a word is executed in fixed memory where none stands
 ERASABLE: a word is executed in erasable memory
 NOHANDLER: an interrupt is entered where no word stands
 OTHERBANK: an erasable symbol is reached in another bank than its own
+FIXEDBANK: a symbol of a switched fixed bank is reached in another bank than its own
 INSIDE: the run ends within an interrupt
 WAITING: an interrupt is asked for, and is not entered for 853 cycles or more
 NOTKEPT: a handler ends, and a register is not what it was at its entry
@@ -115,7 +120,7 @@ OVERWRITTEN: an input comes on a channel before the one before it was read
 SHARED: the program itself comes by a handler, or goes on into one
 ";
 
-const CAUSES: [(&str, &str); 13] = [
+const CAUSES: [(&str, &str); 14] = [
     (
         "QUOTIENT",
         "
@@ -172,6 +177,15 @@ Manual, section 8, \"INT is 1\".
         "
 - EB holds another bank than that of the symbol, whose address is 1400 to 1777
   Cure: EBANK before it: CA NAME and TS 3, where NAME ECADR X stands; or cells below 1400
+
+Manual, section 8.6.
+",
+    ),
+    (
+        "FIXEDBANK",
+        "
+- FB holds another bank than that of the symbol, whose address is 2000 to 3777
+  Cure: a far call: NAME 2CADR X, EXTEND, DCA NAME, and DXCH Z
 
 Manual, section 8.6.
 ",

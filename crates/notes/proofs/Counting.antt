@@ -22,7 +22,7 @@ use Rattle.cover.specs.Tallies.{account_count, account_number, IsAccount}
 use Rattle.cover.proofs.Accounts.{other_account, same_is_one}
 use Rattle.notes.specs.declared.kind.Kind.{Kind}
 use Rattle.notes.specs.declared.kind.Kind.TheVariants.{Quotient, Skip, NoWord, InErasable, NoHandler, OtherBank, NotKept, MinusZero}
-use Rattle.notes.specs.declared.kind.Kind.TheVariants.{Overwritten, Shared}
+use Rattle.notes.specs.declared.kind.Kind.TheVariants.{Overwritten, Shared, FixedBank}
 use Rattle.cpu.specs.NextStep.{next_step}
 use Rattle.cpu.specs.declared.next_step.Fetched.{Fetched}
 use Rattle.cpu.specs.declared.next_step.NextStep.{NextStep}
@@ -41,18 +41,19 @@ use Rattle.notes.proofs.LongWaits.{keeps_more, keeps_none}
 
 -- what is so of each kind is so of all
 pub of_kinds : (P : Kind → Type 0) → P Quotient → P Skip → P NoWord → P InErasable → P NoHandler → P OtherBank → P NotKept → P MinusZero
-    → P Overwritten → P Shared
+    → P Overwritten → P Shared → P FixedBank
     → (kind : Kind) → P kind
-of_kinds P a b c d e f g h i j Quotient = a
-of_kinds P a b c d e f g h i j Skip = b
-of_kinds P a b c d e f g h i j NoWord = c
-of_kinds P a b c d e f g h i j InErasable = d
-of_kinds P a b c d e f g h i j NoHandler = e
-of_kinds P a b c d e f g h i j OtherBank = f
-of_kinds P a b c d e f g h i j NotKept = g
-of_kinds P a b c d e f g h i j MinusZero = h
-of_kinds P a b c d e f g h i j Overwritten = i
-of_kinds P a b c d e f g h i j Shared = j
+of_kinds P a b c d e f g h i j k Quotient = a
+of_kinds P a b c d e f g h i j k Skip = b
+of_kinds P a b c d e f g h i j k NoWord = c
+of_kinds P a b c d e f g h i j k InErasable = d
+of_kinds P a b c d e f g h i j k NoHandler = e
+of_kinds P a b c d e f g h i j k OtherBank = f
+of_kinds P a b c d e f g h i j k NotKept = g
+of_kinds P a b c d e f g h i j k MinusZero = h
+of_kinds P a b c d e f g h i j k Overwritten = i
+of_kinds P a b c d e f g h i j k Shared = j
+of_kinds P a b c d e f g h i j k FixedBank = k
 
 number_within : (a : Account) → IsAccount a → account_number a < account_count
 number_within Input known = omega arith
@@ -152,19 +153,20 @@ counts_alike old new e =
     of_kinds (λ kind. counts_of new kind ≡ counts_of old kind) (ap (λ cs. get_or cs 0 []) e) (ap (λ cs. get_or cs 1 []) e)
     (ap (λ cs. get_or cs 2 []) e) (ap (λ cs. get_or cs 3 []) e)
     (ap (λ cs. get_or cs 4 []) e) (ap (λ cs. get_or cs 5 []) e) (ap (λ cs. get_or cs 6 []) e) (ap (λ cs. get_or cs 7 []) e)
-    (ap (λ cs. get_or cs 8 []) e) (ap (λ cs. get_or cs 9 []) e)
+    (ap (λ cs. get_or cs 8 []) e) (ap (λ cs. get_or cs 9 []) e) (ap (λ cs. get_or cs 10 []) e)
 
 -- what some kind is, of what each is
-pub some_by : (p : Kind → Bool) (a b c d e f g h i j : Bool) → p Quotient ≡ a → p Skip ≡ b → p NoWord ≡ c → p InErasable ≡ d
+pub some_by : (p : Kind → Bool) (a b c d e f g h i j k : Bool) → p Quotient ≡ a → p Skip ≡ b → p NoWord ≡ c → p InErasable ≡ d
     → p NoHandler ≡ e → p OtherBank ≡ f → p NotKept ≡ g → p MinusZero ≡ h
-    → p Overwritten ≡ i → p Shared ≡ j → some_kind p ≡ (a || (b || (c || (d || (e || (f || (g || (h || (i || j)))))))))
-some_by p a b c d e f g h i j one two three four five six seven eight nine ten = rw
-    (one, two, three, four, five, six, seven, eight, nine, ten) refl
+    → p Overwritten ≡ i → p Shared ≡ j → p FixedBank ≡ k
+    → some_kind p ≡ (a || (b || (c || (d || (e || (f || (g || (h || (i || (j || k))))))))))
+some_by p a b c d e f g h i j k one two three four five six seven eight nine ten eleven = rw
+    (one, two, three, four, five, six, seven, eight, nine, ten, eleven) refl
 
 none_is : (p : Kind → Bool) → ((kind : Kind) → p kind ≡ false) → some_kind p ≡ false
-none_is p none = some_by p false false false false false false false false false false (none Quotient) (none Skip) (none NoWord)
+none_is p none = some_by p false false false false false false false false false false false (none Quotient) (none Skip) (none NoWord)
     (none InErasable) (none NoHandler) (none OtherBank) (none NotKept) (none MinusZero)
-    (none Overwritten) (none Shared)
+    (none Overwritten) (none Shared) (none FixedBank)
 
 -- what is so of none
 none_of_kinds : (p : Kind → Bool) → some_kind p ≡ false → (kind : Kind) → p kind ≡ false
@@ -177,8 +179,9 @@ none_of_kinds p e =
     let six = neither (p OtherBank) _ five.1 in
     let seven = neither (p NotKept) _ six.1 in
     let eight = neither (p MinusZero) _ seven.1 in
-    let nine = neither (p Overwritten) (p Shared) eight.1 in
-    of_kinds (λ kind. p kind ≡ false) one.0 two.0 three.0 four.0 five.0 six.0 seven.0 eight.0 nine.0 nine.1
+    let nine = neither (p Overwritten) _ eight.1 in
+    let ten = neither (p Shared) (p FixedBank) nine.1 in
+    of_kinds (λ kind. p kind ≡ false) one.0 two.0 three.0 four.0 five.0 six.0 seven.0 eight.0 nine.0 ten.0 ten.1
 
 -- what happens after what a book holds happens in the run
 happens_is : (named : Named) (scenario : Scenario) (kind : Kind) (n : ℕ) (book : Book) → book.named ≡ named → book.past ≡ past scenario n
@@ -340,13 +343,15 @@ nothing_told notation what number cycles count none = rw (
   none MinusZero,
   none Overwritten,
   none Shared,
+  none FixedBank,
 ) refl
 
--- all ten are 0
+-- all eleven are 0
 pub all_zero : (t : Told)
     → (t.quotients == 0 && (t.skips == 0 && (t.no_words == 0
     && (t.in_erasable == 0 && (t.no_handlers == 0
-    && (t.other_banks == 0 && (t.not_kept == 0 && (t.minus_zeros == 0 && (t.overwritten == 0 && t.shared == 0))))))))) ≡ true
+    && (t.other_banks == 0 && (t.not_kept == 0 && (t.minus_zeros == 0 && (t.overwritten == 0
+    && (t.shared == 0 && t.fixed_banks == 0)))))))))) ≡ true
     → (kind : Kind) → told_of t kind ≡ 0
 all_zero t e =
     let one = and_parts (t.quotients == 0) _ e in
@@ -357,11 +362,12 @@ all_zero t e =
     let six = and_parts (t.other_banks == 0) _ five.1 in
     let seven = and_parts (t.not_kept == 0) _ six.1 in
     let eight = and_parts (t.minus_zeros == 0) _ seven.1 in
-    let nine = and_parts (t.overwritten == 0) (t.shared == 0) eight.1 in
+    let nine = and_parts (t.overwritten == 0) _ eight.1 in
+    let ten = and_parts (t.shared == 0) (t.fixed_banks == 0) nine.1 in
     of_kinds (λ kind. told_of t kind ≡ 0) (eqb-true t.quotients 0 one.0) (eqb-true t.skips 0 two.0) (eqb-true t.no_words 0 three.0)
     (eqb-true t.in_erasable 0 four.0) (eqb-true t.no_handlers 0 five.0)
     (eqb-true t.other_banks 0 six.0) (eqb-true t.not_kept 0 seven.0) (eqb-true t.minus_zeros 0 eight.0) (eqb-true t.overwritten 0 nine.0)
-    (eqb-true t.shared 0 nine.1)
+    (eqb-true t.shared 0 ten.0) (eqb-true t.fixed_banks 0 ten.1)
 
 -- ## What is told
 pub left_start : (named : Named) (scenario : Scenario) (n : ℕ) (book : Book) → Counted named scenario n book
@@ -581,8 +587,8 @@ quiet_none : (named : Named) (rope : Words) (s : State) (f : Fetched) (p : Past)
 quiet_none named rope s f p q =
     of_kinds (λ kind. happens_in named rope s p kind (made.Executes f) ≡ false) (never_divides rope s f q.extra) q.skips
     (rw (q.waited, has_a_word rope f.place q.placed) refl)
-    (rw (q.waited, not_in_erasable rope f.place q.placed) refl) refl q.other (rw (q.extra, q.resumes) refl) (rw (q.waited, q.zeros) refl)
-    refl (rw (q.extra, q.resumes, q.unshared) refl)
+    (rw (q.waited, not_in_erasable rope f.place q.placed) refl) refl (rw q.other refl) (rw (q.extra, q.resumes) refl)
+    (rw (q.waited, q.zeros) refl) refl (rw (q.extra, q.resumes, q.unshared) refl) (rw q.other refl)
 
 step_none : (named : Named) (rope : Words) (s : State) (step : NextStep) (p : Past) → is_quiet_step named rope s p step ≡ true
     → (kind : Kind)

@@ -23,7 +23,7 @@ use Rattle.words.specs.Numerals.{octal_text}
 use Rattle.notes.specs.Unread.{unread_at, unread_line, unread_object}
 use Rattle.notes.specs.Past.{came_first, enters_shared, entered_at, executes_shared, is_lost, loses, marked, no_past, overwrites, reads_on}
 use Rattle.notes.specs.Past.{unread_by}
-use Rattle.notes.specs.Notes.{is_ccs, is_code_in_erasable, is_elsewhere, is_one_way, place_named, reaches_other}
+use Rattle.notes.specs.Notes.{is_ccs, is_code_in_erasable, is_elsewhere, is_erasable, is_one_way, is_way_back, place_named, reaches_other}
 use Rattle.json_text.specs.Strings.{escaped, escaped_byte}
 use Rattle.trace.specs.StepMembers.{step_members}
 use Rattle.notes.specs.RunNotes.{end_text, note_line, note_object, told_line, where_of}
@@ -60,22 +60,51 @@ at_q = refl
 in_fixed : is_code_in_erasable (Fixed 2 0) ≡ false
 in_fixed = refl
 
--- TABLE +3 in E3, reached there or in E4, and a place of fixed memory
-in_its_bank : is_elsewhere 0o1403 (Erasable 0o1777) ≡ false
+-- TC 4123, which leads back from erasable memory; TC 0, and TCF 4000, which do not
+abbrev in_a_cell : ℕ → Bool → Fetched
+in_a_cell word extra = record { place = Erasable 0o100; word = word; extra = extra; waited = false; added = None }
+
+back : is_way_back (in_a_cell 0o4123 false) ≡ true
+back = refl
+
+to_the_window : is_way_back (in_a_cell 0o2000 false) ≡ true
+to_the_window = refl
+
+to_a_cell : is_way_back (in_a_cell 0o1777 false) ≡ false
+to_a_cell = refl
+
+a_jump : is_way_back (in_a_cell 0o14000 false) ≡ false
+a_jump = refl
+
+an_extracode : is_way_back (in_a_cell 0o4123 true) ≡ false
+an_extracode = refl
+
+-- TABLE +3 in E3, reached there or in E4, and a place of fixed memory; SQR in bank 6, reached there, in bank 5, and a place of erasable
+-- memory
+in_its_bank : is_elsewhere (Erasable 0o1403) (Erasable 0o1777) ≡ false
 in_its_bank = refl
 
-in_another : is_elsewhere 0o1403 (Erasable 0o2003) ≡ true
+in_another : is_elsewhere (Erasable 0o1403) (Erasable 0o2003) ≡ true
 in_another = refl
 
-out_of_erasable : is_elsewhere 0o1403 (Fixed 2 0) ≡ true
+out_of_erasable : is_elsewhere (Erasable 0o1403) (Fixed 2 0) ≡ true
 out_of_erasable = refl
+
+in_bank_6 : is_elsewhere (Fixed 6 5) (Fixed 6 0o1777) ≡ false
+in_bank_6 = refl
+
+in_bank_5 : is_elsewhere (Fixed 6 5) (Fixed 5 5) ≡ true
+in_bank_5 = refl
+
+out_of_fixed : is_elsewhere (Fixed 6 5) (Erasable 0o2005) ≡ true
+out_of_fixed = refl
 
 -- CA TABLE +3 at 00,2001, which is named there and nowhere else; under E4 it is told, under E3 it is not, and with an index it is passed
 -- over
 abbrev one_named : Named
-one_named = None ∷ Some 0o1403 ∷ None ∷ []
+one_named = None ∷ Some (Erasable 0o1403) ∷ Some (Fixed 6 5) ∷ []
 
-named_there : place_named one_named (Fixed 0 1) ≡ Some 0o1403
+named_there : place_named one_named (Fixed 0 1) ≡ Some (Erasable 0o1403)
 named_there = refl
 
 not_before : place_named one_named (Fixed 0 0) ≡ None
@@ -97,6 +126,24 @@ under_e3 s e = rw e refl
 with_an_index : (s : State) → reaches_other one_named s
     (record { place = Fixed 0 1; word = 0o31403; extra = false; waited = false; added = Some 0 }) ≡ false
 with_an_index s = refl
+
+-- TC SQR, 02005, at 00,2002: under FB 5 it is told, under FB 6 it is not, and it is no erasable place
+abbrev to_sqr : Fetched
+to_sqr = record { place = Fixed 0 2; word = 0o2005; extra = false; waited = false; added = None }
+
+under_fb5 : (s : State) → place_in s 0o2005 ≡ Fixed 5 5 → reaches_other one_named s to_sqr ≡ true
+unfolding basic_rows code_of
+under_fb5 s e = rw e refl
+
+under_fb6 : (s : State) → place_in s 0o2005 ≡ Fixed 6 5 → reaches_other one_named s to_sqr ≡ false
+unfolding basic_rows code_of
+under_fb6 s e = rw e refl
+
+not_erasable : is_erasable (place_named one_named (Fixed 0 2)) ≡ false
+not_erasable = refl
+
+erasable_there : is_erasable (place_named one_named (Fixed 0 1)) ≡ true
+erasable_there = refl
 
 -- CCS A at 02,4002, whose way of +0 is TCF 4010 and that of -0 TCF 4006; whose way of +0 is TCF 4006, where that of -0 is; and whose ways
 -- are one word

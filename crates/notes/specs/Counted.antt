@@ -8,7 +8,7 @@ use Rattle.yayul.specs.Named.{Named}
 use Rattle.cover.specs.Tallies.{account_count, account_number, IsAccount}
 use Rattle.notes.specs.declared.kind.Kind.{Kind}
 use Rattle.notes.specs.declared.kind.Kind.TheVariants.{Quotient, Skip, NoWord, InErasable, NoHandler, OtherBank, NotKept, MinusZero}
-use Rattle.notes.specs.declared.kind.Kind.TheVariants.{Overwritten, Shared}
+use Rattle.notes.specs.declared.kind.Kind.TheVariants.{Overwritten, Shared, FixedBank}
 use Rattle.notes.specs.declared.notebook.Told.{Told}
 use Rattle.notes.specs.declared.past.Past.{Past}
 use Rattle.notes.specs.Past.{no_past, past, past_by, Seen, seen}
@@ -16,7 +16,7 @@ use Rattle.notes.specs.Notes.{happens}
 use Rattle.notes.specs.RunNotes.{here, times, times_from}
 use Rattle.notes.specs.Waits.{Keeps, Waits, waits_after}
 
--- the erasable places that words name, the counts of each kind, since when each interrupt is asked for, what the steps before have left,
+-- the places that words name, the counts of each kind, since when each interrupt is asked for, what the steps before have left,
 -- how many steps were noted, and the last of them in which some kind has happened for the first time at its place
 pub record Book : Type 0 where
   pub named : Named
@@ -37,6 +37,7 @@ counts_of book NotKept = get_or book.counts 6 []
 counts_of book MinusZero = get_or book.counts 7 []
 counts_of book Overwritten = get_or book.counts 8 []
 counts_of book Shared = get_or book.counts 9 []
+counts_of book FixedBank = get_or book.counts 10 []
 
 -- once more at a number, where something happens
 abbrev pub counted_more : List ℕ → ℕ → Bool → List ℕ
@@ -49,7 +50,8 @@ is_first counts number happens = happens && get_or counts number 0 == 0
 -- whether something is so of some kind
 abbrev pub some_kind : (Kind → Bool) → Bool
 some_kind p = p Quotient || (p Skip || (p NoWord
-    || (p InErasable || (p NoHandler || (p OtherBank || (p NotKept || (p MinusZero || (p Overwritten || p Shared))))))))
+    || (p InErasable || (p NoHandler || (p OtherBank || (p NotKept || (p MinusZero || (p Overwritten || (p Shared
+    || p FixedBank)))))))))
 
 -- what is held at a number, where something happens, and what is left after it is taken
 abbrev pub taken : List ℕ → ℕ → Bool → ℕ
@@ -105,6 +107,7 @@ told_of t NotKept = t.not_kept
 told_of t MinusZero = t.minus_zeros
 told_of t Overwritten = t.overwritten
 told_of t Shared = t.shared
+told_of t FixedBank = t.fixed_banks
 
 -- the counts are those of the first n steps of a run
 pub record Counted (named : Named) (scenario : Scenario) (n : ℕ) (book : Book) : Type 0 where

@@ -20,7 +20,7 @@ use Rattle.cpu.specs.Operands.{address_of}
 use Rattle.cpu.specs.State.{State, Scenario}
 use Rattle.notes.specs.declared.kind.Kind.{Kind}
 use Rattle.notes.specs.declared.kind.Kind.TheVariants.{Quotient, Skip, NoWord, InErasable, NoHandler, OtherBank, NotKept, MinusZero}
-use Rattle.notes.specs.declared.kind.Kind.TheVariants.{Overwritten, Shared}
+use Rattle.notes.specs.declared.kind.Kind.TheVariants.{Overwritten, Shared, FixedBank}
 use Rattle.notes.specs.declared.past.Past.{Past}
 use Rattle.notes.specs.Past.{Seen, comes_by, enters_shared, executes_shared, is_passed, loses, overwrites}
 
@@ -70,22 +70,34 @@ abbrev pub is_code_in_erasable : Linear → Bool
 is_code_in_erasable (Erasable p) = not (p == return_address)
 is_code_in_erasable (Fixed bank offset) = false
 
--- the erasable place that the source of the word at a place names: none of a word in erasable memory
-abbrev pub place_named : Named → Linear → Option ℕ
+-- TC to a place of fixed memory, which each way back is that TC leaves in Q
+abbrev pub is_way_back : Fetched → Bool
+is_way_back f = not f.extra && nat_le 0o2000 f.word && nat_lt f.word 0o10000
+
+-- the place that the source of the word at a place names: none of a word in erasable memory
+abbrev pub place_named : Named → Linear → Option Linear
 place_named named (Erasable p) = None
 place_named named (Fixed bank offset) = named_at named bank offset
 
--- whether a place is in another bank than an erasable one; a place of fixed memory is
-abbrev pub is_elsewhere : ℕ → Linear → Bool
-is_elsewhere other (Erasable p) = not (p / 0o400 == other / 0o400)
-is_elsewhere other (Fixed bank offset) = true
+-- whether it is one of erasable memory
+abbrev pub is_erasable : Option Linear → Bool
+is_erasable None = false
+is_erasable (Some (Erasable p)) = true
+is_erasable (Some (Fixed bank offset)) = false
 
-abbrev pub leads_elsewhere : State → Option ℕ → Option ℕ → Bool
+-- whether a place is in another bank than one that is named
+abbrev pub is_elsewhere : Linear → Linear → Bool
+is_elsewhere (Erasable n) (Erasable p) = not (p / 0o400 == n / 0o400)
+is_elsewhere (Fixed other n) (Fixed bank offset) = not (bank == other)
+is_elsewhere (Erasable n) (Fixed bank offset) = true
+is_elsewhere (Fixed other n) (Erasable p) = true
+
+abbrev pub leads_elsewhere : State → Option Linear → Option ℕ → Bool
 leads_elsewhere s (Some other) (Some k) = is_elsewhere other (place_in s k)
 leads_elsewhere s _ _ = false
 
--- an instruction reaches another bank than that of the erasable place that its source names. What INDEX added something to is passed
--- over, for its source does not say where it leads; and so is a word that waited
+-- an instruction reaches another bank than that of the place that its source names. What INDEX added something to is passed over, for its
+-- source does not say where it leads; and so is a word that waited
 abbrev pub reaches_other : Named → State → Fetched → Bool
 reaches_other named s f = not f.waited && not (is_some f.added) && leads_elsewhere s (place_named named f.place) (address_of (code_in f))
 
@@ -118,8 +130,9 @@ parts_zeros rope s f = not f.waited && counts_minus_zero rope s f && has_two_way
 abbrev pub happens_in : Named → Words → State → Past → Kind → NextStep → Bool
 happens_in named rope s p NoHandler (Enters k) = not (stands rope 2 (4 * k))
 happens_in named rope s p NoWord (Executes f) = not f.waited && not (has_word rope f.place)
-happens_in named rope s p InErasable (Executes f) = not f.waited && is_code_in_erasable f.place
-happens_in named rope s p OtherBank (Executes f) = reaches_other named s f
+happens_in named rope s p InErasable (Executes f) = not f.waited && is_code_in_erasable f.place && not (is_way_back f)
+happens_in named rope s p OtherBank (Executes f) = reaches_other named s f && is_erasable (place_named named f.place)
+happens_in named rope s p FixedBank (Executes f) = reaches_other named s f && not (is_erasable (place_named named f.place))
 happens_in named rope s p Skip (Executes f) = skips s f
 happens_in named rope s p Quotient (Executes f) = divides rope s f
 happens_in named rope s p NotKept (Executes f) = loses s p f
@@ -129,7 +142,7 @@ happens_in named rope s p Shared (Enters k) = enters_shared p k
 happens_in named rope s p Shared (Executes f) = executes_shared s p f
 happens_in named rope s p kind step = false
 
--- the same, where it is known which erasable places the words name
+-- the same, where it is known which places the words name
 unfoldable pub happens : Named → Scenario → Kind → Seen → Bool
 happens named scenario kind w = happens_in named scenario.rope w.state w.past kind (next_step scenario w.state)
 

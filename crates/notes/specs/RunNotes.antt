@@ -21,7 +21,7 @@ use Rattle.trace.specs.TraceLines.{field, what_text}
 use Rattle.trace.specs.StepMembers.{what_members}
 use Rattle.notes.specs.declared.kind.Kind.{Kind}
 use Rattle.notes.specs.declared.kind.Kind.TheVariants.{Quotient, Skip, NoWord, InErasable, NoHandler, OtherBank, NotKept, MinusZero}
-use Rattle.notes.specs.declared.kind.Kind.TheVariants.{Overwritten, Shared}
+use Rattle.notes.specs.declared.kind.Kind.TheVariants.{Overwritten, Shared, FixedBank}
 use Rattle.notes.specs.Notes.{happens}
 use Rattle.notes.specs.Past.{Seen, past, seen}
 use Rattle.notes.specs.Unread.{unread_text}
@@ -68,6 +68,7 @@ kind_word NotKept = codes "NOTKEPT"
 kind_word MinusZero = codes "MINUSZERO"
 kind_word Overwritten = codes "OVERWRITTEN"
 kind_word Shared = codes "SHARED"
+kind_word FixedBank = codes "FIXEDBANK"
 
 -- with blanks up to the next column
 abbrev pub kind_field : Kind → List ℕ
@@ -111,7 +112,8 @@ kinds_text notation what number cycles count =
     ++ (told_line notation NotKept what number cycles (count NotKept)
     ++ (told_line notation MinusZero what number cycles (count MinusZero)
     ++ (told_line notation Overwritten what number cycles (count Overwritten)
-    ++ told_line notation Shared what number cycles (count Shared)))))))))
+    ++ (told_line notation Shared what number cycles (count Shared)
+    ++ told_line notation FixedBank what number cycles (count FixedBank))))))))))
 
 -- what is told at the step that follows a state
 abbrev pub text_after : Notation → SymbolTable → Scenario → ℕ → State → (Kind → ℕ) → List ℕ

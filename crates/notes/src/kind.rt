@@ -9,7 +9,7 @@ pub enum Kind {
     Skip,
     /// A word is executed in fixed memory where none stands.
     NoWord,
-    /// A word is executed in erasable memory, but at Q.
+    /// A word is executed in erasable memory, but at Q, and but a way back.
     InErasable,
     /// An interrupt is entered where no word stands.
     NoHandler,
@@ -23,4 +23,6 @@ pub enum Kind {
     Overwritten,
     /// The program itself comes by where an interrupt is entered, or to a RESUME of none.
     Shared,
+    /// An instruction reaches another bank than that of the place of a switched bank that its source names.
+    FixedBank,
 }

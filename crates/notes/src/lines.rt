@@ -33,7 +33,7 @@ const LINE: usize = 640;
 pub(crate) type Line = ArrayVec<u8, LINE>;
 
 /// The most bytes of the lines of a step.
-const LINES: usize = 6400;
+const LINES: usize = 7040;
 
 /// The lines of a step.
 pub(crate) type Lines = ArrayVec<u8, LINES>;
@@ -125,13 +125,20 @@ pub(crate) fn lines_of(notation: Notation, heading: &Heading, told: &Told) -> Li
         told.overwritten,
     );
     push_line(notation, &mut lines, heading, Kind::Shared, told.shared);
+    push_line(
+        notation,
+        &mut lines,
+        heading,
+        Kind::FixedBank,
+        told.fixed_banks,
+    );
     lines
 }
 
 /// Appends the line of a note, where it is told.
 fn push_line(notation: Notation, lines: &mut Lines, heading: &Heading, kind: Kind, count: u64)
     requires what { array_vec_len heading.now.what ≤ 487 }
-    requires room { array_vec_len lines.old ≤ 5760 }
+    requires room { array_vec_len lines.old ≤ 6400 }
     ensures items { lines.new.items ≡ lines.old.items
         ++ told_line notation kind heading.now.what.items heading.now.number heading.now.cycles count }
     ensures short { array_vec_len lines.new ≤ array_vec_len lines.old + 640 }
@@ -189,6 +196,7 @@ fn kind_field(kind: Kind) -> &'static [u8]
         Kind::MinusZero => b"MINUSZERO  ",
         Kind::Overwritten => b"OVERWRITTEN  ",
         Kind::Shared => b"SHARED     ",
+        Kind::FixedBank => b"FIXEDBANK  ",
     }
 }
 

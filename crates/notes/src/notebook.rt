@@ -31,6 +31,7 @@ pub struct Notebook {
     minus_zeros: Ledger,
     overwritten: Ledger,
     shared: Ledger,
+    fixed_banks: Ledger,
     waits: Waits,
     past: Past,
     steps: u64,
@@ -47,7 +48,7 @@ impl Model for Notebook {
       named = n.named;
       counts = n.quotients ∷ n.skips ∷ n.no_words ∷ n.in_erasable
           ∷ n.no_handlers ∷ n.other_banks ∷ n.not_kept ∷ n.minus_zeros ∷ n.overwritten ∷ n.shared
-          ∷ [];
+          ∷ n.fixed_banks ∷ [];
       waits = n.waits;
       past = n.past;
       steps = n.steps;
@@ -68,6 +69,7 @@ pub(crate) struct Told {
     pub(crate) minus_zeros: u64,
     pub(crate) overwritten: u64,
     pub(crate) shared: u64,
+    pub(crate) fixed_banks: u64,
 }
 
 /// Nothing is told.
@@ -82,10 +84,11 @@ pub(crate) const NOTHING: Told = Told {
     minus_zeros: 0,
     overwritten: 0,
     shared: 0,
+    fixed_banks: 0,
 };
 
 impl Notebook {
-    /// Nothing has happened in runs of a program whose words name some erasable places. All memory is taken here.
+    /// Nothing has happened in runs of a program whose words name some places. All memory is taken here.
     pub fn new(alloc: Global, named: NamedPlaces) -> Result<Notebook, AllocError>
         ensures { IfOk result (λ notebook. (scenario : Scenario) → Counted named scenario 0 notebook) }
     {
@@ -101,6 +104,7 @@ impl Notebook {
             minus_zeros: Ledger::new(alloc)?,
             overwritten: Ledger::new(alloc)?,
             shared: Ledger::new(alloc)?,
+            fixed_banks: Ledger::new(alloc)?,
             waits: Waits::none(),
             past: Past::none(),
             steps: 0,
@@ -143,6 +147,7 @@ impl Notebook {
         let parts_zeros = happens(named, processor, machine, past, step, Kind::MinusZero);
         let overwrites = happens(named, processor, machine, past, step, Kind::Overwritten);
         let shares = happens(named, processor, machine, past, step, Kind::Shared);
+        let reaches_fixed = happens(named, processor, machine, past, step, Kind::FixedBank);
         let first_quotient = self.quotients.count(number, divides);
         let first_skip = self.skips.count(number, is_skipping);
         let first_no_word = self.no_words.count(number, has_no_word);
@@ -153,6 +158,7 @@ impl Notebook {
         let first_minus_zero = self.minus_zeros.count(number, parts_zeros);
         let first_overwritten = self.overwritten.count(number, overwrites);
         let first_shared = self.shared.count(number, shares);
+        let first_fixed_bank = self.fixed_banks.count(number, reaches_fixed);
         let is_first = is_some(
             first_quotient,
             first_skip,
@@ -164,6 +170,7 @@ impl Notebook {
             first_minus_zero,
             first_overwritten,
             first_shared,
+            first_fixed_bank,
         );
         self.steps += 1;
         self.last = latest(is_first, self.steps, self.last);
@@ -231,6 +238,7 @@ impl Notebook {
         let parts_zeros = happens(named, processor, machine, past, step, Kind::MinusZero);
         let overwrites = happens(named, processor, machine, past, step, Kind::Overwritten);
         let shares = happens(named, processor, machine, past, step, Kind::Shared);
+        let reaches_fixed = happens(named, processor, machine, past, step, Kind::FixedBank);
         let quotients = self.quotients.take(number, divides);
         let skips = self.skips.take(number, is_skipping);
         let no_words = self.no_words.take(number, has_no_word);
@@ -241,6 +249,7 @@ impl Notebook {
         let minus_zeros = self.minus_zeros.take(number, parts_zeros);
         let overwritten = self.overwritten.take(number, overwrites);
         let shared = self.shared.take(number, shares);
+        let fixed_banks = self.fixed_banks.take(number, reaches_fixed);
         self.past.note(machine, step);
         Told {
             quotients,
@@ -253,11 +262,12 @@ impl Notebook {
             minus_zeros,
             overwritten,
             shared,
+            fixed_banks,
         }
     }
 }
 
-/// Whether one of the ten kinds is so.
+/// Whether one of the eleven kinds is so.
 fn is_some(
     quotient: bool,
     skip: bool,
@@ -269,10 +279,11 @@ fn is_some(
     minus_zero: bool,
     overwritten: bool,
     shared: bool,
+    fixed_bank: bool,
 ) -> bool
     ensures { result ≡ (quotient || (skip ||
         (no_word || (in_erasable || (no_handler
-        || (other_bank || (not_kept || (minus_zero || (overwritten || shared))))))))) }
+        || (other_bank || (not_kept || (minus_zero || (overwritten || (shared || fixed_bank)))))))))) }
 {
     quotient
         || skip
@@ -284,6 +295,7 @@ fn is_some(
         || minus_zero
         || overwritten
         || shared
+        || fixed_bank
 }
 
 /// The later of two steps, where something has happened in it for the first time.

@@ -50,6 +50,7 @@ fn kind_word(kind: Kind) -> &'static [u8]
         Kind::MinusZero => b"MINUSZERO",
         Kind::Overwritten => b"OVERWRITTEN",
         Kind::Shared => b"SHARED",
+        Kind::FixedBank => b"FIXEDBANK",
     }
 }
 

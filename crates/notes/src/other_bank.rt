@@ -2,18 +2,18 @@
 
 ghost use Rattle.std.specs.Prelude.{◌≡◌, Some};
 ghost use Rattle.cpu.specs.Effects.{place_in};
-ghost use Rattle.notes.specs.Notes.{is_elsewhere, leads_elsewhere, place_named, reaches_other};
+ghost use Rattle.notes.specs.Notes.{is_elsewhere, is_erasable, leads_elsewhere, place_named, reaches_other};
 
 use cpu::{Fetched, Machine, named_address};
 use space::resolve::resolve;
-use space::{Addr12, Eras, Linear};
+use space::{Addr12, Linear};
 use yayul::NamedPlaces;
 
 /// How many words an erasable bank holds.
 const BANK_SIZE: u16 = 0o400;
 
-/// Whether an instruction reaches another bank than that of the erasable place that its source names. What INDEX added
-/// something to is passed over, and so is a word that waited.
+/// Whether an instruction reaches another bank than that of the place that its source names. What INDEX added something
+/// to is passed over, and so is a word that waited.
 pub(crate) fn reaches_other(named: &NamedPlaces, machine: &Machine, fetched: &Fetched) -> bool
     ensures { result ≡ reaches_other named.now machine.now fetched.now }
 {
@@ -26,8 +26,18 @@ pub(crate) fn reaches_other(named: &NamedPlaces, machine: &Machine, fetched: &Fe
     }
 }
 
-/// The erasable place that the source of the word at a place names.
-fn place_named(named: &NamedPlaces, place: &Linear) -> Option<Eras>
+/// Whether the place that the source of the word at a place names is one of erasable memory.
+pub(crate) fn names_erasable(named: &NamedPlaces, place: &Linear) -> bool
+    ensures { result ≡ is_erasable (place_named named.now place.now) }
+{
+    match place_named(named, place) {
+        Some(Linear::Erasable(_)) => true,
+        Some(Linear::Fixed(_, _)) | None => false,
+    }
+}
+
+/// The place that the source of the word at a place names.
+fn place_named(named: &NamedPlaces, place: &Linear) -> Option<Linear>
     ensures { result ≡ place_named named.now place.now }
 {
     match place {
@@ -36,23 +46,27 @@ fn place_named(named: &NamedPlaces, place: &Linear) -> Option<Eras>
     }
 }
 
-/// Whether an address leads to another bank than an erasable place's.
-fn leads_elsewhere(machine: &Machine, other: Eras, address: Option<Addr12>) -> bool
+/// Whether an address leads to another bank than a place's.
+fn leads_elsewhere(machine: &Machine, other: Linear, address: Option<Addr12>) -> bool
     ensures { result ≡ leads_elsewhere machine.now (Some other) address }
 {
     match address {
-        Some(address) => is_elsewhere(other, &place_at(machine, address)),
+        Some(address) => is_elsewhere(&other, &place_at(machine, address)),
         None => false,
     }
 }
 
-/// Whether a place is in another bank than an erasable one; a place of fixed memory is.
-fn is_elsewhere(other: Eras, place: &Linear) -> bool
-    ensures { result ≡ is_elsewhere other place.now }
+/// Whether a place is in another bank than one that is named.
+fn is_elsewhere(other: &Linear, place: &Linear) -> bool
+    ensures { result ≡ is_elsewhere other.now place.now }
 {
-    match place {
-        Linear::Erasable(place) => place.number() / BANK_SIZE != other.number() / BANK_SIZE,
-        Linear::Fixed(_, _) => true,
+    match (other, place) {
+        (Linear::Erasable(other), Linear::Erasable(place)) => {
+            place.number() / BANK_SIZE != other.number() / BANK_SIZE
+        }
+        (Linear::Fixed(other, _), Linear::Fixed(bank, _)) => bank.number() != other.number(),
+        (Linear::Erasable(_), Linear::Fixed(_, _)) | (Linear::Fixed(_, _), Linear::Erasable(_)) =>
+            true,
     }
 }
 

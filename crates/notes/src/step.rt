@@ -2,14 +2,14 @@
 
 ghost use Rattle.std.specs.Prelude.{◌≡◌, ◌*◌, ◌&&◌, ◌==◌, not};
 ghost use Rattle.rope.specs.Places.{stands};
-ghost use Rattle.notes.specs.Notes.{divides, happens_in, has_word, is_code_in_erasable, is_too_great, is_z, names_z};
-ghost use Rattle.notes.specs.Notes.{skips};
+ghost use Rattle.notes.specs.Notes.{divides, happens_in, has_word, is_code_in_erasable, is_too_great, is_way_back};
+ghost use Rattle.notes.specs.Notes.{is_z, names_z, skips};
 ghost use Rattle.notes.specs.RunNotes.{where_of};
 
 use crate::division::quotient_fits;
 use crate::keys::overwrites;
 use crate::kind::Kind;
-use crate::other_bank::{place_at, reaches_other};
+use crate::other_bank::{names_erasable, place_at, reaches_other};
 use crate::past::Past;
 use crate::sharing::{enters_shared, executes_shared};
 use crate::zeros::parts_zeros;
@@ -20,6 +20,11 @@ use space::{Eras, Linear};
 use trace::entry_place;
 use words::Overflow;
 use yayul::NamedPlaces;
+
+/// The words of TC to fixed memory, from a first one up to one that is none.
+const FIRST_FIXED: u16 = 0o2000;
+
+const NO_TC: u16 = 0o10000;
 
 /// Whether something of a kind happens in a step that a machine is to make, after what was before.
 pub(crate) fn happens(
@@ -42,8 +47,15 @@ pub(crate) fn happens(
         NextStep::Executes(fetched) => match kind {
             Kind::NoHandler | Kind::Overwritten => false,
             Kind::NoWord => !fetched.waited && !has_word(processor.rope(), &fetched.place),
-            Kind::InErasable => !fetched.waited && is_code_in_erasable(&fetched.place),
-            Kind::OtherBank => reaches_other(named, machine, fetched),
+            Kind::InErasable => {
+                !fetched.waited && is_code_in_erasable(&fetched.place) && !is_way_back(fetched)
+            }
+            Kind::OtherBank => {
+                reaches_other(named, machine, fetched) && names_erasable(named, &fetched.place)
+            }
+            Kind::FixedBank => {
+                reaches_other(named, machine, fetched) && !names_erasable(named, &fetched.place)
+            }
             Kind::Skip => skips(machine, fetched),
             Kind::Quotient => divides(processor, machine, fetched),
             Kind::NotKept => past.loses(machine, fetched),
@@ -95,6 +107,14 @@ fn is_code_in_erasable(place: &Linear) -> bool
         Linear::Erasable(place) => *place != Eras::Q,
         Linear::Fixed(_, _) => false,
     }
+}
+
+/// Whether an instruction is TC to a place of fixed memory, as each way back is that TC leaves in Q.
+fn is_way_back(fetched: &Fetched) -> bool
+    ensures { result ≡ is_way_back fetched.now }
+{
+    let word = fetched.word.to_u16();
+    !fetched.extra && FIRST_FIXED <= word && word < NO_TC
 }
 
 /// Whether TS skips: A overflows, and Z does not take it.

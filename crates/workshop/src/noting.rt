@@ -28,7 +28,7 @@ use trace::PlaceNames;
 use words::{Read, Write};
 use yayul::{Language, NamedPlaces, Symbols};
 
-/// The words of a program, its symbols, and the erasable places that its words name.
+/// The words of a program, its symbols, and the places that its words name.
 #[derive(Drop)]
 pub(crate) struct NamedCode {
     pub(crate) rope: Rope,
@@ -124,7 +124,7 @@ pub fn run_with_notes<P: Read, F: Read, W: Write, T: Write, N: Write>(
     )
 }
 
-/// Reads a program, and which erasable places its words name: those of an image none.
+/// Reads a program, and which places its words name: those of an image none.
 fn read_named<P: Read>(
     alloc: Global,
     origin: Origin,
@@ -160,7 +160,7 @@ fn read_unnamed<P: Read>(
     })
 }
 
-/// Reads a source of a language, and which erasable places its words name.
+/// Reads a source of a language, and which places its words name.
 fn read_named_source<P: Read>(
     alloc: Global,
     language: Language,

@@ -123,7 +123,7 @@ impl Program {
         )
     }
 
-    /// The erasable places that its words name. An `Err` is that memory ran out.
+    /// The places that its words name. An `Err` is that memory ran out.
     pub fn named_places(&self, alloc: Global) -> Result<NamedPlaces, AllocError>
         ensures { IfOk result (λ named. named ≡ named_places self.now) }
     {

@@ -1,10 +1,11 @@
-//! The erasable places that the words of a program name.
+//! The places of switched banks that the words of a program name.
 
 ghost use Rattle.std.specs.Prelude.{◌≡◌, ◌<◌, IfOk, map};
 ghost use Rattle.agc_text.specs.Lines.{lines};
 ghost use Rattle.rope.specs.Places.{place_number};
-ghost use Rattle.yayul.specs.Named.{content_names, erasable_of, given_in, holds_address, line_named, named_at};
-ghost use Rattle.yayul.specs.Named.{named_words, nothing_named, operand_names, operation_names};
+ghost use Rattle.yayul.specs.Named.{content_names, given_in, holds_address, is_switched_bank, is_switched_cell};
+ghost use Rattle.yayul.specs.Named.{line_named, named_at, named_words, nothing_named, operand_names, operation_names};
+ghost use Rattle.yayul.specs.Named.{switched_of};
 ghost use Rattle.yayul.specs.Inside.Names.{shown_named};
 ghost use Rattle.yayul.specs.Inside.Representation.{shown_by_mark};
 
@@ -16,7 +17,7 @@ use crate::mark::Mark;
 use crate::statement::statement_of;
 use crate::values::value_of;
 use agc_text::next_line;
-use space::{Bank, Eras, Offset};
+use space::{Bank, Eras, Linear, Offset};
 use std::alloc::{AllocError, Global};
 use std::marker::Model;
 use symbols::{FixedBank, Symbols, Value};
@@ -24,14 +25,18 @@ use symbols::{FixedBank, Symbols, Value};
 /// How many words a bank holds.
 const BANK_WORDS: usize = space::BANK_WORDS as usize;
 
+/// The first erasable place that EB switches.
+const FIRST_SWITCHED: u16 = 0o1400;
+
 /// How many places of fixed memory there are, those of the banks 044 to 047 included.
 const NAMED_WORDS: usize = 0o50 * BANK_WORDS;
 
-/// The erasable places that the words of a program name: those of the operands whose addresses stand in their fields.
+/// The places of switched banks that the words of a program name: those of the operands whose addresses stand in their
+/// fields.
 #[derive(Drop)]
 pub struct NamedPlaces {
     // For each place of fixed memory by its number.
-    places: Vec<Option<Eras>>,
+    places: Vec<Option<Linear>>,
 }
 
 impl Model for NamedPlaces {
@@ -55,8 +60,8 @@ impl NamedPlaces {
         Ok(NamedPlaces { places })
     }
 
-    /// The erasable place that the word at a place names.
-    pub fn named_at(&self, bank: Bank, offset: Offset) -> Option<Eras>
+    /// The place that the word at a place names.
+    pub fn named_at(&self, bank: Bank, offset: Offset) -> Option<Linear>
         ensures { result ≡ named_at self.now bank offset }
     {
         self.places[word_number(bank, offset)]
@@ -116,8 +121,8 @@ fn word_number(bank: Bank, offset: Offset) -> usize
     usize::from(bank.number()) * BANK_WORDS + usize::from(offset.number())
 }
 
-// The erasable place that the word of a line names.
-fn operation_names(symbols: &Symbols, operation: &Operation) -> Option<Eras>
+// The place that the word of a line names.
+fn operation_names(symbols: &Symbols, operation: &Operation) -> Option<Linear>
     ensures { result ≡ operation_names symbols.now operation.now }
 {
     match operation {
@@ -126,8 +131,8 @@ fn operation_names(symbols: &Symbols, operation: &Operation) -> Option<Eras>
     }
 }
 
-// The erasable place that the word of a content names.
-fn content_names(symbols: &Symbols, content: &Content) -> Option<Eras>
+// The place that the word of a content names.
+fn content_names(symbols: &Symbols, content: &Content) -> Option<Linear>
     ensures { result ≡ content_names symbols.now content.now }
 {
     match content {
@@ -138,33 +143,60 @@ fn content_names(symbols: &Symbols, content: &Content) -> Option<Eras>
     }
 }
 
-// Whether a field holds the address of what an instruction reads or writes, wherever that is.
+// Whether a field holds the address of what an instruction reads, writes or jumps to.
 fn holds_address(takes: Takes) -> bool
     ensures { result ≡ holds_address takes }
 {
     match takes {
-        Takes::Address | Takes::Pair => true,
-        Takes::FixedAddress | Takes::Channel | Takes::ErasablePlace | Takes::FixedPlace => false,
+        Takes::Address | Takes::Pair | Takes::FixedAddress => true,
+        Takes::Channel | Takes::ErasablePlace | Takes::FixedPlace => false,
     }
 }
 
-// The erasable place that an operand names, moved by its offset. One that counts from its own line names a fixed place.
-fn operand_names(symbols: &Symbols, operand: &Operand) -> Option<Eras>
+// The place that an operand names, moved by its offset. One that counts from its own line names none.
+fn operand_names(symbols: &Symbols, operand: &Operand) -> Option<Linear>
     ensures { result ≡ operand_names symbols.now operand.now }
 {
     let here = Location::Fixed(FixedBank::two(), 0);
     match value_of(FaultKind::Undefined, symbols, here, operand) {
-        Ok(value) => erasable_of(value),
+        Ok(value) => switched_of(value),
         Err(_) => None,
     }
 }
 
-// The erasable place that a value is.
-fn erasable_of(value: Value) -> Option<Eras>
-    ensures { result ≡ erasable_of value }
+// The place of a switched bank that a value is.
+fn switched_of(value: Value) -> Option<Linear>
+    ensures { result ≡ switched_of value }
 {
     match value {
-        Value::Erasable(place) => Some(place),
-        Value::Num(_) | Value::Fixed(..) => None,
+        Value::Num(_) => None,
+        Value::Erasable(place) => {
+            if is_switched_cell(place) {
+                Some(Linear::Erasable(place))
+            } else {
+                None
+            }
+        }
+        Value::Fixed(bank, offset) => {
+            if is_switched_bank(bank.bank()) {
+                Some(Linear::Fixed(bank.bank(), offset))
+            } else {
+                None
+            }
+        }
     }
+}
+
+// Whether EB switches a place of erasable memory: those from 01400 on.
+fn is_switched_cell(place: Eras) -> bool
+    ensures { result ≡ is_switched_cell place }
+{
+    place.number() >= FIRST_SWITCHED
+}
+
+// Whether FB switches a bank of fixed memory: each but 2 and 3.
+fn is_switched_bank(bank: Bank) -> bool
+    ensures { result ≡ is_switched_bank bank }
+{
+    !(bank.number() == 2 || bank.number() == 3)
 }

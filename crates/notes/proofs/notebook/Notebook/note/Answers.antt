@@ -10,7 +10,7 @@ returns-then-is_quiet_step c =
       counts = c.self.inside.quotients ∷ c.self.inside.skips ∷ c.self.inside.no_words
           ∷ c.self.inside.in_erasable ∷ c.self.inside.no_handlers ∷ c.self.inside.other_banks ∷ c.self.inside.not_kept
           ∷ c.self.inside.minus_zeros ∷ c.self.inside.overwritten ∷ c.self.inside.shared
-          ∷ [];
+          ∷ c.self.inside.fixed_banks ∷ [];
       waits = c.self.inside.waits;
       past = c.self.inside.past;
       steps = c.self.inside.steps;

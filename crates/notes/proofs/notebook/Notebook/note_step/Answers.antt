@@ -1,6 +1,6 @@
 use Rattle.std.proofs.Common.{◌∙◌, ap, subst, sym, refl, [], ◌∷◌, ◌+◌, if◌then◌else◌}
 use Rattle.notes.specs.declared.kind.Kind.TheVariants.{Quotient, Skip, NoWord, InErasable, NoHandler, OtherBank, NotKept, MinusZero}
-use Rattle.notes.specs.declared.kind.Kind.TheVariants.{Overwritten, Shared}
+use Rattle.notes.specs.declared.kind.Kind.TheVariants.{Overwritten, Shared, FixedBank}
 use Rattle.notes.specs.Notes.{happens_in}
 use Rattle.notes.specs.Counted.{Book, counts_of, is_first, Notes}
 use Rattle.notes.proofs.Counting.{noted, of_kinds, small_at, some_by}
@@ -56,6 +56,11 @@ count-first_shared-requires-clause-small c =
     small_at _ c.args.self.now _ _ Shared (ap (λ book. counts_of book Shared) c.self.view_is) c.requires.small
     c.number_of-number.ensures.known c.number_of-number.ensures.number
 
+pub count-first_fixed_bank-requires-clause-small : goal.count-first_fixed_bank-requires-clause-small
+count-first_fixed_bank-requires-clause-small c =
+    small_at _ c.args.self.now _ _ FixedBank (ap (λ book. counts_of book FixedBank) c.self.view_is) c.requires.small
+    c.number_of-number.ensures.known c.number_of-number.ensures.number
+
 pub returns : goal.returns
 returns c =
     let old : Book = record {
@@ -63,7 +68,7 @@ returns c =
       counts = c.self.inside.quotients ∷ c.self.inside.skips ∷ c.self.inside.no_words
           ∷ c.self.inside.in_erasable ∷ c.self.inside.no_handlers ∷ c.self.inside.other_banks ∷ c.self.inside.not_kept
           ∷ c.self.inside.minus_zeros ∷ c.self.inside.overwritten ∷ c.self.inside.shared
-          ∷ [];
+          ∷ c.self.inside.fixed_banks ∷ [];
       waits = c.self.inside.waits;
       past = c.self.inside.past;
       steps = c.self.inside.steps;
@@ -75,7 +80,7 @@ returns c =
           ∷ c.count-first_no_word.new.self ∷ c.count-first_in_erasable.new.self ∷ c.count-first_no_handler.new.self
           ∷ c.count-first_other_bank.new.self ∷ c.count-first_not_kept.new.self ∷ c.count-first_minus_zero.new.self
           ∷ c.count-first_overwritten.new.self ∷ c.count-first_shared.new.self
-          ∷ [];
+          ∷ c.count-first_fixed_bank.new.self ∷ [];
       waits = c.note.new.self;
       past = c.note-2.new.self;
       steps = c.self.inside.steps + 1;
@@ -83,7 +88,7 @@ returns c =
     } in
     let number = c.number_of-number.result in
     let some = some_by (λ kind. is_first (counts_of old kind) number
-    (happens_in old.named c.args.processor.now.scenario.rope c.args.machine.now old.past kind c.args.step.now)) _ _ _ _ _ _ _ _ _ _
+    (happens_in old.named c.args.processor.now.scenario.rope c.args.machine.now old.past kind c.args.step.now)) _ _ _ _ _ _ _ _ _ _ _
     (ap (λ b. is_first (counts_of old Quotient) number b) (sym c.happens-divides.ensures) ∙ sym c.count-first_quotient.ensures.first)
     (ap (λ b. is_first (counts_of old Skip) number b) (sym c.happens-is_skipping.ensures) ∙ sym c.count-first_skip.ensures.first)
     (ap (λ b. is_first (counts_of old NoWord) number b) (sym c.happens-has_no_word.ensures) ∙ sym c.count-first_no_word.ensures.first)
@@ -98,6 +103,8 @@ returns c =
     (ap (λ b. is_first (counts_of old Overwritten) number b) (sym c.happens-overwrites.ensures)
     ∙ sym c.count-first_overwritten.ensures.first)
     (ap (λ b. is_first (counts_of old Shared) number b) (sym c.happens-shares.ensures) ∙ sym c.count-first_shared.ensures.first)
+    (ap (λ b. is_first (counts_of old FixedBank) number b) (sym c.happens-reaches_fixed.ensures)
+    ∙ sym c.count-first_fixed_bank.ensures.first)
     ∙ sym c.is_some-is_first.ensures in
     let last = c.latest-self-inside.ensures ∙ ap (λ b. if b then new.steps else old.last) (sym some) in
     subst (λ old. Notes c.args.processor.now.scenario c.args.machine.now old new) c.self.view_is
@@ -112,5 +119,6 @@ returns c =
     (rw c.happens-loses.ensures at c.count-first_not_kept.ensures.counted)
     (rw c.happens-parts_zeros.ensures at c.count-first_minus_zero.ensures.counted)
     (rw c.happens-overwrites.ensures at c.count-first_overwritten.ensures.counted)
-    (rw c.happens-shares.ensures at c.count-first_shared.ensures.counted))
+    (rw c.happens-shares.ensures at c.count-first_shared.ensures.counted)
+    (rw c.happens-reaches_fixed.ensures at c.count-first_fixed_bank.ensures.counted))
     refl c.note.ensures c.note-2.ensures refl last)

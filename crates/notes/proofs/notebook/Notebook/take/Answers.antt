@@ -17,13 +17,13 @@ returns-then-is_quiet_step-clause-told c =
       counts = c.self.inside.quotients ∷ c.self.inside.skips ∷ c.self.inside.no_words
           ∷ c.self.inside.in_erasable ∷ c.self.inside.no_handlers ∷ c.self.inside.other_banks ∷ c.self.inside.not_kept
           ∷ c.self.inside.minus_zeros ∷ c.self.inside.overwritten ∷ c.self.inside.shared
-          ∷ [];
+          ∷ c.self.inside.fixed_banks ∷ [];
       waits = c.self.inside.waits;
       past = c.self.inside.past;
       steps = c.self.inside.steps;
       last = c.self.inside.last;
     } in
     subst (λ book. (kind : Kind) → told_of _ kind ≡ taken_at c.args.processor.now.scenario c.args.machine.now book kind) c.self.view_is
-    (λ kind. of_kinds (λ k. told_of _ k ≡ 0) refl refl refl refl refl refl refl refl refl refl kind ∙ sym
+    (λ kind. of_kinds (λ k. told_of _ k ≡ 0) refl refl refl refl refl refl refl refl refl refl refl kind ∙ sym
     (quiet_told c.args.processor.now.scenario c.args.machine.now c.next_step-step.result old (c.next_step-step.ensures c.requires.fits)
     (sym c.is_quiet_step.ensures ∙ c.if-is_quiet_step.true) kind))

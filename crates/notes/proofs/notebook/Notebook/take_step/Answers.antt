@@ -12,7 +12,7 @@ returns-clause-takes c =
       counts = c.take-quotients.new.self ∷ c.take-skips.new.self
           ∷ c.take-no_words.new.self ∷ c.take-in_erasable.new.self ∷ c.take-no_handlers.new.self ∷ c.take-other_banks.new.self
           ∷ c.take-not_kept.new.self ∷ c.take-minus_zeros.new.self ∷ c.take-overwritten.new.self ∷ c.take-shared.new.self
-          ∷ [];
+          ∷ c.take-fixed_banks.new.self ∷ [];
       waits = c.self.inside.waits;
       past = c.note.new.self;
       steps = c.self.inside.steps;
@@ -27,7 +27,8 @@ returns-clause-takes c =
     (rw c.happens-has_no_handler.ensures at c.take-no_handlers.ensures.left)
     (rw c.happens-reaches_other.ensures at c.take-other_banks.ensures.left) (rw c.happens-loses.ensures at c.take-not_kept.ensures.left)
     (rw c.happens-parts_zeros.ensures at c.take-minus_zeros.ensures.left)
-    (rw c.happens-overwrites.ensures at c.take-overwritten.ensures.left) (rw c.happens-shares.ensures at c.take-shared.ensures.left))
+    (rw c.happens-overwrites.ensures at c.take-overwritten.ensures.left) (rw c.happens-shares.ensures at c.take-shared.ensures.left)
+    (rw c.happens-reaches_fixed.ensures at c.take-fixed_banks.ensures.left))
     refl refl c.note.ensures)
 
 pub returns-clause-told : goal.returns-clause-told
@@ -42,8 +43,8 @@ returns-clause-told c =
       not_kept = c.take-not_kept.result;
       minus_zeros = c.take-minus_zeros.result;
       overwritten = c.take-overwritten.result;
-      shared
-          = c.take-shared.result;
+      shared = c.take-shared.result;
+      fixed_banks = c.take-fixed_banks.result;
     } in
     subst (λ old. (kind : Kind) → told_of out kind ≡ taken_at c.args.processor.now.scenario c.args.machine.now old kind) c.self.view_is
     (told_at c.args.processor.now.scenario c.args.machine.now c.args.step.now c.account_of.result c.number_of-number.result
@@ -52,7 +53,7 @@ returns-clause-told c =
       counts = c.self.inside.quotients ∷ c.self.inside.skips ∷ c.self.inside.no_words
           ∷ c.self.inside.in_erasable ∷ c.self.inside.no_handlers ∷ c.self.inside.other_banks ∷ c.self.inside.not_kept
           ∷ c.self.inside.minus_zeros ∷ c.self.inside.overwritten ∷ c.self.inside.shared
-          ∷ [];
+          ∷ c.self.inside.fixed_banks ∷ [];
       waits = c.self.inside.waits;
       past = c.self.inside.past;
       steps = c.self.inside.steps;
@@ -66,4 +67,5 @@ returns-clause-told c =
     (rw c.happens-has_no_handler.ensures at c.take-no_handlers.ensures.out)
     (rw c.happens-reaches_other.ensures at c.take-other_banks.ensures.out) (rw c.happens-loses.ensures at c.take-not_kept.ensures.out)
     (rw c.happens-parts_zeros.ensures at c.take-minus_zeros.ensures.out)
-    (rw c.happens-overwrites.ensures at c.take-overwritten.ensures.out) (rw c.happens-shares.ensures at c.take-shared.ensures.out)))
+    (rw c.happens-overwrites.ensures at c.take-overwritten.ensures.out) (rw c.happens-shares.ensures at c.take-shared.ensures.out)
+    (rw c.happens-reaches_fixed.ensures at c.take-fixed_banks.ensures.out)))
