@@ -185,7 +185,7 @@ WARNINGS = [
     (" CA 60; CA 61; CS 0; TS 5; CA 5 +1; CA 00005", [(1, 5, 2), (3, 5, 2), (6, 2, 4), (6, 5, 2)]),
     (" EXTEND; MP 7; INDEX 5; CA 5D", [(2, 5, 2), (4, 2, 4)]),
     (" SETLOC 100;X ERASE;Y ERASE +1; SETLOC 4000; DXCH X; DXCH Y; DAS X; EXTEND; DCA X; EXTEND; DCS X +1; TS X", [(5, 7, 3), (7, 6, 3), (9, 6, 3), (12, 2, 4)]),
-    ("X OCT 1; CA Y;Y OCT 2", [(1, 1, 8), (2, 2, 4)]),
+    ("X OCT 1; CA Y;Y OCT 2", [(1, 1, 8), (1, 3, 11), (2, 2, 4)]),
     # an address to which INDEX adds is no number
     (" INDEX X; CA 0; NDX X;; MASK 1; CA 2;X OCT 1", [(6, 2, 4), (6, 5, 2)]),
     (" INDEX X;Y EQUALS 5; EBANK= 400; CA 0; TS Y; CA 0;X OCT 1", [(6, 2, 4), (6, 5, 2)]),
@@ -216,7 +216,7 @@ WARNINGS = [
     (" SETLOC 4000; CA Y; BANK 2; TCF 4000;Y EQUALS 100", [(2, 2, 4)]),
     (" BANK 5; CA Y; BLOCK 2; BANK 5; TCF 4000;Y EQUALS 100", [(2, 2, 4)]),
     (" BANK 5;A 2CADR 4000; CA A; CA Y;; BANK 5;# on; BANK 5; OCT 1; TCF 4000;Y EQUALS 100", [(2, 1, 7), (4, 2, 4)]),
-    (" SETLOC 4000;X 2CADR 4000; CA X; SETLOC 4003; TCF 4000", []),
+    (" SETLOC 4000;X 2CADR 4000; CA X; SETLOC 4003; TCF 4000", [(2, 3, 11)]),
     # a register's name at another place
     (" SETLOC 100;Q ERASE; SETLOC 4000; TS Q;D TCF D;ZERO OCT 0; CA ZERO; TCF D", [(2, 1, 7)]),
     (" SETLOC 0;A ERASE;Q ERASE; SETLOC 4000; TC A; TC Q", [(3, 1, 7)]),
@@ -237,6 +237,7 @@ SILENT = [
     ("", " SETLOC 100|X ERASE|Y ERASE| SETLOC 4000| DXCH X| TS Y|DONE TCF DONE", [(5, 7, "W3: DXCH takes two words, and ERASE reserves one for X", "X ERASE +1 reserves two")]),
     ("run --notes: an interrupt without a routine", " RELINT|LOOP TCF LOOP", []),
     ("", " CA FIVE| EXTEND| WRITE 1|DONE TCF DONE|FIVE OCT 5", [(3, 8, "W10: channel 1 is a register, L or Q, and nothing goes out", "another channel, or, where the register is meant, its name: L EQUALS 1, Q EQUALS 2")]),
+    ("", "FIVE OCT 5| CA FIVE|DONE TCF DONE", [(1, 6, "W11: a run starts here, at 4000, and OCT is no instruction", "the program first, or a jump to it, and constants behind its last jump")]),
     ("", " SETLOC 2000|VAR ERASE| SETLOC 4000| CA FIVE| TS VAR|DONE TCF DONE|FIVE OCT 5", [
         (5, 5, "W6: VAR stands in a switched erasable bank, and no line sets EB", "NAME ECADR VAR on a line of its own; before this CA NAME, and TS 3, which is EB")]),
     ("", " SETLOC 100|Q ERASE| SETLOC 4000| TS Q|DONE TCF DONE", [(2, 1, "W7: Q is a register's name, and stands for another place here", "Q EQUALS 2 is the register")]),
@@ -509,7 +510,7 @@ class Check(Case):
         """Each warning of rows/refusals.txt is drawn on its line."""
         rows = re.findall(r"^\| W(\d+) \| (.*) \| `(.*)` \| (\d+) \|$", rows_of_refusals(), re.M)
         with self.subTest("the rows of warnings"):
-            self.assertEqual([int(it[0]) for it in rows], [*range(1, 11)])
+            self.assertEqual([int(it[0]) for it in rows], [*range(1, 12)])
         for number, mistake, source, line in rows:
             got = list(rows_explained(PROGRAM, f"W{number}"))
             with self.subTest(f"explain W{number} and refusals.txt"):
@@ -527,8 +528,8 @@ class Check(Case):
             self.assertTrue(ran("17") == ran("E17") or ran("17").stdout == ran("E17").stdout)
         warned = [int(it) for it in re.findall(rb"^W(\d+): .", ran().stdout, re.M)]
         with self.subTest("explain lists the numbers of warnings"):
-            self.assertEqual(warned, [*range(1, 11)])
-        for word in ("99", "E1", "X", "E", "256", "W", "W0", "W11", "w4"):
+            self.assertEqual(warned, [*range(1, 12)])
+        for word in ("99", "E1", "X", "E", "256", "W", "W0", "W12", "w4"):
             got = ran(word)
             with self.subTest(f"explain {word}"):
                 self.assertEqual((got.returncode, got.stdout, got.stderr), (2, b"", b"error: no refusal, no warning and no note is called so; agcws explain lists them\n"))

@@ -36,7 +36,7 @@ warned_rows =
     ∷ (codes " CA 60; CA 61; CS 0; TS 5; CA 5 +1; CA 00005", (1, 5, 2, 2) ∷ (3, 5, 1, 2) ∷ (6, 2, 2, 4) ∷ (6, 5, 5, 2) ∷ [])
     ∷ (codes " INDEX X; CA 0; NDX X;; MASK 1; CA 2;X ERASE", (6, 2, 2, 4) ∷ (6, 5, 1, 2) ∷ [])
     ∷ (codes "X ERASE;Y ERASE +1; DXCH X; DXCH Y; DAS X +1; DCA X; TS X", (3, 7, 1, 3) ∷ (6, 6, 1, 3) ∷ (7, 2, 2, 4) ∷ [])
-    ∷ (codes "X OCT 1; CA Y;Y OCT 2", (1, 1, 1, 8) ∷ (2, 2, 2, 4) ∷ [])
+    ∷ (codes "X OCT 1; CA Y;Y OCT 2", (1, 1, 1, 8) ∷ (1, 3, 3, 11) ∷ (2, 2, 2, 4) ∷ [])
     ∷ (codes "CA FIV;LONGLABEL OCT 5", (1, 1, 2, 1) ∷ (1, 1, 2, 8) ∷ [])
     -- a routine without its way back, and a word that is read and executed elsewhere
     ∷ (codes " TC F;D TCF D;F CA O;O OCT 1", (3, 3, 2, 4) ∷ [])
@@ -60,6 +60,11 @@ warned_rows =
       (1, 8, 1, 10)
           ∷ (2, 7, 1, 10) ∷ (3, 6, 2, 10) ∷ [],
     )
+    -- a constant or an address where a run starts, before an instruction and alone
+    ∷ (codes "X OCT 5; CA X;D TCF D", (1, 3, 3, 11) ∷ [])
+    ∷ (codes " SETLOC 4100;D TCF D; SETLOC 4000; CADR D", (4, 2, 4, 11) ∷ [])
+    ∷ (codes " SETLOC 4001;X OCT 5; CA X;D TCF D", [])
+    ∷ (codes " OCT 5; DEC 6", [])
     -- names of registers
     ∷ (codes " SETLOC 100;Q ERASE; SETLOC 4000; TS Q;D TCF D", (2, 1, 1, 7) ∷ [])
     ∷ (codes " SETLOC 0;A ERASE;Q ERASE; SETLOC 4000; TC A; TC Q", (3, 1, 1, 7) ∷ [])

@@ -441,4 +441,6 @@ warning_cause parts number =
     (codes "NAME FCADR @ on a line of its own; before this CA NAME, and TS 4, which is FB; for banks 40 to 43 WRITE 7 of 100 too")
     else if number == 10 then cured (codes "channel @ is a register, L or Q, and nothing goes out")
     (codes "another channel, or, where the register is meant, its name: L EQUALS 1, Q EQUALS 2")
+    else if number == 11 then cured (codes "a run starts here, at 4000, and % is no instruction")
+    (codes "the program first, or a jump to it, and constants behind its last jump")
     else said []

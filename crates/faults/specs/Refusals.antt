@@ -58,7 +58,7 @@ heading number = codes "E" ++ decimal number ++ codes ": " ++ meaning number ++ 
 
 -- the numbers of warnings
 abbrev pub warning_numbers : List ℕ
-warning_numbers = 1 ∷ 2 ∷ 3 ∷ 4 ∷ 5 ∷ 6 ∷ 7 ∷ 8 ∷ 9 ∷ 10 ∷ []
+warning_numbers = 1 ∷ 2 ∷ 3 ∷ 4 ∷ 5 ∷ 6 ∷ 7 ∷ 8 ∷ 9 ∷ 10 ∷ 11 ∷ []
 
 abbrev pub is_warned : ℕ → Bool
 is_warned number = list_any (λ n. n == number) warning_numbers
@@ -76,6 +76,7 @@ warning_meaning number =
     else if number == 8 then codes "no operand names a label"
     else if number == 9 then codes "a switched bank of fixed memory is reached, and no line sets FB"
     else if number == 10 then codes "a word is written on a channel that is a register, and does not go out"
+    else if number == 11 then codes "a constant or an address stands where a run starts"
     else []
 
 -- the number of a warning, and what it means

@@ -271,11 +271,21 @@ banks_after banks parts = record {
   fixed_registers = with_bank_name Fb banks.fixed_registers parts;
   stored = with_stored banks.stored parts;
   far = banks.far || sets_bank parts.role;
+  instructs = banks.instructs || is_instruction parts;
 }
 
 -- a source begins at 4000
 abbrev pub no_banks : Banks
-no_banks = record { region = Common; erasable = []; fixed = []; erasable_registers = []; fixed_registers = []; stored = []; far = false }
+no_banks = record {
+  region = Common;
+  erasable = [];
+  fixed = [];
+  erasable_registers = [];
+  fixed_registers = [];
+  stored = [];
+  far = false;
+  instructs = false;
+}
 
 abbrev pub banks_of : List Parts → Banks
 banks_of lines = fold (λ banks parts. banks_after banks parts) no_banks lines
@@ -349,6 +359,12 @@ abbrev pub output_warnings : ℕ → Parts → List Warning
 output_warnings line parts = at_field (λ p. warned_if (has_alone (has_operator output_operators parts) parts && is_register_channel p.text)
     line 10 p) parts.operand
 
+-- ## 11: a constant or an address at 4000, where a run starts, while an instruction stands in the source
+abbrev pub start_warnings : Bool → Option ℕ → ℕ → Parts → List Warning
+start_warnings instructs place line parts =
+    at_field (λ p. warned_if (instructs && is_same_known place (Some 0o4000) && gives_word parts && is_constant parts.role) line 11 p)
+    parts.operator
+
 -- ## What stands before a line
 -- how many words a vector has after a line, or nothing where none is filled
 abbrev pub filled_after : Option ℕ → Parts → Option ℕ
@@ -396,7 +412,8 @@ name_warnings language unused names before line parts = label_warnings language 
 -- the warnings of its operator, by what stands before it and the lines after it
 abbrev pub flow_warnings : Language → Names → Before → List Parts → ℕ → Parts → List Warning
 flow_warnings language names before after line parts
-    = (if is_standard language then end_warnings names.read before after line parts else []) ++ vector_warnings before line parts
+    = (if is_standard language then end_warnings names.read before after line parts
+    ++ start_warnings names.banks.instructs before.place line parts else []) ++ vector_warnings before line parts
 
 -- the warnings of its operand
 abbrev pub operand_warnings : Names → Before → ℕ → Parts → List Warning

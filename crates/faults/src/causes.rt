@@ -167,6 +167,10 @@ pub(crate) fn warning_cause(parts: &Reading<'_>, number: u8) -> Cause
             b"channel @ is a register, L or Q, and nothing goes out",
             b"another channel, or, where the register is meant, its name: L EQUALS 1, Q EQUALS 2",
         ),
+        11 => Cause::cured(
+            b"a run starts here, at 4000, and % is no instruction",
+            b"the program first, or a jump to it, and constants behind its last jump",
+        ),
         _ => Cause::said(b""),
     }
 }

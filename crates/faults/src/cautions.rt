@@ -6,7 +6,7 @@ ghost use Rattle.faults.specs.Refusals.{warning_meaning, is_warned};
 use crate::refusals::Refusal;
 
 /// The numbers, rising.
-pub const WARNING_NUMBERS: [u8; 10] = [1, 2, 3, 4, 5, 6, 7, 8, 9, 10];
+pub const WARNING_NUMBERS: [u8; 11] = [1, 2, 3, 4, 5, 6, 7, 8, 9, 10, 11];
 
 /// The warning of a number, where there is one, and what draws it.
 pub fn warning_of(number: u8) -> Option<Refusal>
@@ -23,6 +23,7 @@ pub fn warning_of(number: u8) -> Option<Refusal>
         8 => CAUSES_8,
         9 => CAUSES_9,
         10 => CAUSES_10,
+        11 => CAUSES_11,
         _ => return None,
     };
     Some(Refusal { number, causes })
@@ -43,6 +44,7 @@ pub(crate) fn warning_meaning(number: u8) -> &'static [u8]
         8 => b"no operand names a label",
         9 => b"a switched bank of fixed memory is reached, and no line sets FB",
         10 => b"a word is written on a channel that is a register, and does not go out",
+        11 => b"a constant or an address stands where a run starts",
         _ => b"",
     }
 }
@@ -126,4 +128,12 @@ const CAUSES_10: &[u8] = b"
   >  WRITE 1
     D TCF D
   Cure: the channel that is meant, as 10; where the register is, LXCH or QXCH, or L EQUALS 1 and WRITE L
+";
+
+const CAUSES_11: &[u8] = b"
+- a constant or an address at 4000, where a run starts, in a source with an instruction; and not with --flight
+  > X OCT 5
+     CA X
+    D TCF D
+  Cure: the program first, or a jump to it, and constants behind its last jump
 ";

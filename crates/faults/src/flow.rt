@@ -1,11 +1,11 @@
 //! Likely mistakes in where a program goes on: to a constant, or from a vector into the next.
 
-ghost use Rattle.std.specs.Prelude.{◌≡◌, ◌≤◌, ◌++◌, map, false, OnOk};
+ghost use Rattle.std.specs.Prelude.{◌≡◌, ◌≤◌, ◌++◌, map, false, OnOk, Some};
 ghost use Rattle.yayul.specs.Readings.{parts_in};
 ghost use Rattle.faults.specs.Warnings.{gives_word, is_instruction, is_jump_register, is_jump_place, leaves};
 ghost use Rattle.faults.specs.Warnings.{goes_on_to_instruction, end_warnings, is_vector, sets_vector, word_count};
 ghost use Rattle.faults.specs.Warnings.{is_overrun, vector_warnings, filled_after, before_next, at_start};
-ghost use Rattle.faults.specs.Warnings.{is_among};
+ghost use Rattle.faults.specs.Warnings.{is_among, is_same_known, start_warnings};
 ghost use Rattle.agc_text.specs.Digits.{digits_value};
 ghost use Rattle.agc_text.specs.Tables.{value_in};
 ghost use Rattle.agc_text.specs.Views.{piece};
@@ -176,6 +176,36 @@ pub(crate) fn warn_of_end(
         }
         None => Ok(()),
     }
+}
+
+/// A constant or an address where a run starts, while an instruction stands in the source.
+pub(crate) fn warn_of_start(
+    instructs: bool,
+    place: Option<u32>,
+    line: u32,
+    parts: &Reading<'_>,
+    found: &mut Vec<Warning>,
+) -> Result<(), AllocError>
+    ensures { OnOk result (found.new.items
+        ≡ found.old.items ++ start_warnings instructs place line (parts_in parts.now)) }
+{
+    match parts.operator {
+        Some(operator) => {
+            let starts = instructs
+                && is_start(place)
+                && gives_word(parts)
+                && is_constant(parts.role);
+            warn_if(starts, line, 11, operator, found)
+        }
+        None => Ok(()),
+    }
+}
+
+// Whether a place is known to be the one where a run starts.
+fn is_start(place: Option<u32>) -> bool
+    ensures { result ≡ is_same_known place (Some 0o4000) }
+{
+    matches!(place, Some(0o4000))
 }
 
 // Whether the label of a line is among those that are read.

@@ -13,7 +13,7 @@ ghost use Rattle.faults.specs.Warnings.{with_single, pair_warnings, unused_warni
 ghost use Rattle.faults.specs.Warnings.{operand_warnings, erasable_warnings, fixed_warnings, with_read, banks_after};
 ghost use Rattle.faults.specs.Warnings.{names_of, at_start, line_warnings, lines_apart, warned_lines, warnings};
 
-use crate::flow::{Before, is_instruction, warn_of_end, warn_of_vector};
+use crate::flow::{Before, is_instruction, warn_of_end, warn_of_start, warn_of_vector};
 use crate::names::{NameSet, is_among, is_short};
 use crate::outputs::warn_of_output;
 use crate::registers::warn_of_register;
@@ -215,6 +215,7 @@ impl Names {
     {
         if matches!(language, Language::Standard) {
             warn_of_end(&self.read, before, after, line, parts, found)?;
+            warn_of_start(self.banks.instructs, before.place, line, parts, found)?;
         }
         warn_of_vector(before, line, parts, found)
     }

@@ -10,6 +10,7 @@ ghost use Rattle.faults.specs.Warnings.{is_switched_erasable, is_switched_fixed,
 ghost use Rattle.faults.specs.Warnings.{is_bank_place, is_bank_number, is_bank_field, with_bank_name, with_stored};
 ghost use Rattle.faults.specs.Warnings.{banks_after, no_banks, may_set_erasable, may_set_fixed};
 
+use crate::flow::is_instruction;
 use crate::mistakes::{add_field, has_alone};
 use crate::names::NameSet;
 use crate::roles::{is_equals, is_erase, is_setloc, names_bank, sets_bank, stores};
@@ -56,6 +57,8 @@ pub(crate) struct Banks {
     pub(crate) stored: NameSet,
     /// Whether DTCB or DTCF stands.
     pub(crate) far: bool,
+    /// Whether an instruction stands.
+    pub(crate) instructs: bool,
 }
 
 impl Banks {
@@ -71,6 +74,7 @@ impl Banks {
             fixed_registers: NameSet::new(alloc),
             stored: NameSet::new(alloc),
             far: false,
+            instructs: false,
         }
     }
 
@@ -84,6 +88,7 @@ impl Banks {
         add_bank_name(BankRegister::Fb, &mut self.fixed_registers, parts)?;
         add_stored(&mut self.stored, parts)?;
         self.far = self.far || sets_bank(parts.role);
+        self.instructs = self.instructs || is_instruction(parts);
         self.region = region_after(self.region, parts);
         Ok(())
     }
