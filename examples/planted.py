@@ -7,6 +7,16 @@ import tempfile
 ROWS = os.path.join(os.path.dirname(os.path.abspath(__file__)), "rows", "planted.txt")
 STEPS = "3000"
 
+# of mistakes in branches: the command of a session that names the step which went wrong, and its first line
+NAMED = {
+    "16": ("why CH011 control", "WAY 3 CCS 0100 TO 02,4005 FROM E0,0100 77766"),
+    "21": ("why CH011 control", "WAY 3 CCS A TO 02,4006 FROM A 177777"),
+    "31": ("why step", "WAY 3000 CCS 0100 TO 02,4003 AGAIN +1 FROM E0,0100 00005"),
+    "33": ("why step", "WAY 9 BZMF LOOP TO 02,4011 DONE FROM A 000003"),
+    "34": ("why CH011 control", "WAY 6 BZF OFF TO 02,4007 OFF FROM A 000000"),
+    "37": ("why TIME3", "BY 499 TIME3 PINC : TIME3 00012 FROM TIME3 00011"),
+}
+
 
 def part(text, sign):
     """The lines of a text that are in both programs, and those of a sign."""
@@ -51,6 +61,11 @@ def check_planted(program, told):
             right = tells(name, "+", source, feed, expect)
             told(f"{name}: what is right", right == ([], [], False), str(right))
             checked, kinds, fails = tells(name, "-", source, feed, expect)
+            if name[:2] in NAMED:
+                asked, line = NAMED[name[:2]]
+                lines = f"run {STEPS}\n{asked}\n"
+                replies = subprocess.run([program, "debug", "--extended", "my.agc", "my.feed"], input=lines, capture_output=True, text=True, timeout=60, cwd=room).stdout
+                told(f"{name}: is named by `{asked}`", line in replies.splitlines(), replies)
             got = checked + kinds + ["EXPECT"] * fails
             told(f"{name}: is told", sorted(got) == sorted(wanted), " ".join(got))
             told(f"{name}: has a test of three lines at most", len(expect.splitlines()) <= 3)
