@@ -8,6 +8,15 @@ import unittest
 from common import PROGRAM, ROWS, Case
 
 STEPS = "3000"
+# Of mistakes in branches the command of a session that names the step which went wrong, and its first line.
+NAMED = {
+    "16": ("why CH011 control", "WAY 3 CCS 0100 TO 02,4005 FROM E0,0100 77766"),
+    "21": ("why CH011 control", "WAY 3 CCS A TO 02,4006 FROM A 177777"),
+    "31": ("why step", "WAY 3000 CCS 0100 TO 02,4003 AGAIN +1 FROM E0,0100 00005"),
+    "33": ("why step", "WAY 9 BZMF LOOP TO 02,4011 DONE FROM A 000003"),
+    "34": ("why CH011 control", "WAY 6 BZF OFF TO 02,4007 OFF FROM A 000000"),
+    "37": ("why TIME3", "BY 499 TIME3 PINC : TIME3 00012 FROM TIME3 00011"),
+}
 
 
 def part(text, sign):
@@ -62,6 +71,11 @@ class Planted(Case):
                     self.assertEqual(sorted(got), sorted(wanted), " ".join(got))
                 with self.subTest(f"{name}: has a test of three lines at most"):
                     self.assertTrue(len(expect.splitlines()) <= 3)
+                if name[:2] in NAMED:
+                    asked, line = NAMED[name[:2]]
+                    replies = subprocess.run([PROGRAM, "debug", "--extended", "my.agc", "my.feed"], input=f"run {STEPS}\n{asked}\n", capture_output=True, text=True, timeout=60, cwd=room).stdout
+                    with self.subTest(f"{name}: is named by {asked}"):
+                        self.assertIn(line, replies.splitlines())
                 for way, tells_so in (("check", checked), ("notes", kinds), ("expect", fails), ("any", got)):
                     found[way] += bool(tells_so)
         with self.subTest("how many of 37 mistakes are told"):

@@ -416,6 +416,8 @@ With --extended there are these besides, and after E50 COMMAND stands why:
   why                  the same of the step that led to P, whatever it wrote
   why .. index places  and INDEX, what moved its operand; WHERE, its place
   why PLACE .. since T by steps from T on alone, and then MORE how many BEFORE T
+  why step             WAY, the last choice before P and what it was made by;
+  why PLACE control    the same of the step that wrote there last
   trace K              a line for each of the last K steps up to P, as agcws
                        trace has it
   say K                the same in sentences, as agcws trace --say has it

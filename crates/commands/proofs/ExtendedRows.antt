@@ -24,7 +24,7 @@ use Rattle.commands.specs.declared.extended.IndexLines.TheVariants.{Omitted, Tol
 use Rattle.commands.specs.declared.extended.ExtendedLine.TheVariants.{Plain, Common, Says, Help, Breaks, ClearOne, On, AllRegisters, Until}
 use Rattle.commands.specs.declared.extended.ExtendedLine.TheVariants.{WhyStep, Why, Words, Where, Find, Trace, Inputs, Over, Out, Listed}
 use Rattle.commands.specs.declared.extended.ExtendedLine.TheVariants.{Values, Channels, Differs, WhySince, TailSteps, Survey, Say, WhatIf}
-use Rattle.commands.specs.declared.extended.ExtendedLine.TheVariants.{Calls}
+use Rattle.commands.specs.declared.extended.ExtendedLine.TheVariants.{Calls, WhyWay, WhyControl}
 use Rattle.commands.specs.declared.extended.LinkLines.{LinkLines}
 
 -- a place in fixed memory, and a number that is no place
@@ -84,7 +84,7 @@ unfolding extended_line extended_forms usages forms runs parsed counters sequenc
 indexed = refl
 
 unindexed : asked (codes "why SUM index 3" ∷ codes "why SUM 3 INDEX" ∷ codes "why SUM 3 index index" ∷ codes "why SUM indexes" ∷ [])
-    ≡ replicate 4 (Says (codes "E50 COMMAND why takes [PLACE [k]] [index] [places], PLACE .. since T\n"))
+    ≡ replicate 4 (Says (codes "E50 COMMAND why takes step, [PLACE [k|control]] .. [since T]\n"))
 unfolding extended_line extended_forms usages forms runs parsed counters sequences registers window
 unindexed = refl
 
@@ -99,7 +99,7 @@ placed = refl
 
 unplaced : asked (codes "why SUM places 3" ∷ codes "why SUM places index" ∷ codes "why SUM 3 index places places" ∷ codes "why SUM PLACES"
     ∷ codes "why index 3 places index" ∷ [])
-    ≡ replicate 5 (Says (codes "E50 COMMAND why takes [PLACE [k]] [index] [places], PLACE .. since T\n"))
+    ≡ replicate 5 (Says (codes "E50 COMMAND why takes step, [PLACE [k|control]] .. [since T]\n"))
 unfolding extended_line extended_forms usages forms runs parsed counters sequences registers window
 unplaced = refl
 
@@ -115,9 +115,28 @@ since = refl
 
 not_since : asked (codes "why SUM since" ∷ codes "why SUM since x" ∷ codes "why SUM since 5 3" ∷ codes "why SUM since 5 index"
     ∷ codes "why SUM 1000 since 5" ∷ codes "why SUM places index since 5" ∷ codes "why SUM Since 5" ∷ [])
-    ≡ replicate 7 (Says (codes "E50 COMMAND why takes [PLACE [k]] [index] [places], PLACE .. since T\n"))
+    ≡ replicate 7 (Says (codes "E50 COMMAND why takes step, [PLACE [k|control]] .. [since T]\n"))
 unfolding extended_line extended_forms usages forms runs parsed counters sequences registers window
 not_since = refl
+
+-- and the choice before: of the position, though a symbol has the name, and of a word
+ways : asked (codes "why step" ∷ codes "why SUM control" ∷ codes "why SUM +1 control # why" ∷ codes "why CH010 control"
+    ∷ codes "why Q control" ∷ [])
+    ≡ WhyWay ∷ WhyControl (subject.Place 0o101) ∷ WhyControl (subject.Place 0o102) ∷ WhyControl (subject.Channel 8)
+    ∷ WhyControl (subject.Place 0o102) ∷ []
+unfolding extended_line extended_forms usages forms runs parsed counters sequences registers window
+ways = refl
+
+no_ways : asked (codes "why SUM control 3" ∷ codes "why SUM 3 control" ∷ codes "why SUM Control" ∷ codes "why SUM step" ∷ [])
+    ≡ replicate 4 (Says (codes "E50 COMMAND why takes step, [PLACE [k|control]] .. [since T]\n"))
+unfolding extended_line extended_forms usages forms runs parsed counters sequences registers window
+no_ways = refl
+
+ways_of_nothing : asked (codes "why step 3" ∷ codes "why FIVE control" ∷ codes "why control" ∷ [])
+    ≡ Says (codes "E50 COMMAND no symbol step\n") ∷ Says (codes "E50 COMMAND FIVE is in fixed memory, whose words never change\n")
+    ∷ Says (codes "E50 COMMAND no symbol control\n") ∷ []
+unfolding extended_line extended_forms usages forms runs parsed counters sequences registers window
+ways_of_nothing = refl
 
 since_nothing : asked (codes "why since 5" ∷ codes "why FIVE since 5" ∷ [])
     ≡ Says (codes "E50 COMMAND no symbol since\n") ∷ Says (codes "E50 COMMAND FIVE is in fixed memory, whose words never change\n") ∷ []
@@ -131,9 +150,9 @@ wrong_whys : asked (codes "why FIVE" ∷ codes "why CH12" ∷ codes "why SUMM" �
     ∷ codes "CH12 is in fixed memory, whose words never change\n"
     ∷ codes "no symbol SUMM\n"
     ∷ codes "no symbol SUMM\n"
-    ∷ codes "why takes [PLACE [k]] [index] [places], PLACE .. since T\n"
-    ∷ codes "why takes [PLACE [k]] [index] [places], PLACE .. since T\n"
-    ∷ codes "why takes [PLACE [k]] [index] [places], PLACE .. since T\n"
+    ∷ codes "why takes step, [PLACE [k|control]] .. [since T]\n"
+    ∷ codes "why takes step, [PLACE [k|control]] .. [since T]\n"
+    ∷ codes "why takes step, [PLACE [k|control]] .. [since T]\n"
     ∷ codes "no symbol CH1000\n"
     ∷ codes "no symbol CH\n"
     ∷ [])
@@ -197,7 +216,7 @@ wrong_places : asked (codes "mem 02,2005" ∷ codes "mem E3,1377" ∷ codes "mem
     ∷ codes "mem takes a place, or a place and a count\n"
     ∷ codes "mem takes a place, or a place and a count\n"
     ∷ codes "mem takes a place, or a place and a count\n"
-    ∷ codes "why takes [PLACE [k]] [index] [places], PLACE .. since T\n"
+    ∷ codes "why takes step, [PLACE [k|control]] .. [since T]\n"
     ∷ codes "break takes at|exec|change PLACE, word PLACE W, chan C W [M]\n"
     ∷ [])
 unfolding extended_line extended_forms usages forms runs parsed counters sequences registers window

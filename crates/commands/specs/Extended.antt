@@ -28,6 +28,7 @@ use Rattle.commands.specs.declared.extended.ExtendedLine.{ExtendedLine}
 use Rattle.commands.specs.declared.extended.ExtendedLine.TheVariants.{Plain, Common, Says, Help, Breaks, ClearOne, On, AllRegisters, Until}
 use Rattle.commands.specs.declared.extended.ExtendedLine.TheVariants.{WhyStep, Why, Words, Where, Find, Trace, Inputs, Over, Out, Listed}
 use Rattle.commands.specs.declared.extended.ExtendedLine.TheVariants.{Values, Channels, Differs, WhySince, TailSteps, Survey, Say, Calls}
+use Rattle.commands.specs.declared.extended.ExtendedLine.TheVariants.{WhyWay, WhyControl}
 
 -- the most steps that a command can name
 abbrev pub most_count : ℕ
@@ -122,9 +123,13 @@ counted_links (field ∷ more) = option_and_then (λ k. option_map (λ lines. (k
 abbrev pub links_in : List (List ℕ) → Option (ℕ × LinkLines)
 links_in fields = option_or (option_map (λ lines. (usual_links, lines)) (lines_in fields)) (counted_links fields)
 
--- what a word is asked of, how many links, and what is told besides
+-- the word `control` alone: the choice before what wrote there
+abbrev pub control_in : Subject → List (List ℕ) → Option ExtendedLine
+control_in subject fields = if word_alone (codes "control") (sole fields) then Some (WhyControl subject) else None
+
+-- what a word is asked of, and this; or how many links, and what is told besides
 abbrev pub why_of : Option Subject → List (List ℕ) → Option ExtendedLine
-why_of subject fields = option_and_then (λ s. option_map (λ r. Why s r.0 r.1) (links_in fields)) subject
+why_of subject fields = option_and_then (λ s. option_or (control_in s fields) (option_map (λ r. Why s r.0 r.1) (links_in fields))) subject
 
 -- an erasable place or, where no symbol has the name, a channel, and what stands after it
 abbrev pub why_place : SymbolTable → ExtendedForm
@@ -166,10 +171,14 @@ why_since symbols [] = None
 why_since symbols (field ∷ more) =
     option_or (since_of (place_subject symbols (field ∷ more)) (after_place (field ∷ more))) (since_of (channel_subject symbols field) more)
 
--- none of these; and where `index` or `places` stands alone it is the word, though a symbol has this name
+-- the word `step` alone: the choice before the position
+abbrev pub way_in : List (List ℕ) → Option ExtendedLine
+way_in fields = if word_alone (codes "step") (sole fields) then Some WhyWay else None
+
+-- none of these; and where `index`, `places` or `step` stands alone it is the word, though a symbol has this name
 abbrev pub why_form : SymbolTable → ExtendedForm
-why_form symbols fields = option_or (option_map (λ lines. WhyStep lines) (lines_in fields))
-    (option_or (why_place symbols fields) (why_since symbols fields))
+why_form symbols fields = option_or (way_in fields) (option_or (option_map (λ lines. WhyStep lines) (lines_in fields))
+    (option_or (why_place symbols fields) (why_since symbols fields)))
 
 -- the word at a place, or so many from there on
 abbrev pub memory_of : Linear → List (List ℕ) → Option ExtendedLine

@@ -92,6 +92,10 @@ pub enum ExtendedLine {
     AllRegisters,
     /// What the step did that led to the position.
     WhyStep(LinkLines),
+    /// The last choice before the position.
+    WhyWay,
+    /// The last choice before the step that wrote the word of something.
+    WhyControl(Subject),
     /// How the word of something came to be what it is, by at most so many steps.
     Why(Subject, u64, LinkLines),
     /// The same, by steps from one on, which is the last number.
@@ -389,6 +393,9 @@ fn why_form(symbols: &Symbols, rest: &[u8]) -> Option<ExtendedLine>
     requires { All (λ field. length field ≤ 80) (texts (runs rest.now)) }
     ensures { result ≡ why_form symbols.now (texts (runs rest.now)) }
 {
+    if is_sole(rest, "step") {
+        return Some(ExtendedLine::WhyWay);
+    }
     match lines_in(rest) {
         Some(lines) => Some(ExtendedLine::WhyStep(lines)),
         None => why_of_place(symbols, rest),
@@ -501,12 +508,15 @@ fn why_place(symbols: &Symbols, rest: &[u8]) -> Option<ExtendedLine>
     }
 }
 
-// `why` of a subject, followed by a number of links or none, and by what is told besides.
+// `why` of a subject, followed by the word `control`, or by a number of links or none and by what is told besides.
 fn why_of(subject: Option<Subject>, rest: &[u8]) -> Option<ExtendedLine>
     requires { All (λ field. length field ≤ 80) (texts (runs rest.now)) }
     ensures { result ≡ why_of subject (texts (runs rest.now)) }
 {
     let subject = subject?;
+    if is_sole(rest, "control") {
+        return Some(ExtendedLine::WhyControl(subject));
+    }
     let (links, lines) = links_in(rest)?;
     Some(ExtendedLine::Why(subject, links, lines))
 }

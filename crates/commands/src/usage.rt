@@ -80,7 +80,7 @@ const ROWS: [Row; 36] = [
     ),
     (
         "why",
-        "[PLACE [k]] [index] [places], PLACE .. since T",
+        "step, [PLACE [k|control]] .. [since T]",
         "the steps that made the word there, last first",
     ),
     (

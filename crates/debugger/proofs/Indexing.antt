@@ -14,6 +14,7 @@ use Rattle.cpu.specs.Beside.{is_instruction}
 use Rattle.replay.specs.LastHit.{last_hit}
 use Rattle.replay.specs.Found.{or_other, last_found}
 use Rattle.debugger.specs.Whys.{instruction_found}
+use Rattle.debugger.specs.WhysSince.{found_if}
 
 -- whether a step is an instruction, by what it is
 abbrev pub is_told : NextStep → Bool
@@ -41,3 +42,8 @@ pub found_executed : (step : ℕ → Link) (p : ℕ)
     → option_map (λ (r : ℕ × ℕ). r.0) (last_found (λ t. instruction_found (step t)) p) ≡ last_hit (λ t. is_instruction (step t)) p
 found_executed step zero = refl
 found_executed step (suc t) = found_at t (is_instruction (step t)) _ _ (found_executed step t)
+
+-- the last step of which a search finds that something holds
+pub found_last : (hit : ℕ → Bool) (p : ℕ) → option_map (λ (r : ℕ × ℕ). r.0) (last_found (λ t. found_if (hit t)) p) ≡ last_hit hit p
+found_last hit zero = refl
+found_last hit (suc t) = found_at t (hit t) _ _ (found_last hit t)

@@ -29,6 +29,7 @@ mod FiveRows
 mod ClockRows
 mod ExtendedRows
 mod WhyRows
+mod WayRows
 mod TailRows
 mod SurveyRows
 pub mod RequestNumbers
@@ -46,6 +47,7 @@ pub mod Entered
 pub mod OutputsOnce
 pub mod Serving
 pub mod WhyEnds
+pub mod WayFound
 pub mod Calling
 pub mod CallingInside
 pub mod LastFirst

@@ -23,6 +23,7 @@ pub mod Serving
 pub mod WhyEnds
 pub mod Calling
 pub mod CallsTold
+pub mod Ways
 pub mod Followed
 pub mod ValueTold
 pub mod Routines

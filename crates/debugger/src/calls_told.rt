@@ -114,7 +114,7 @@ fn call_line(symbols: &Symbols, call: &Call) -> Text
 }
 
 /// A place as a listing has it, and by a symbol.
-fn spot_text(symbols: &Symbols, place: &Linear) -> Text
+pub(crate) fn spot_text(symbols: &Symbols, place: &Linear) -> Text
     ensures items { result.items ≡ spot_text symbols.now place.now }
     ensures short { array_vec_len result ≤ 23 }
 {

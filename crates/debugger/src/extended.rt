@@ -85,6 +85,8 @@ impl Desk {
             ExtendedLine::WhySince(subject, links, lines, since) => {
                 self.why_since(session, symbols, *subject, *links, *lines, *since, out)
             }
+            ExtendedLine::WhyWay => self.why_way(session, symbols, out),
+            ExtendedLine::WhyControl(subject) => self.why_control(session, symbols, *subject, out),
             ExtendedLine::Words(place, count) => {
                 write_all(out, self.words(session, place, *count).as_slice())
             }

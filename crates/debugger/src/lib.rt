@@ -41,6 +41,7 @@ mod texts;
 mod travel;
 mod until;
 mod watch;
+mod ways;
 mod whatif_here;
 mod why;
 mod why_since;

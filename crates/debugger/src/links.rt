@@ -149,6 +149,22 @@ pub(crate) fn all_among(cells: &[Cell]) -> CellSet
     among
 }
 
+/// The cells among some spots.
+pub(crate) fn cells_among(spots: &[Spot]) -> CellSet
+    ensures { result ≡ cells_among spots.now }
+{
+    let mut among = CellSet::new();
+    let mut left = spots.len();
+    while left > 0 {
+        left -= 1;
+        match spots[left] {
+            Spot::Cell(cell) => among.insert(cell),
+            Spot::InRope(..) => {}
+        }
+    }
+    among
+}
+
 /// The cells of a set, in their order.
 pub(crate) fn cells_of(pending: &CellSet) -> Cells
     ensures { result.items ≡ cells_of pending.now }

@@ -48,20 +48,15 @@ impl Desk {
         ensures failures { W.failures out.new ≡ failures_after (W.failures out.old) result }
     {
         let mut pending = subject_cells(subject);
-        let mut before = self.position;
-        let mut left = links;
-        while left > 0 {
-            let Some(step) = session.seek_writer(before, &pending) else {
-                return write_all(out, end_text(symbols, false, &pending).as_slice());
-            };
-            write_all(
-                out,
-                link_lines(session, symbols, lines, step, &mut pending).as_slice(),
-            )?;
-            before = step;
-            left -= 1;
-        }
-        write_all(out, end_text(symbols, true, &pending).as_slice())
+        chain(
+            session,
+            symbols,
+            self.position,
+            &mut pending,
+            links,
+            lines,
+            out,
+        )
     }
 
     /// `why` alone: what the step did that led to the position.
@@ -90,6 +85,39 @@ impl Desk {
         )?;
         write_all(out, end_text(symbols, true, &pending).as_slice())
     }
+}
+
+/// How what stands in some cells after so many steps came to be, by at most so many steps.
+pub(crate) fn chain<K: Keeper, W: Write>(
+    session: &mut Session<K>,
+    symbols: &Symbols,
+    position: u64,
+    pending: &mut CellSet,
+    links: u64,
+    lines: LinkLines,
+    out: &mut W,
+) -> Result<(), WriteFailed>
+    requires { position ≤ session.old.n }
+    ensures writes { (xs : List Spot) → pending.old ≡ cells_among xs → W.told ≡ true
+        → Writes (W.written out.old) (W.written out.new)
+        (why_text symbols.now session.old.scenario lines links position xs) result }
+    ensures looked { HasLooked session.old session.new ((link_effort lines * links + 1) * session.old.n) }
+    ensures failures { W.failures out.new ≡ failures_after (W.failures out.old) result }
+{
+    let mut before = position;
+    let mut left = links;
+    while left > 0 {
+        let Some(step) = session.seek_writer(before, pending) else {
+            return write_all(out, end_text(symbols, false, pending).as_slice());
+        };
+        write_all(
+            out,
+            link_lines(session, symbols, lines, step, pending).as_slice(),
+        )?;
+        before = step;
+        left -= 1;
+    }
+    write_all(out, end_text(symbols, true, pending).as_slice())
 }
 
 /// The cells of what `why` is about: BB is FB and EB, and the place that reads as 0 has none.

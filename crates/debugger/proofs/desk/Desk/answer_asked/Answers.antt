@@ -6,7 +6,7 @@ use Rattle.debugger.specs.Inputs.{inputs_text}
 use Rattle.debugger.specs.ExtendedReplies.{extended_reply}
 use Rattle.commands.specs.declared.extended.ExtendedLine.TheVariants.{Plain, Common, WhyStep, Why, Words, Where, Find, Trace, Inputs}
 use Rattle.commands.specs.declared.extended.ExtendedLine.TheVariants.{Listed, Values, Channels, Differs, WhySince, TailSteps, Survey, Say}
-use Rattle.commands.specs.declared.extended.ExtendedLine.TheVariants.{WhatIf, Calls}
+use Rattle.commands.specs.declared.extended.ExtendedLine.TheVariants.{WhatIf, Calls, WhyWay, WhyControl}
 use Rattle.debugger.specs.Conversation.{to_asked, link_effort}
 use Rattle.debugger.specs.History.{history}
 use Rattle.debugger.specs.CallsTold.{calls_text}
@@ -22,6 +22,7 @@ use Rattle.debugger.specs.Surveys.{survey_text}
 use Rattle.debugger.specs.WhatIfs.{tries}
 use Rattle.debugger.specs.Whys.{why_text, last_text, subject_spots}
 use Rattle.debugger.specs.WhysSince.{since_text}
+use Rattle.debugger.specs.Ways.{control_text, way_text}
 use Rattle.commands.specs.declared.command.ParsedLine.TheVariants.{Known}
 use Rattle.debugger.specs.declared.manner.Manner.TheVariants as manner
 use Rattle.debugger.specs.Executions.{to_request}
@@ -102,6 +103,24 @@ returns-in-Why-clause-executes g c = λ told.
     _ (why_text c.args.symbols.now c.args.session.now.scenario c.in-Why.lines c.in-Why.links c.args.self.now.position
     (subject_spots c.in-Why.subject)) _ _ (λ answers additions. rw (looked.scenario, looked.steps) refl) refl
     (c.why.ensures.writes told))
+
+pub returns-in-WhyWay-clause-executes : goal.returns-in-WhyWay-clause-executes
+unfolding extended_reply
+returns-in-WhyWay-clause-executes g c = λ told.
+    let looked = c.why_way.ensures.looked in
+    rw c.in-WhyWay.is (replies-text g.K.Keeper.may_refuse
+    (to_asked (terms c.args.symbols.now c.args.rows.now c.args.first_added) WhyWay) _ _ _ _
+    (way_text c.args.symbols.now c.args.session.now.scenario c.args.self.now.position) _ _
+    (λ answers additions. rw (looked.scenario, looked.steps) refl) refl (c.why_way.ensures.writes told))
+
+pub returns-in-WhyControl-clause-executes : goal.returns-in-WhyControl-clause-executes
+unfolding extended_reply
+returns-in-WhyControl-clause-executes g c = λ told.
+    let looked = c.why_control.ensures.looked in
+    rw c.in-WhyControl.is (replies-text g.K.Keeper.may_refuse
+    (to_asked (terms c.args.symbols.now c.args.rows.now c.args.first_added) (WhyControl c.in-WhyControl.subject)) _ _ _ _
+    (control_text c.args.symbols.now c.args.session.now.scenario c.args.self.now.position (subject_spots c.in-WhyControl.subject)) _ _
+    (λ answers additions. rw (looked.scenario, looked.steps) refl) refl (c.why_control.ensures.writes told))
 
 pub returns-in-WhySince-clause-executes : goal.returns-in-WhySince-clause-executes
 unfolding extended_reply
