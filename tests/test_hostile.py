@@ -722,6 +722,28 @@ class Sizes(HostileCase):
                 wrong += [(old, new, out[-80:])] if old == new and out.count(b"\n") != 1 else []
         with self.subTest(f"sizes: {len(ropes) ** 2} alignments of periodic ropes"):
             self.assertTrue(not slow and not wrong, f"slow: {slow[:5]}, wrong: {wrong[:5]}")
+        self.many_names(ropes["random words"])
+        self.other_lengths(ropes["random words"])
+
+    def many_names(self, rope):
+        """Names of erasable memory are carried in about the time of an alignment, however many they are."""
+        names = write(f"{self.room}/many_names", b"".join(b"N%d %o\n" % (number, 0o61 + number % 1900) for number in range(30_000)))
+        begin = time.monotonic()
+        status, out, err = agcws("align", "--symbols", names, "--old=1", "--new=1", rope, rope)
+        seconds = time.monotonic() - begin
+        with self.subTest("sizes: 30,000 names"):
+            self.assertTrue((status, err, out.count(b"\n")) == (0, b"", 30_000) and seconds < 10, f"{status} {err} {seconds}")
+
+    def other_lengths(self, rope):
+        """Images of other lengths than one has, to a thousand banks, are refused by what aligns and compares."""
+        wrong = []
+        for length in (0, 1, 2, 2047, 2048, 12288, IMAGE_BYTES - 1, IMAGE_BYTES + 1, IMAGE_BYTES + 2048, 1000 * 2048):
+            other, error = write(f"{self.room}/length", bytes(length)), b"E3" if length < IMAGE_BYTES else b"E4"
+            for words in (("align", "--old=1", "--new=1", rope, other), ("align", "--old=1", "--new=1", other, rope), ("find", "--rope=1", FIVE, other), ("compare", "--only", "--flight", "--new=1", FIVE, other)):
+                answer = agcws(*words)
+                wrong += [] if answer == (1, b"", refused(words, other, error)) else [(length, words, answer)]
+        with self.subTest("sizes: images of other lengths"):
+            self.assertEqual(wrong, [])
 
     def test_sizes(self):
         most = 8_388_608

@@ -17,6 +17,13 @@ const IMAGE_BYTES: usize = 73_728;
 /// How many bytes are looked at, to tell a text from an image.
 const LOOKED_AT: usize = 4096;
 
+/// That the bytes of an image stand as `agcws` writes them.
+pub const AS_WRITTEN: ImageLayout = ImageLayout {
+    is_swapped: false,
+    is_complemented: false,
+    is_numbered: false,
+};
+
 /// The bytes of an image.
 #[derive(Drop)]
 pub enum ImageBytes {

@@ -1,6 +1,6 @@
 //! The files and streams that a subcommand reads and writes, and what is told of those that fail.
 
-use crate::dumps::{ImageBytes, opened_bytes};
+use crate::dumps::{AS_WRITTEN, ImageBytes, opened_bytes};
 use crate::gathered::Gathered;
 use plans::{Image, Kind, Listed, Program};
 use std::alloc::AllocError;
@@ -20,7 +20,7 @@ type StandardOutput<'a> = Std<Gathered<'a>>;
 #[derive(Drop)]
 pub struct OpenProgram {
     pub origin: Origin,
-    pub file: Std<fs::File>,
+    pub file: Std<ImageBytes>,
     pub form: Form,
     pub feed: Std<fs::File>,
 }
@@ -31,13 +31,13 @@ pub fn opened_program(
     program: &Program<'_>,
 ) -> Result<OpenProgram, WorkshopFault> {
     let table = opened_table(rt, program.symbols)?;
-    let file = opened_file(rt, program.path)?;
+    let (file, form) = opened_words(rt, program.path, program.kind, program.form)?;
     let feed = opened_file(rt, program.feed)?;
     let names = names_of(rt, table)?;
     Ok(OpenProgram {
         origin: origin(program.kind, names),
         file,
-        form: program.form,
+        form,
         feed,
     })
 }
@@ -47,20 +47,53 @@ pub fn opened_program(
 #[derive(Drop)]
 pub struct OpenListed {
     pub origin: Origin,
-    pub file: Std<fs::File>,
+    pub file: Std<ImageBytes>,
     pub form: Form,
 }
 
 /// Opens the file of a program, and reads its table of names once it is open.
 pub fn opened_listed(rt: &HostRuntime, listed: &Listed<'_>) -> Result<OpenListed, WorkshopFault> {
     let table = opened_table(rt, listed.symbols)?;
-    let file = opened_file(rt, listed.path)?;
+    let (file, form) = opened_words(rt, listed.path, listed.kind, listed.form)?;
     let names = names_of(rt, table)?;
     Ok(OpenListed {
         origin: origin(listed.kind, names),
         file,
-        form: listed.form,
+        form,
     })
+}
+
+/// The file of a program, a text of octal words in place of an image included, and the form in which its bytes are
+/// taken.
+fn opened_words(
+    rt: &HostRuntime,
+    path: &str,
+    kind: Kind,
+    form: Form,
+) -> Result<(Std<ImageBytes>, Form), WorkshopFault> {
+    let bytes = match kind {
+        Kind::Source(_) => ImageBytes::File(fs::open(rt, path).map_err(not_opened)?),
+        Kind::Image(version) => {
+            let layout = AS_WRITTEN;
+            let image = Image {
+                path,
+                form,
+                layout,
+                version,
+            };
+            opened_bytes(rt, &image)?
+        }
+    };
+    let form = form_of(&bytes, form);
+    Ok((Std::new(bytes), form))
+}
+
+/// The form in which bytes are taken: those of a text of octal words are as written.
+fn form_of(bytes: &ImageBytes, form: Form) -> Form {
+    match bytes {
+        ImageBytes::Octals(_) => Form::AsWritten,
+        ImageBytes::File(_) | ImageBytes::Made(_) => form,
+    }
 }
 
 /// Where the words of a program come from: a source, or an image, with names for its places where there are some.
@@ -100,10 +133,7 @@ pub fn opened_image(
     image: &Image<'_>,
 ) -> Result<InForm<ReadAhead<Std<ImageBytes>>>, WorkshopFault> {
     let bytes = opened_bytes(rt, image)?;
-    let form = match (&bytes, image.form) {
-        (ImageBytes::Octals(_), _) => Form::AsWritten,
-        (_, form) => form,
-    };
+    let form = form_of(&bytes, image.form);
     Ok(InForm::new(ReadAhead::new(Std::new(bytes)), form))
 }
 
@@ -119,7 +149,7 @@ fn opened_file(rt: &HostRuntime, path: &str) -> Result<Std<fs::File>, WorkshopFa
 
 /// A file whose bytes are taken in a form. It is made where it is read, since what is read ahead lies in it: each move
 /// takes as long as reading so many bytes.
-pub fn taken_in(file: Std<fs::File>, form: Form) -> InForm<ReadFile> {
+pub fn taken_in(file: Std<ImageBytes>, form: Form) -> InForm<ReadAhead<Std<ImageBytes>>> {
     InForm::new(ReadAhead::new(file), form)
 }
 

@@ -1,5 +1,6 @@
 //! The subcommands that read rope images.
 
+use crate::dumps::AS_WRITTEN;
 use crate::files::{ended, not_opened, opened, opened_image, refused_file, with_stdout};
 use crate::target::wrong_target;
 use crate::{DIFFERENT, DONE, refuse_arguments};
@@ -9,7 +10,7 @@ use std::cell::Cell;
 use std::fs;
 use words::Std;
 use workshop::{
-    Compared, Symbols, WorkshopFault, align_engine, carry_engine, compare_engine,
+    Compared, Form, Symbols, Version, WorkshopFault, align_engine, carry_engine, compare_engine,
     compare_only_engine, damages_engine, find_engine, form_sums_engine, mended_engine,
     named_source_engine, named_words_engine, octals_engine, parity_engine, read_names, report,
     report_where, source_engine, sums_engine, upgrade_engine, words_engine,
@@ -21,7 +22,15 @@ pub fn upgrade(rt: &HostRuntime, old: &str, new: &str) -> Result<u8, WorkshopFau
     if let Some(wrong) = wrong_target(rt, old, new) {
         return refuse_arguments(rt, wrong.of_an_upgrade());
     }
-    let mut image = opened(rt, old)?;
+    let mut image = opened_image(
+        rt,
+        &Image {
+            path: old,
+            form: Form::AsWritten,
+            layout: AS_WRITTEN,
+            version: Version::One,
+        },
+    )?;
     let refused = Cell::new(false);
     let mut out = Std::new(ImageFile::new(rt, new, &refused));
     ended(upgrade_engine(rt.alloc(), &mut image, &mut out), &refused)?;

@@ -3,10 +3,9 @@ use Rattle.std.proofs.Common.{◌≡◌, ℕ, ◌+◌, ◌==◌, Bool, true, fal
 use Rattle.rope.specs.Places.{place_number, Words, word_at}
 use Rattle.audit.specs.WordLines.{extracode_at}
 use Rattle.align.specs.AlignLines.{is_other_at, is_same_at, joins, others_before, same_before, stand_free, stands_free, words_before}
-use Rattle.align.specs.Evidences.{evidence_before, no_evidence, with_word}
 use Rattle.align.specs.RenamedLines.{is_named_at, named_before}
 use Rattle.align.specs.CarriedNames.{is_kept, keep_switched}
-use Rattle.align.specs.Pairings.{Entries, Pairing, at, is_entry, goes_on, goes_on_for, is_right_at, is_right_before}
+use Rattle.align.specs.Pairings.{Entries, Pairing, goes_on, goes_on_for, is_right_at, is_right_before}
 use Rattle.cpu.specs.Codes.{code_of}
 use Rattle.cpu.specs.Operands.{address_of}
 use Rattle.align.specs.Tokens.{compared, ends_checked, filled, filled_before, of_erasable, operand_at, token_at}
@@ -122,21 +121,6 @@ pub named_passed : (operands : Entries) (p : Pairing) (s n : ℕ) → is_named_a
     → named_before operands p s (n + 1) ≡ named_before operands p s n
 unfolding named_before
 named_passed operands p s n none = rw (add-one n, none) refl
-
--- nothing is known before the first word
-pub evidence_first : (operands : Entries) (p : Pairing) (address : ℕ) → evidence_before operands p address 0 ≡ no_evidence
-unfolding evidence_before
-evidence_first operands p address = refl
-
-pub evidence_there : (operands : Entries) (p : Pairing) (address n : ℕ) → is_entry (at operands n) address ≡ true
-    → evidence_before operands p address (n + 1) ≡ with_word p n (at p.to_new n) (evidence_before operands p address n)
-unfolding evidence_before
-evidence_there operands p address n there = rw (add-one n, there) refl
-
-pub evidence_passed : (operands : Entries) (p : Pairing) (address n : ℕ) → is_entry (at operands n) address ≡ false
-    → evidence_before operands p address (n + 1) ≡ evidence_before operands p address n
-unfolding evidence_before
-evidence_passed operands p address n none = rw (add-one n, none) refl
 
 -- no address of the switched bank stands for another before the first
 pub kept_first : (names : Entries) → keep_switched names 0 ≡ true

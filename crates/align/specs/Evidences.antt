@@ -1,5 +1,6 @@
 -- What is known of an address of erasable memory by the words that name it.
-use Rattle.std.specs.Prelude.{ℕ, zero, suc, ◌+◌, ◌/◌, nat_lt, nat_le, Bool, true, false, not, ◌&&◌, ◌||◌, Option, Some, None, if◌then◌else◌}
+use Rattle.std.specs.Prelude.{◌≡◌, ℕ, zero, suc, ◌+◌, ◌/◌, ◌<◌, List, get_or, nat_lt, nat_le, Bool, true, false, not, ◌&&◌, ◌||◌}
+use Rattle.std.specs.Prelude.{Option, Some, None, if◌then◌else◌}
 use Rattle.rope.specs.Places.{bank_words, fixed_places}
 use Rattle.align.specs.declared.evidence.Evidence.{Evidence}
 use Rattle.align.specs.Carried.{is_sure}
@@ -31,6 +32,11 @@ evidence_before operands p address zero = no_evidence
 evidence_before operands p address (suc n) =
     if is_entry (at operands n) address then with_word p n (at p.to_new n) (evidence_before operands p address n) else evidence_before
     operands p address n
+
+-- a list has for each address what is known of it by those of the first n words that name it
+abbrev pub IsKnown : Entries → Pairing → ℕ → List Evidence → Type 0
+IsKnown operands p n known =
+    (address : ℕ) → address < 0o2000 → get_or known address no_evidence ≡ evidence_before operands p address n
 
 -- whether that is enough: two words or more that name it are paired with equal ones, one is surely carried, and none is not paired
 abbrev pub is_enough : Evidence → Bool

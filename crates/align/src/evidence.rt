@@ -1,13 +1,16 @@
 //! What is known of an address of erasable memory by the words that name it.
 
-ghost use Rattle.std.specs.Prelude.{◌≡◌, ◌<◌, ◌≤◌};
+ghost use Rattle.std.specs.Prelude.{◌≡◌, ◌+◌, ◌<◌, ◌≤◌, length};
 ghost use Rattle.rope.specs.Places.{fixed_places};
-ghost use Rattle.align.specs.Evidences.{evidence_before, is_enough, kept_word, with_word};
+ghost use Rattle.align.specs.Evidences.{IsKnown, is_enough, kept_word, with_word};
 ghost use Rattle.align.specs.Pairings.{pairing};
 
 use crate::carrying::is_sure;
 use crate::checking::{Pairing, name_alike};
-use crate::entries::{Entry, PLACES, WORDS, entry_at, is_entry};
+use crate::entries::{Entry, PLACES, WORDS, entry_at};
+
+/// How many addresses of erasable memory there are.
+pub(crate) const ADDRESSES: usize = 0o2000;
 
 /// What is known of an address by the words of the old rope that name it.
 #[derive(Clone, Copy, Debug)]
@@ -22,25 +25,46 @@ pub(crate) struct Evidence {
     pub(crate) bank: u16,
 }
 
-/// What is known of an address by all words that name it.
-#[tactic(auto, using(crate::proofs::Steps::evidence_first, crate::proofs::Steps::evidence_there, crate::proofs::Steps::evidence_passed))]
-pub(crate) fn weigh(operands: &[Entry], p: Pairing<'_>, address: usize) -> Evidence
-    ensures { result ≡ evidence_before operands.now
-        (pairing p.entry.own.now p.entry.old.now p.entry.new.now p.entry.to_old.now p.entry.to_new.now) address
-        fixed_places }
+/// Nothing is known.
+const NOTHING: Evidence = Evidence {
+    words: 0,
+    is_lost: false,
+    is_sure: false,
+    bank: 0,
+};
+
+/// What is known of each address by all words that name it, by one pass over the words.
+#[tactic(auto, using(crate::proofs::Known::known_start))]
+pub(crate) fn weigh(operands: &[Entry], p: Pairing<'_>) -> [Evidence; ADDRESSES]
+    ensures len { length result ≡ 0o2000 }
+    ensures known { IsKnown operands.now (pairing p.entry.own.now p.entry.old.now p.entry.new.now p.entry.to_old.now
+        p.entry.to_new.now) fixed_places result }
 {
-    let mut known = Evidence {
-        words: 0,
-        is_lost: false,
-        is_sure: false,
-        bank: 0,
-    };
+    let mut known = [NOTHING; ADDRESSES];
     for place in 0..PLACES {
-        if is_entry(entry_at(operands, place), address) {
-            known = with_word(p, place, entry_at(p.to_new, place), known);
-        }
+        take_word(&mut known, operands, p, place);
     }
     known
+}
+
+/// Takes what the word of a place tells, after the words before it.
+#[tactic(auto, using(crate::proofs::Known::known_passed, crate::proofs::Known::known_beyond, crate::proofs::Known::known_more, crate::proofs::Known::known_few))]
+fn take_word(known: &mut [Evidence; ADDRESSES], operands: &[Entry], p: Pairing<'_>, place: usize)
+    requires place { place < fixed_places }
+    requires len { length known.old ≡ 0o2000 }
+    requires so_far { IsKnown operands.now (pairing p.own.now p.old.now p.new.now p.to_old.now p.to_new.now) place
+        known.old }
+    ensures len { length known.new ≡ 0o2000 }
+    ensures known { IsKnown operands.now (pairing p.entry.own.now p.entry.old.now p.entry.new.now p.entry.to_old.now
+        p.entry.to_new.now) (place + 1) known.new }
+{
+    let Some(address) = entry_at(operands, place) else {
+        return;
+    };
+    let address = usize::from(address);
+    if address < ADDRESSES {
+        known[address] = with_word(p, place, entry_at(p.to_new, place), known[address]);
+    }
 }
 
 /// What is known by one word more, at a place that has this entry.

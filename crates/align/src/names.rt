@@ -5,13 +5,15 @@ ghost use Rattle.words.specs.Devices.{Writes, failures_after};
 ghost use Rattle.align.specs.Alignments.{renaming};
 ghost use Rattle.align.specs.CarriedNames.{address_of_place, carried_line, carried_lines, erasable_line, is_kept};
 ghost use Rattle.align.specs.CarriedNames.{is_sure_place, keep_switched, known_line, place_in_bank, settled_line};
+ghost use Rattle.align.specs.Evidences.{IsKnown};
 ghost use Rattle.align.specs.Pairings.{pairing};
+ghost use Rattle.rope.specs.Places.{fixed_places};
 
 use crate::alignment::{Alignment, pairing_of, renaming_of};
 use crate::carrying::{Line, fixed_line, name_line};
 use crate::checking::Pairing;
 use crate::entries::{Entry, WORDS, entry_at};
-use crate::evidence::{Evidence, is_enough, weigh};
+use crate::evidence::{ADDRESSES, Evidence, is_enough, weigh};
 use crate::renamed_lines::{Renaming, slot_address, slot_bank};
 use crate::renaming::{ERASABLE_BANK, FIRST_FREE, FIRST_SWITCHED, SLOTS, renamed};
 use space::Eras;
@@ -52,18 +54,33 @@ fn write_names<W: Write>(
         result }
     ensures failures { W.failures out.new ≡ failures_after (W.failures out.old) result }
 {
+    let known = weigh(r.operands, p);
+    let kept = keep_switched(r.names);
     for index in 0..names.len() {
         let Some(entry) = names.entry(index) else {
             unreachable!()
         };
-        write_all(out, carried_line(r, p, entry.0, entry.1).as_slice())?;
+        let line = carried_line(r, p, &known, kept, entry.0, entry.1);
+        write_all(out, line.as_slice())?;
     }
     Ok(())
 }
 
-/// The line of a name.
-fn carried_line(r: Renaming<'_>, p: Pairing<'_>, name: &[u8], value: Value) -> Line
-    requires { length name.now ≤ 8 }
+/// The line of a name, where what is known of all addresses is at hand, and whether all of the switched bank stand for
+/// themselves.
+fn carried_line(
+    r: Renaming<'_>,
+    p: Pairing<'_>,
+    known: &[Evidence; ADDRESSES],
+    kept: bool,
+    name: &[u8],
+    value: Value,
+) -> Line
+    requires name { length name.now ≤ 8 }
+    requires len { length known.now ≡ 0o2000 }
+    requires known { IsKnown r.operands.now (pairing p.own.now p.old.now p.new.now p.to_old.now p.to_new.now)
+        fixed_places known.now }
+    requires kept { kept ≡ keep_switched r.names.now 9216 }
     ensures { result.items ≡ carried_line (renaming r.entry.names.now r.entry.back.now r.entry.operands.now)
         (pairing p.entry.own.now p.entry.old.now p.entry.new.now p.entry.to_old.now p.entry.to_new.now)
         (name.now, value) }
@@ -73,14 +90,25 @@ fn carried_line(r: Renaming<'_>, p: Pairing<'_>, name: &[u8], value: Value) -> L
             let place = WORDS * usize::from(bank.bank().number()) + usize::from(offset.number());
             fixed_line(p, name, place, entry_at(p.to_new, place))
         }
-        Value::Erasable(place) => erasable_line(r, p, name, place),
+        Value::Erasable(place) => erasable_line(r, p, known, kept, name, place),
         Value::Num(_) => name_line(b"", name, value),
     }
 }
 
 /// The line of a name of an erasable place.
-fn erasable_line(r: Renaming<'_>, p: Pairing<'_>, name: &[u8], place: Eras) -> Line
-    requires { length name.now ≤ 8 }
+fn erasable_line(
+    r: Renaming<'_>,
+    p: Pairing<'_>,
+    known: &[Evidence; ADDRESSES],
+    kept: bool,
+    name: &[u8],
+    place: Eras,
+) -> Line
+    requires name { length name.now ≤ 8 }
+    requires len { length known.now ≡ 0o2000 }
+    requires known { IsKnown r.operands.now (pairing p.own.now p.old.now p.new.now p.to_old.now p.to_new.now)
+        fixed_places known.now }
+    requires kept { kept ≡ keep_switched r.names.now 9216 }
     ensures { result.items ≡ erasable_line (renaming r.entry.names.now r.entry.back.now r.entry.operands.now)
         (pairing p.entry.own.now p.entry.old.now p.entry.new.now p.entry.to_old.now p.entry.to_new.now) name.now place }
 {
@@ -89,29 +117,31 @@ fn erasable_line(r: Renaming<'_>, p: Pairing<'_>, name: &[u8], place: Eras) -> L
         name_line(b"", name, Value::Erasable(place))
     } else {
         let address = usize::from(address_of_place(number));
-        known_line(r.names, name, number, weigh(r.operands, p, address))
+        known_line(r.names, kept, name, number, known[address])
     }
 }
 
 /// The line of a name of an erasable place that is no register and no counter, by what is known of its address.
-fn known_line(names: &[Entry], name: &[u8], place: u16, known: Evidence) -> Line
+fn known_line(names: &[Entry], kept: bool, name: &[u8], place: u16, known: Evidence) -> Line
+    requires kept { kept ≡ keep_switched names.now 9216 }
     requires name { length name.now ≤ 8 }
     requires place { place < 0o4000 }
     ensures { result.items ≡ known_line names.now name.now place known }
 {
     let other = renamed(names, known.bank, address_of_place(place));
     settled_line(
-        is_sure_place(names, place, known),
+        is_sure_place(names, kept, place, known),
         name,
         place_in_bank(place, other),
     )
 }
 
 /// Whether an erasable place is surely carried.
-fn is_sure_place(names: &[Entry], place: u16, known: Evidence) -> bool
+fn is_sure_place(names: &[Entry], kept: bool, place: u16, known: Evidence) -> bool
+    requires { kept ≡ keep_switched names.now 9216 }
     ensures { result ≡ is_sure_place names.now place known }
 {
-    is_enough(known) && (place < FIRST_SWITCHED || keep_switched(names))
+    is_enough(known) && (place < FIRST_SWITCHED || kept)
 }
 
 /// The line of a name and an erasable place that it surely stands for, or in a comment.

@@ -42,31 +42,67 @@ pub(crate) fn search(
     let mut olds = Side::new(alloc, old)?;
     let mut news = Side::new(alloc, new)?;
     let mut index = Index::new(alloc)?;
-    for shorter in 0..WORDS {
-        let length = WORDS - shorter;
-        if length < least {
+    let mut most = WORDS;
+    for _ in 0..WORDS {
+        let Some(length) = longest(&mut index, &olds, &news, least, most) else {
             break;
-        }
-        if olds.has_room(length) && news.has_room(length) {
-            let window = Window {
-                length,
-                power: power(length),
-            };
-            pair_in_place(&mut olds, &mut news, old, new, window);
-            index.fill(&olds, window);
-            pair_moved(&mut index, &mut olds, &mut news, old, new, window);
-        }
+        };
+        let window = Window::of(length);
+        pair_in_place(&mut olds, &mut news, old, new, window);
+        index.fill(&olds, window);
+        pair_moved(&mut index, &mut olds, &mut news, old, new, window);
+        most = length.saturating_sub(1);
     }
-    let window = Window {
-        length: 1,
-        power: power(1),
-    };
+    let window = Window::of(1);
     for _ in 0..GROWN {
         grow(&mut olds, &mut news, own, old, new);
     }
     pair_in_place(&mut olds, &mut news, old, new, window);
     grow(&mut olds, &mut news, own, old, new);
     Ok((news.into_pairs(), olds.into_pairs()))
+}
+
+/// The greatest number of words, of some on up to some, for which both ropes have an equal window with room: it is
+/// sought below the last one by steps that double, and then by halves, since with a window each part of it is equal.
+fn longest(
+    index: &mut Index,
+    olds: &Side,
+    news: &Side,
+    least: usize,
+    most: usize,
+) -> Option<usize> {
+    let mut none = most.saturating_add(1);
+    let mut step: usize = 1;
+    for _ in 0..WORDS {
+        if none <= least {
+            return None;
+        }
+        let length = none.saturating_sub(step).max(least);
+        if index.has_equal(olds, news, length) {
+            return Some(between(index, olds, news, length, none));
+        }
+        none = length;
+        step = step.saturating_add(step);
+    }
+    None
+}
+
+/// The greatest number of words for which both ropes have an equal window, between one for which they have and one for
+/// which they have none.
+fn between(index: &mut Index, olds: &Side, news: &Side, has: usize, none: usize) -> usize {
+    let (mut has, mut none) = (has, none);
+    for _ in 0..WORDS {
+        let length = has.saturating_add(none.saturating_sub(has) / 2);
+        if length == has {
+            return has;
+        }
+        if index.has_equal(olds, news, length) {
+            has = length;
+        } else {
+            none = length;
+        }
+    }
+    has
 }
 
 /// Grows runs by words that agree: those after a run from the first place of the new rope on, then those before a run
@@ -212,17 +248,17 @@ fn run_back(
     0
 }
 
-impl Side {
-    /// Whether so many words may be paired in one place or another.
-    fn has_room(&self, length: usize) -> bool {
-        for place in 0..PLACES {
-            if self.room(place) >= length {
-                return true;
-            }
+impl Window {
+    /// A window of so many words.
+    fn of(length: usize) -> Window {
+        Window {
+            length,
+            power: power(length),
         }
-        false
     }
+}
 
+impl Side {
     /// What tells the words of a window from others.
     fn mark(&self, window: Window, place: usize) -> u64 {
         self.weighed(place, window.length, window.power)
@@ -257,6 +293,20 @@ impl Index {
                 put(&mut self.heads, list, place as u32 + 1);
             }
         }
+    }
+
+    /// Whether both ropes have an equal window of so many words, with room.
+    fn has_equal(&mut self, olds: &Side, news: &Side, length: usize) -> bool {
+        let window = Window::of(length);
+        self.fill(olds, window);
+        for place in 0..PLACES {
+            if news.room(place) >= length
+                && self.find(olds, window, news.mark(window, place)).is_some()
+            {
+                return true;
+            }
+        }
+        false
     }
 
     /// Puts the places of a rope that have a mark into lists.

@@ -16,7 +16,7 @@ returns-in_err-write_all-clause-written g c = λ told.
     (texts_from (carried_line (renaming c.args.r.names.now c.args.r.back.now c.args.r.operands.now)
     (pairing c.args.p.own.now c.args.p.old.now c.args.p.new.now c.args.p.to_old.now c.args.p.to_new.now)) c.args.names.now
     c.loop-index.index (c.in-Some.entry.0.now, c.in-Some.entry.1) (sym c.in-Some.ensures.value))
-    (rw (c.as_slice.ensures.value, c.carried_line.ensures) at (c.in_err-write_all.ensures.written told)))
+    (rw (c.as_slice.ensures.value, c.carried_line-line.ensures) at (c.in_err-write_all.ensures.written told)))
 
 pub loop-index-preserved : goal.loop-index-preserved
 loop-index-preserved g c = record {
@@ -25,7 +25,7 @@ loop-index-preserved g c = record {
       (texts_from (carried_line (renaming c.args.r.names.now c.args.r.back.now c.args.r.operands.now)
       (pairing c.args.p.own.now c.args.p.old.now c.args.p.new.now c.args.p.to_old.now c.args.p.to_new.now)) c.args.names.now
       c.loop-index.index (c.in-Some.entry.0.now, c.in-Some.entry.1) (sym c.in-Some.ensures.value))
-      (rw (c.as_slice.ensures.value, c.carried_line.ensures) at (c.in_ok-write_all.ensures.written told));
+      (rw (c.as_slice.ensures.value, c.carried_line-line.ensures) at (c.in_ok-write_all.ensures.written told));
   failures = c.in_ok-write_all.ensures.failures ∙ c.loop-index.invariant.failures;
 }
 
