@@ -475,7 +475,7 @@ class Check(Case):
     def test_excerpt(self):
         path = f"{self.room}/excerpt.agc"
         with open(path, "wb") as file:
-            file.write(b"X OCT 1\n\tTC\tFIV # \xb5\n TC FIV +1\n")
+            file.write(b"X RELINT\n\tTC\tFIV # \xb5\n TC FIV +1\n")
         wanted = f"""{path}:2:11: error E10: this byte is not ASCII, and a line holds ASCII alone, its comment too
     2 | \tTC\tFIV # ?
       | \t  \t      ^
