@@ -86,7 +86,7 @@ class Debug(Case):
         ran = subprocess.run([PROGRAM, "debug", source, empty], input=b"step 1\nquit\nstep 1\n", capture_output=True, timeout=WAIT)
         with self.subTest("quit"):
             self.assertAnswer((ran.returncode, ran.stdout, ran.stderr), 0, b"AT 1 2 4001\n")
-        ran = subprocess.run([PROGRAM, "debug", source, empty], input=b"\n" * 16777211 + b"tail\ntail\n", capture_output=True, timeout=WAIT)
+        ran = subprocess.run([PROGRAM, "debug", source, empty], input=b"\n" * 16777211 + b"tail\ntail\n", capture_output=True, timeout=4 * WAIT)
         with self.subTest("the most bytes of commands"):
             self.assertAnswer((ran.returncode, ran.stdout, ran.stderr), 0, b"TAIL 0\n", b"agcws: commands end after 16777216 bytes\n")
         with open("/dev/full", "wb") as full:
