@@ -227,6 +227,7 @@ def check_whatif_in_talk(room):
     span = ["whatif tries 65,536 cycles at most: it goes to one from 27 to 65562"]
     same("whatif of a span that is backwards", shown[7], span)
     shown = talk(["until 26", "whatif TIME3 PINC to 65562", "whatif TIME3 PINC to 65563", "regs"], LOST[0], EMPTY)
+    same("whatif of an input that never comes", talk(["until 26", "whatif TIME3 PINC for 0"], LOST[0], EMPTY)[2], ["cycle 27: it never comes"])
     same("whatif of as many cycles as there can be", shown[2][-1].split(":")[0].split("-")[-1], "65562")
     told("whatif of more, and the session goes on", shown[3] == span and shown[4], f"{shown[3:]}")
     full = write(f"{room}/full.feed", b"".join(b"%d TIME3 PINC\n" % it for it in range(100, 65636)))

@@ -77,7 +77,7 @@ is_end Channels = false
 is_end (Differs t) = false
 is_end (Survey asked) = false
 is_end (Say k) = false
-is_end (WhatIf input k) = false
+is_end (WhatIf input extent) = false
 is_end Calls = false
 
 -- what a request brings, in terms and over the reference run of what runs now

@@ -138,5 +138,5 @@ extended_reply terms h d Channels = says (channels_text (run d.scenario d.positi
 extended_reply terms h d (Differs t) = says (differs_text d.scenario d.steps d.position t) d
 extended_reply terms h d (Survey asked) = says (survey_text d.scenario d.steps asked) d
 extended_reply terms h d (Say k) = says (traced_text Sentences terms.symbols d.scenario d.position k) d
-extended_reply terms h d (WhatIf input k) = tries input k d
+extended_reply terms h d (WhatIf input extent) = tries input extent d
 extended_reply terms h d Calls = says (calls_text terms.symbols d.scenario d.position) d
