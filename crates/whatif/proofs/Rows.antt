@@ -80,7 +80,8 @@ to_the_end = record { others = All; end = 1000 }
 abbrev at_5 : Outcome → Finish
 at_5 a = record { answer = a; place = Fixed 2 5; difference = None }
 
-alike : span_line to_the_end (record { first = 850; last = 882; count = 33; finish = at_5 (record { alike = 13; others = []; strays = false }) })
+alike : span_line to_the_end
+    (record { first = 850; last = 882; count = 33; finish = at_5 (record { alike = 13; others = []; strays = false }) })
     ≡ codes "FROM 850 TO 882 COUNT 33 ALIKE 13 OTHERS 0\n"
 unfolding digits
 alike = refl
@@ -109,14 +110,16 @@ unfolding spans_text place_text window octal_text digits
 three_trials = refl
 
 -- of the other words the first
-first_alone : spans_text (record to_the_end { others = First }) None ((9, at_5 (record { alike = 0; others = six ∷ five ∷ []; strays = false })) ∷ [])
+first_alone : spans_text (record to_the_end { others = First }) None
+    ((9, at_5 (record { alike = 0; others = six ∷ five ∷ []; strays = false })) ∷ [])
     ≡ codes "FROM 9 TO 9 COUNT 1 ALIKE 0 OTHERS 2\nCH 010 00006\nEND 02,4005\n"
 unfolding spans_text place_text window octal_text digits
 first_alone = refl
 
 -- at the last cycle, and behind it, an input never comes
 behind_the_end : spans_text to_the_end None
-    ((999, at_5 (record { alike = 1; others = []; strays = false })) ∷ (1000, at_5 (record { alike = 1; others = []; strays = false }))
+    ((999, at_5 (record { alike = 1; others = []; strays = false }))
+    ∷ (1000, at_5 (record { alike = 1; others = []; strays = false }))
     ∷ (1001, at_5 (record { alike = 1; others = []; strays = false })) ∷ [])
     ≡ (codes "FROM 999 TO 999 COUNT 1 ALIKE 1 OTHERS 0\nEND 02,4005\nFROM 1000 TO 1001 COUNT 2 ALIKE 1 OTHERS 0 NEVER\nEND 02,4005"
     ++ codes "\n")

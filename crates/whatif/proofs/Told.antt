@@ -20,7 +20,8 @@ pub trial_told : (base : List Sent) (without : Cells) (from : ℕ) (scenario : S
     (left : List Plain) (t : Plain) (more : List Plain) (a : Finish)
     → left ≡ t ∷ more → a ≡ finish base without from (tried scenario t) steps
     → spans_text told pending (finishes base without from scenario steps left)
-    ≡ closed told pending t.cycle a ++ spans_text told (Some (opened told pending t.cycle a)) (finishes base without from scenario steps more)
+    ≡ closed told pending t.cycle a
+    ++ spans_text told (Some (opened told pending t.cycle a)) (finishes base without from scenario steps more)
 unfolding spans_text
 trial_told base without from scenario steps told pending left t more a is of = rw (is, of) refl
 

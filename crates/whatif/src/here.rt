@@ -102,8 +102,8 @@ fn write_each<W: Write>(
     requires answer { trunk.old.answer ≡ outcome without.now.answer.others trunk.old.from processor.old.scenario
         trunk.old.done }
     ensures written { W.told ≡ true → Writes (W.written out.old) (W.written out.new)
-        (spans_text (telling First without.now.machine) None (finishes without.now.answer.others without.now.machine.cells
-        trunk.old.from processor.old.scenario steps
+        (spans_text (telling First without.now.machine) None (finishes without.now.answer.others
+        without.now.machine.cells trunk.old.from processor.old.scenario steps
         (trials_after processor.old.scenario input trunk.old.done (more + 1)))) result }
     ensures failures { W.failures out.new ≡
         (if has_write_failed result then one_more (W.failures out.old) else W.failures out.old) }

@@ -7,8 +7,9 @@ ghost use Rattle.words.specs.Devices.{Writes, one_more};
 ghost use Rattle.whatif.specs.Failing.{has_write_failed};
 ghost use Rattle.space.specs.declared.place.Linear.TheVariants.{Erasable};
 ghost use Rattle.yayul.specs.Listing.{place_text};
-ghost use Rattle.whatif.specs.Spans.{closed, difference_text, end_line, is_never, joins, number_of, one, open_text, opened};
-ghost use Rattle.whatif.specs.Spans.{others_text, others_told, sent_line, span_line, span_text, without_line, without_text};
+ghost use Rattle.whatif.specs.Spans.{closed, difference_text, end_line, is_never, joins, number_of, one, open_text};
+ghost use Rattle.whatif.specs.Spans.{opened, others_text, others_told, sent_line, span_line, span_text, without_line};
+ghost use Rattle.whatif.specs.Spans.{without_text};
 
 use crate::answer::{Answer, is_same_flag};
 use crate::fault::TrialFault;

@@ -1,6 +1,7 @@
 //! Trying some inputs, each of them alone.
 
-ghost use Rattle.std.specs.Prelude.{◌≡◌, ◌+◌, ◌-◌, ◌*◌, ◌^◌, ◌<◌, ◌≤◌, [], None, IfOk, OnOk, false, true, if◌then◌else◌};
+ghost use Rattle.std.specs.Prelude.{◌≡◌, ◌+◌, ◌-◌, ◌*◌, ◌^◌, ◌<◌, ◌≤◌, [], None, IfOk, OnOk, false, true};
+ghost use Rattle.std.specs.Prelude.{if◌then◌else◌};
 ghost use Rattle.words.specs.Devices.{Writes, one_more};
 ghost use Rattle.whatif.specs.Failing.{has_write_failed};
 ghost use Rattle.whatif.specs.Finishes.{finish};
