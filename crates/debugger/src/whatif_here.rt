@@ -69,7 +69,11 @@ impl Desk {
         ensures failures { W.failures out.new ≡ failures_after (W.failures out.old) result }
     {
         let made = session.steps();
-        if first > made || more > made - first {
+        if first > made {
+            return write_all(out, text_line(b"E41 NOT YET").as_slice());
+        }
+        let after = made - first;
+        if more > after {
             return write_all(out, text_line(b"E41 NOT YET").as_slice());
         }
         let room = STEP_LIMIT - (first + more);

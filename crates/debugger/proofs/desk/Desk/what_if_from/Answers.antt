@@ -13,11 +13,19 @@ returns-then-first-made-clause-executes g c = λ told.
     c.args.steps c.args.first c.args.more _ _ _ _ (omega arith)
     (c.as_slice.ensures.value ∙ c.text_line.ensures.items) (c.write_all.ensures.written told)
 
+pub returns-then-more-after-clause-executes : goal.returns-then-more-after-clause-executes
+returns-then-more-after-clause-executes g c = λ told.
+    not_yet g.K.Keeper.may_refuse (desk c.args.session.now c.args.self.now.position c.args.self.now.breakpoints) c.args.input
+    c.args.steps c.args.first c.args.more _ _ _ _ (omega arith)
+    (c.as_slice-then-more-after.ensures.value ∙ c.text_line-then-more-after.ensures.items)
+    (c.write_all-then-more-after.ensures.written told)
+
 pub returns-then-steps-room-clause-executes : goal.returns-then-steps-room-clause-executes
 returns-then-steps-room-clause-executes g c = λ told.
     limited g.K.Keeper.may_refuse (desk c.args.session.now c.args.self.now.position c.args.self.now.breakpoints) c.args.input
     c.args.steps c.args.first c.args.more _ _ _ _ (omega arith) (omega arith)
-    (c.as_slice.ensures.value ∙ c.text_line.ensures.items) (c.write_all.ensures.written told)
+    (c.as_slice-then-steps-room.ensures.value ∙ c.text_line-then-steps-room.ensures.items)
+    (c.write_all-then-steps-room.ensures.written told)
 
 pub returns-then-count-ge-MOST_INPUTS-clause-executes : goal.returns-then-count-ge-MOST_INPUTS-clause-executes
 returns-then-count-ge-MOST_INPUTS-clause-executes g c = λ told.
