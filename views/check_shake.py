@@ -161,6 +161,16 @@ def check_each_interrupt(room):
     same("each place of an input that is refused", call("shake", keeps, "100", "TIME3 MINC", "--each-place"), (1, "", "TIME3 MINC: agcws: E33 LINE 1\n"))
 
 
+def check_audited(room):
+    """Two of the faults of audited.agc, without a word about where they are. By hand: T5RUPT leaves SPEED, 1, in TMP, where LXCH has put twice that for CA; KEYRUPT1
+    loses Q, which is the only one that knows the way back from TC UPDATE to the first QXCH RTRN, and from the second to TC Q."""
+    status, out, err = call("shake", f"{EXAMPLES}/audited.agc", "300", "--each-interrupt")
+    same("the status of an audit", (status, err), (1, ""))
+    told("a word that two levels use", "places give the same\n  CH 011 word 1 is 00001 in place of 00002\n    at 02,4122 CA TMP\nRUPT 4:" in out, out)
+    key = out.partition("RUPT 5:")[2]
+    told("a way back that is lost", "CH 011 word 1 is none in place of 00002; NOTE NOTKEPT" in key and "    at 02,4111 EXTEND, 02,4131 QXCH RTRN, 02,4132 TC Q\n" in key, out)
+
+
 def check_kept(room):
     """What is kept is not made again, also after a line that was cut short; and what is kept of something else is refused."""
     counted, calls = f"{room}/counted", f"{room}/calls"
@@ -191,4 +201,4 @@ def check_kept(room):
     same("the end at a terminal", at.end(), 1)
 
 
-PARTS = [check_each_interrupt, check_shake, check_notes_of_runs, check_most_often, check_state, check_two, check_kept]
+PARTS = [check_each_interrupt, check_shake, check_notes_of_runs, check_most_often, check_state, check_two, check_audited, check_kept]
