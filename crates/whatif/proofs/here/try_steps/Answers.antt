@@ -9,8 +9,8 @@ use Rattle.whatif.proofs.Steps.{outcome_begins}
 use Rattle.whatif.proofs.Told.{trials_parts}
 use Rattle.whatif.proofs.here.try_steps.Goals as goal
 
-pub write_each-made-requires-clause-answer : goal.write_each-made-requires-clause-answer
-write_each-made-requires-clause-answer c =
+pub write_each-requires-clause-answer : goal.write_each-requires-clause-answer
+write_each-requires-clause-answer c =
     outcome_begins _ c.run_without.new.processor.scenario _ _ _ c.after-trunk.ensures.answer
     (c.after-trunk.ensures.from ∙ sym c.after-trunk.ensures.done)
 
@@ -27,5 +27,7 @@ returns-clause-text c =
     (finishes without.answer.others without.machine.cells c.args.first scenario c.args.steps trials) in
     let told = rw (c.in_ok-without.ensures.scenario, c.in-Ok.ensures, c.after-trunk.ensures.from, c.after-trunk.ensures.done) at
     (c.in_ok-made.ensures.written refl) in
-    told ∙ ap (λ x. x ++ spans) (c.in_ok-write_without.ensures.written refl)
+    let begun = c.in_ok-write_without.ensures.written refl ∙ ap (λ x. x ++ without_text without.machine without.answer)
+    c.new-text.ensures.written in
+    told ∙ ap (λ x. x ++ spans) begun
     ∙ sym (trials_parts First c.args.first scenario trials c.args.steps without.machine without.answer machine answer)
