@@ -189,6 +189,18 @@ class Shake(ViewCase):
         with self.subTest("each place of an input that is refused"):
             self.assertEqual(call("shake", keeps, "100", "TIME3 MINC", "--each-place"), (1, "", "TIME3 MINC: agcws: E33 LINE 1\n"))
 
+    def test_audited(self):
+        """Two of the faults of audited.agc, without a word about where they are. By hand: T5RUPT leaves SPEED, 1, in TMP, where LXCH has put twice that for CA; KEYRUPT1
+        loses Q, which is the only one that knows the way back from TC UPDATE to the first QXCH RTRN, and from the second to TC Q."""
+        status, out, err = call("shake", f"{EXAMPLES}/audited.agc", "300", "--each-interrupt")
+        with self.subTest("the status of an audit"):
+            self.assertEqual((status, err), (1, ""))
+        with self.subTest("a word that two levels use"):
+            self.assertIn("places give the same\n  CH 011 word 1 is 00001 in place of 00002\n    at 02,4122 CA TMP\nRUPT 4:", out)
+        key = out.partition("RUPT 5:")[2]
+        with self.subTest("a way back that is lost"):
+            self.assertTrue("CH 011 word 1 is none in place of 00002; NOTE NOTKEPT" in key and "    at 02,4111 EXTEND, 02,4131 QXCH RTRN, 02,4132 TC Q\n" in key, out)
+
     def test_kept(self):
         """What is kept is not made again, also after a line that was cut short; and what is kept of something else is refused."""
         counted, calls = f"{self.room}/counted", f"{self.room}/calls"

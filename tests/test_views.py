@@ -440,6 +440,8 @@ class Views(ViewCase):
             self.assertEqual(shown[4][-1], "# COUNT 1")
         with self.subTest("whatif of an input that is refused"):
             self.assertEqual(shown[5], ["TIME3 MINC: E33"])
+        with self.subTest("whatif of an input that never comes"):
+            self.assertEqual(self.talk(["until 26", "whatif TIME3 PINC for 0"], LOST[0], EMPTY)[2], ["cycle 27: it never comes"])
         with self.subTest("whatif of no input"):
             self.assertEqual(shown[6], ["whatif takes an input, as CHAN 15 21, and then for N and to CYCLE where they are meant"])
         span = ["whatif tries 65,536 cycles at most: it goes to one from 27 to 65562"]

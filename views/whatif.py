@@ -6,18 +6,19 @@ from typing import NamedTuple
 import pipe
 from results import Result, differences, words_of
 
-SPAN = re.compile(r"FROM \d+ TO \d+ COUNT (\d+) ALIKE (\d+) OTHERS (\d+)( ERASABLE)?")
+SPAN = re.compile(r"FROM \d+ TO \d+ COUNT (\d+) ALIKE (\d+) OTHERS (\d+)( ERASABLE)?( NEVER)?")
 WORD = re.compile(r"CH ([0-7]{3}) ([0-7]{5})")
 END = re.compile(r"END (\S+)(?: CELL (\S+) ([0-7]{5}) NOT ([0-7]{5}))?")
 
 
 class Span(NamedTuple):
-    """Trials one after another that come to the same: how many they are, what is put out with each, and whether erasable memory is executed; and of the first of
-    them the place of its next instruction at the end, and the first erasable word that then differs: its place, that word, and the other, or three times None."""
+    """Trials one after another that come to the same: how many they are, what is put out with each, whether erasable memory is executed, and whether the run ends
+    before they come; and of the first of them the place of its next instruction at the end, and the first erasable word that then differs: its place, that word, and the other, or three times None."""
 
     count: int
     outputs: list
     is_lost: bool
+    is_never: bool
     end: str
     differs: tuple
 
@@ -36,11 +37,11 @@ def spans(words, feed, steps, trials, base):
     # (the run without a trial, and its end)
     next(told), next(told)
     for line in told:
-        count, alike, others, is_lost = SPAN.fullmatch(line).groups()
+        count, alike, others, is_lost, is_never = SPAN.fullmatch(line).groups()
         more = [WORD.fullmatch(next(told)).groups() for _ in range(int(others))]
         end, *differs = END.fullmatch(next(told)).groups()
         outputs = base[: int(alike)] + [pipe.Output(0, int(channel, 8), int(word, 8)) for channel, word in more]
-        yield Span(int(count), outputs, bool(is_lost), end, tuple(differs))
+        yield Span(int(count), outputs, bool(is_lost), bool(is_never), end, tuple(differs))
 
 
 def changes(words, feed, steps, cycles, text):
@@ -50,5 +51,5 @@ def changes(words, feed, steps, cycles, text):
     for span in spans(words, feed, steps, [f"{it} {text}" for it in cycles], base):
         own = list(islice(left, span.count))
         said = [*differences(usual, Result(words_of(span.outputs), ())), *(["erasable memory is executed"] if span.is_lost else [])]
-        found.append((own[0], own[-1], "; ".join(said) or "the same"))
+        found.append((own[0], own[-1], "; ".join(said) or ("it never comes" if span.is_never else "the same")))
     return found

@@ -300,6 +300,7 @@ the first other one, and how many words follow, each of them in a line:
   CH 011 00004
 The cycles at which words come do not count. ERASABLE at the end of a line: an
 instruction was executed in erasable memory, as of a program that is lost.
+NEVER: the run ends at the cycles of these trials or before, so none comes.
 After each of them, where the run stands at its end, of the first of these
 trials; and the first word of erasable memory from 61 on that differs from that
 of the run without:
@@ -450,6 +451,7 @@ With --extended there are these besides, and after E50 COMMAND stands why:
   whatif INPUT, .. K   K steps from P on, or 1000, without an input, as in FEED,
                        and with it, that came at P: as agcws whatif has them,
                        of the other words the first. Nothing changes
+  .. K from A to B     the same at each of the steps A to B, up to K after B
   find TEXT            the symbols whose names begin so, as FIND; COUNT
   breaks               the breakpoints, one a line, as BREAK I at PLACE; COUNT
   clear I              breakpoint I is taken away: CLEAR I, or NONE

@@ -24,6 +24,7 @@ use Rattle.commands.specs.declared.extended.IndexLines.TheVariants.{Omitted, Tol
 use Rattle.commands.specs.declared.extended.ExtendedLine.TheVariants.{Plain, Common, Says, Help, Breaks, ClearOne, On, AllRegisters, Until}
 use Rattle.commands.specs.declared.extended.ExtendedLine.TheVariants.{WhyStep, Why, Words, Where, Find, Trace, Inputs, Over, Out, Listed}
 use Rattle.commands.specs.declared.extended.ExtendedLine.TheVariants.{Values, Channels, Differs, WhySince, TailSteps, Survey, Say, WhatIf}
+use Rattle.commands.specs.declared.whatif.Extent.TheVariants.{Here, Each}
 use Rattle.commands.specs.declared.extended.ExtendedLine.TheVariants.{Calls, WhyWay, WhyControl}
 use Rattle.commands.specs.declared.extended.LinkLines.{LinkLines}
 
@@ -441,21 +442,26 @@ states = refl
 
 -- what is tried: an input as a line of a feed has it after its cycle, and how many steps
 trials : asked (codes "whatif TIME3 PINC" ∷ codes "whatif RUPT 4 20 # soon" ∷ codes "whatif CHAN 15 21"
-    ∷ codes "whatif CHAN 015 00021 1099511627776" ∷ codes "whatif TIME3 MINC" ∷ codes "help whatif" ∷ [])
-    ≡ WhatIf (Count Time3 Pinc) 1000
-    ∷ WhatIf (Interrupt 4) 20
-    ∷ WhatIf (Word 0o15 0o21) 1000
-    ∷ WhatIf (Word 0o15 0o21) 1099511627776
+    ∷ codes "whatif CHAN 015 00021 1099511627776" ∷ codes "whatif TIME3 PINC 5 from 6 to 6"
+    ∷ codes "whatif CHAN 15 21 5 from 0 to 1099511627776" ∷ codes "whatif TIME3 MINC" ∷ codes "help whatif" ∷ [])
+    ≡ WhatIf (Count Time3 Pinc) (Here 1000)
+    ∷ WhatIf (Interrupt 4) (Here 20)
+    ∷ WhatIf (Word 0o15 0o21) (Here 1000)
+    ∷ WhatIf (Word 0o15 0o21) (Here 1099511627776)
+    ∷ WhatIf (Count Time3 Pinc) (Each 5 6 0)
+    ∷ WhatIf (Word 0o15 0o21) (Each 5 0 1099511627776)
     ∷ Plain WrongCounter
-    ∷ Says (codes "HELP whatif takes an input as in a feed, or one and a count: so many steps with it, beside those without it\n") ∷ []
+    ∷ Says (codes "HELP whatif takes an input as in a feed, [k [from A to B]]: k steps on with it [at A to B], beside without\n") ∷ []
 unfolding extended_line extended_forms usages forms runs parsed counters sequences registers window
 trials = refl
 
 -- no input, one that no feed has, none on a channel that takes none, no count, and too many fields
 not_tried : asked (codes "whatif" ∷ codes "whatif RUPT" ∷ codes "whatif RUPT 11" ∷ codes "whatif 5 RUPT 4" ∷ codes "whatif CHAN 15"
     ∷ codes "whatif CHAN 1 21" ∷ codes "whatif RUPT 4 x" ∷ codes "whatif TIME3 PINC 5 6" ∷ codes "whatif CHAN 15 21 5 6"
-    ∷ codes "whatif CHAN 15 21 1234567890123456" ∷ [])
-    ≡ replicate 10 (Says (codes "E50 COMMAND whatif takes an input as in a feed, or one and a count\n"))
+    ∷ codes "whatif CHAN 15 21 1234567890123456" ∷ codes "whatif RUPT 4 5 from 7 to 6" ∷ codes "whatif RUPT 4 from 6 to 7"
+    ∷ codes "whatif RUPT 4 5 at 6 to 7" ∷ codes "whatif RUPT 4 5 from 6 on 7" ∷ codes "whatif RUPT 4 5 from 6 to"
+    ∷ codes "whatif RUPT 4 5 from 6 to 7 8" ∷ codes "whatif RUPT 4 5 from x to 7" ∷ [])
+    ≡ replicate 17 (Says (codes "E50 COMMAND whatif takes an input as in a feed, [k [from A to B]]\n"))
 unfolding extended_line extended_forms usages forms runs parsed counters sequences registers window
 not_tried = refl
 

@@ -43,7 +43,7 @@ usages =
     ∷ (codes "changed", usage (codes "a step") (codes "the erasable places that differ since then"))
     ∷ (codes "differs", usage (codes "a step") (codes "the words that differ from those at the step"))
     ∷ (codes "survey", usage (codes "FROM TO, 1 to 4096 buckets, at most 8 places") (codes "what happened in steps FROM to TO, by buckets"))
-    ∷ (codes "whatif", usage (codes "an input as in a feed, or one and a count") (codes "so many steps with it, beside those without it"))
+    ∷ (codes "whatif", usage (codes "an input as in a feed, [k [from A to B]]") (codes "k steps on with it [at A to B], beside without"))
     ∷ (codes "tail", usage (codes "nothing, or [a count] steps") (codes "the last channel lines [with their steps]"))
     ∷ (codes "add", usage (codes "a line of a feed") (codes "one input more"))
     ∷ (codes "inputs", usage (codes "nothing") (codes "the inputs that were added, as lines of a feed"))

@@ -1,5 +1,5 @@
--- What `whatif` takes: an input, as a line of a feed has it after its cycle, and a number of steps or none.
-use Rattle.std.specs.Prelude.{ℕ, List, [], ◌∷◌, Option, None, Some, Result, Ok, Err, codes, if◌then◌else◌}
+-- What `whatif` takes: an input, as a line of a feed has it after its cycle; a number of steps or none; and the steps at which it is tried.
+use Rattle.std.specs.Prelude.{ℕ, ◌-◌, nat_le, ◌&&◌, List, [], ◌∷◌, Option, None, Some, Result, Ok, Err, codes, if◌then◌else◌}
 use Rattle.agc_text.specs.Tables.{same_name}
 use Rattle.feed.specs.Statements.{short_input, long_input}
 use Rattle.feed.specs.declared.fault.LineFault.{LineFault}
@@ -9,28 +9,44 @@ use Rattle.commands.specs.Commands.{count_in}
 use Rattle.commands.specs.declared.command.ParsedLine.TheVariants as parsed
 use Rattle.commands.specs.declared.extended.ExtendedLine.{ExtendedLine}
 use Rattle.commands.specs.declared.extended.ExtendedLine.TheVariants.{Plain, WhatIf}
+use Rattle.commands.specs.declared.whatif.Extent.{Extent}
+use Rattle.commands.specs.declared.whatif.Extent.TheVariants.{Here, Each}
 
 -- how many steps it goes on where no number is named
 abbrev pub usual_steps : ℕ
 usual_steps = 1000
 
--- an input that is tried in so many steps, where it has its form
-abbrev pub tried_in : Result Input LineFault → Option ℕ → Option ExtendedLine
-tried_in input None = None
-tried_in (Ok input) (Some steps) = Some (WhatIf input steps)
-tried_in (Err BadLine) (Some steps) = None
-tried_in (Err WrongCounter) (Some steps) = Some (Plain parsed.WrongCounter)
+-- so many steps on, at each step from one to another, of which there is one at least
+abbrev pub each_in : Option ℕ → Option ℕ → Option ℕ → Option Extent
+each_in (Some steps) (Some first) (Some last) = if nat_le first last then Some (Each steps first (last - first)) else None
+each_in steps first last = None
 
--- three fields: a word on a channel, or an input of two fields and a number of steps
-abbrev pub tried_of_three : List ℕ → List ℕ → List ℕ → Option ExtendedLine
-tried_of_three name first last =
-    if same_name name (codes "CHAN") then tried_in (long_input name first last) (Some usual_steps)
-    else tried_in (short_input name first) (count_in last)
+abbrev pub here_in : Option ℕ → Option Extent
+here_in None = None
+here_in (Some steps) = Some (Here steps)
+
+-- what stands after an input: nothing, so many steps, or `k from A to B`
+abbrev pub extent_in : List (List ℕ) → Option Extent
+extent_in [] = Some (Here usual_steps)
+extent_in (steps ∷ []) = here_in (count_in steps)
+extent_in (steps ∷ from ∷ first ∷ to ∷ last ∷ []) =
+    if same_name from (codes "from") && same_name to (codes "to") then each_in (count_in steps) (count_in first) (count_in last) else None
+extent_in fields = None
+
+-- an input that is tried so, where it has its form
+abbrev pub tried_in : Result Input LineFault → Option Extent → Option ExtendedLine
+tried_in input None = None
+tried_in (Ok input) (Some extent) = Some (WhatIf input extent)
+tried_in (Err BadLine) (Some extent) = None
+tried_in (Err WrongCounter) (Some extent) = Some (Plain parsed.WrongCounter)
+
+-- three fields are a word on a channel
+abbrev pub word_tried : List ℕ → List ℕ → List (List ℕ) → Option ExtendedLine
+word_tried name channel [] = None
+word_tried name channel (word ∷ more) = tried_in (long_input name channel word) (extent_in more)
 
 abbrev pub whatif_form : List (List ℕ) → Option ExtendedLine
 whatif_form [] = None
 whatif_form (name ∷ []) = None
-whatif_form (name ∷ first ∷ []) = tried_in (short_input name first) (Some usual_steps)
-whatif_form (name ∷ first ∷ second ∷ []) = tried_of_three name first second
-whatif_form (name ∷ first ∷ second ∷ steps ∷ []) = tried_in (long_input name first second) (count_in steps)
-whatif_form (name ∷ first ∷ second ∷ steps ∷ next ∷ more) = None
+whatif_form (name ∷ first ∷ more) =
+    if same_name name (codes "CHAN") then word_tried name first more else tried_in (short_input name first) (extent_in more)

@@ -30,3 +30,4 @@ pub use reading::{DeviceFault, LineReader};
 pub use subject::Subject;
 pub use survey::{MOST_BUCKETS, MOST_SURVEYED, Subjects, Surveyed};
 pub use usage::{HelpText, help_text};
+pub use whatif::Extent;

@@ -136,8 +136,8 @@ const ROWS: [Row; 36] = [
     ),
     (
         "whatif",
-        "an input as in a feed, or one and a count",
-        "so many steps with it, beside those without it",
+        "an input as in a feed, [k [from A to B]]",
+        "k steps on with it [at A to B], beside without",
     ),
     (
         "tail",

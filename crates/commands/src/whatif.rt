@@ -6,7 +6,7 @@ ghost use Rattle.agc_text.specs.Tables.{value_in};
 ghost use Rattle.feed.specs.Names.{sequences};
 ghost use Rattle.feed.specs.Statements.{channel_in as input_channel_in, formed, long_input, pulse_of, request_in};
 ghost use Rattle.feed.specs.Statements.{short_input};
-ghost use Rattle.commands.specs.WhatIfs.{tried_in, tried_of_three, usual_steps, whatif_form};
+ghost use Rattle.commands.specs.WhatIfs.{each_in, extent_in, here_in, tried_in, usual_steps, whatif_form, word_tried};
 
 use crate::command::ParsedLine;
 use crate::extended::ExtendedLine;
@@ -21,42 +21,90 @@ const USUAL_STEPS: u64 = 1_000;
 /// The most digits of an interrupt.
 const REQUEST_DIGITS: usize = 2;
 
+/// Where an input is tried, and how many steps on.
+#[derive(Clone, Copy, PartialEq, Eq, Debug, Drop)]
+pub enum Extent {
+    /// So many steps on, at the position.
+    Here(u64),
+    /// So many steps on from the last, at each of some steps: the first of them, and how many more.
+    Each(u64, u64, u64),
+}
+
 // What `whatif` takes.
 pub(crate) fn whatif_form(rest: &[u8]) -> Option<ExtendedLine>
     ensures { result ≡ whatif_form (texts (runs rest.now)) }
 {
     let (name, rest) = split_field(rest)?;
     let (first, rest) = split_field(rest)?;
-    let Some((second, rest)) = split_field(rest) else {
-        return tried_in(short_input(name, first), Some(USUAL_STEPS));
-    };
-    let Some((steps, rest)) = split_field(rest) else {
-        return tried_of_three(name, first, second);
-    };
-    match split_field(rest) {
-        Some(_) => None,
-        None => tried_in(long_input(name, first, second), count_in(steps)),
-    }
-}
-
-// A word on a channel, or an input of two fields and a number of steps.
-fn tried_of_three(name: &[u8], first: &[u8], last: &[u8]) -> Option<ExtendedLine>
-    ensures { result ≡ tried_of_three name.now first.now last.now }
-{
     if is_word(name, "CHAN") {
-        tried_in(long_input(name, first, last), Some(USUAL_STEPS))
+        word_tried(name, first, rest)
     } else {
-        tried_in(short_input(name, first), count_in(last))
+        tried_in(short_input(name, first), extent_in(rest))
     }
 }
 
-// An input that is tried in so many steps, where it has its form.
-fn tried_in(input: Result<Input, LineFault>, steps: Option<u64>) -> Option<ExtendedLine>
-    ensures { result ≡ tried_in input steps }
+// A word on a channel that is tried.
+fn word_tried(name: &[u8], channel: &[u8], rest: &[u8]) -> Option<ExtendedLine>
+    ensures { result ≡ word_tried name.now channel.now (texts (runs rest.now)) }
 {
-    let steps = steps?;
+    let (word, rest) = split_field(rest)?;
+    tried_in(long_input(name, channel, word), extent_in(rest))
+}
+
+// What stands after an input.
+fn extent_in(rest: &[u8]) -> Option<Extent>
+    ensures { result ≡ extent_in (texts (runs rest.now)) }
+{
+    let Some((steps, rest)) = split_field(rest) else {
+        return Some(Extent::Here(USUAL_STEPS));
+    };
+    let Some((from, rest)) = split_field(rest) else {
+        return here_in(count_in(steps));
+    };
+    let (first, rest) = split_field(rest)?;
+    let (to, rest) = split_field(rest)?;
+    let (last, rest) = split_field(rest)?;
+    if split_field(rest).is_some() {
+        return None;
+    }
+    if is_word(from, "from") && is_word(to, "to") {
+        each_in(count_in(steps), count_in(first), count_in(last))
+    } else {
+        None
+    }
+}
+
+// So many steps on, at the position.
+fn here_in(steps: Option<u64>) -> Option<Extent>
+    ensures { result ≡ here_in steps }
+{
+    match steps {
+        Some(steps) => Some(Extent::Here(steps)),
+        None => None,
+    }
+}
+
+// So many steps on, at each step from one to another.
+fn each_in(steps: Option<u64>, first: Option<u64>, last: Option<u64>) -> Option<Extent>
+    ensures { result ≡ each_in steps first last }
+{
+    let (Some(steps), Some(first), Some(last)) = (steps, first, last) else {
+        return None;
+    };
+    if first <= last {
+        Some(Extent::Each(steps, first, last - first))
+    } else {
+        None
+    }
+}
+
+// An input that is tried so, where it has its form.
+fn tried_in(input: Result<Input, LineFault>, extent: Option<Extent>) -> Option<ExtendedLine>
+    ensures { result ≡ tried_in input extent }
+{
+    let extent = extent?;
     match input {
-        Ok(input) => Some(ExtendedLine::WhatIf(input, steps)),
+        Ok(input) => Some(ExtendedLine::WhatIf(input, extent)),
         Err(LineFault::BadLine) => None,
         Err(LineFault::WrongCounter) => Some(ExtendedLine::Plain(ParsedLine::WrongCounter)),
     }

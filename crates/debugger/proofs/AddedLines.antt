@@ -35,7 +35,8 @@ use Rattle.commands.specs.declared.command.ParsedLine.TheVariants.{Nothing, TooL
 use Rattle.commands.specs.declared.subject.Subject.{Subject}
 use Rattle.commands.specs.declared.survey.Surveyed.{Surveyed}
 use Rattle.commands.specs.Surveys.{survey_in}
-use Rattle.commands.specs.WhatIfs.{tried_in, usual_steps, whatif_form}
+use Rattle.commands.specs.WhatIfs.{extent_in, tried_in, whatif_form, word_tried}
+use Rattle.commands.specs.declared.whatif.Extent.{Extent}
 use Rattle.commands.specs.declared.extended.LinkLines.{LinkLines}
 use Rattle.commands.specs.declared.extended.ExtendedLine.{ExtendedLine}
 use Rattle.commands.specs.declared.extended.ExtendedLine.TheVariants.{Plain, Common, Says, Help, Breaks, ClearOne, On, AllRegisters, Until}
@@ -271,21 +272,22 @@ break_adds symbols (kind ∷ fs) =
     (chosen AskedGivable (same_name kind (codes "change")) _ _
     (mapped AskedGivable (λ s. broken_at (breakpoint.Changed s)) (λ s. tt) (subject_alone symbols fs)) tt))))
 
-tried_adds : (input : Result Input LineFault) (steps : Option ℕ) → IfSome (tried_in input steps) AskedGivable
+tried_adds : (input : Result Input LineFault) (extent : Option Extent) → IfSome (tried_in input extent) AskedGivable
 tried_adds input None = tt
-tried_adds (Ok input) (Some steps) = tt
-tried_adds (Err fault.BadLine) (Some steps) = tt
-tried_adds (Err fault.WrongCounter) (Some steps) = tt
+tried_adds (Ok input) (Some extent) = tt
+tried_adds (Err fault.BadLine) (Some extent) = tt
+tried_adds (Err fault.WrongCounter) (Some extent) = tt
+
+word_adds : (name channel : List ℕ) (fs : List (List ℕ)) → IfSome (word_tried name channel fs) AskedGivable
+word_adds name channel [] = tt
+word_adds name channel (word ∷ more) = tried_adds (long_input name channel word) (extent_in more)
 
 whatif_adds : (fs : List (List ℕ)) → IfSome (whatif_form fs) AskedGivable
 whatif_adds [] = tt
 whatif_adds (name ∷ []) = tt
-whatif_adds (name ∷ first ∷ []) = tried_adds (short_input name first) (Some usual_steps)
-whatif_adds (name ∷ first ∷ second ∷ []) =
-    chosen AskedGivable (same_name name (codes "CHAN")) _ _ (tried_adds (long_input name first second) (Some usual_steps))
-    (tried_adds (short_input name first) (count_in second))
-whatif_adds (name ∷ first ∷ second ∷ steps ∷ []) = tried_adds (long_input name first second) (count_in steps)
-whatif_adds (name ∷ first ∷ second ∷ steps ∷ next ∷ more) = tt
+whatif_adds (name ∷ first ∷ more) =
+    chosen AskedGivable (same_name name (codes "CHAN")) _ _ (word_adds name first more)
+    (tried_adds (short_input name first) (extent_in more))
 
 abbrev AskedAdds : ExtendedForm → Type 0
 AskedAdds form = (fs : List (List ℕ)) → IfSome (form fs) AskedGivable

@@ -352,7 +352,8 @@ after_asked terms h d s o (Values place k) =
     says_same d (rows_text Number terms.symbols terms.source d.scenario.rope h (here h d) place k)
     (rows_text Number terms.symbols terms.source d.scenario.rope (silent h) (here h d) place k)
     (same_rows Number terms.symbols terms.source d.scenario.rope h (here h d) place k)
-after_asked terms h d s o (WhatIf input k) = quiet d (tries input k d) (keeps_scenario input k d) (keeps_steps input k d)
+after_asked terms h d s o (WhatIf input extent) =
+    quiet d (tries input extent d) (keeps_scenario input extent d) (keeps_steps input extent d)
 after_asked terms h d s o request = quiet d (extended_reply terms h d request) refl refl
 
 history_shows : (scenario : Scenario) → Shows (history scenario) scenario

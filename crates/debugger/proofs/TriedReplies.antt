@@ -10,6 +10,8 @@ use Rattle.feed.specs.CountsTaken.{is_from}
 use Rattle.feed.specs.Merged.{plain_entry}
 use Rattle.feed.specs.declared.entry.Plain.{Plain}
 use Rattle.feed.specs.declared.input.Input.{Input}
+use Rattle.commands.specs.declared.whatif.Extent.{Extent}
+use Rattle.commands.specs.declared.whatif.Extent.TheVariants.{Here, Each}
 use Rattle.commands.specs.declared.command.Breakpoint.{Breakpoint}
 use Rattle.cpu.specs.Additions.{most_plain_inputs, plain_inputs}
 use Rattle.cpu.specs.State.{Scenario}
@@ -17,7 +19,7 @@ use Rattle.replay.specs.Memory.{step_limit}
 use Rattle.replay.specs.View.{HasShown, SessionView}
 use Rattle.debugger.specs.Executions.{Replies, awaiting, desk}
 use Rattle.debugger.specs.Replies.{Desk, Reply, addition_to_come, line, refuses, says}
-use Rattle.debugger.specs.WhatIfs.{tried_by, tries, whatif_text}
+use Rattle.debugger.specs.WhatIfs.{tried_by, tries, tries_from, whatif_text}
 use Rattle.debugger.proofs.WholeReplies.{replies-text}
 
 -- a reply of one call that takes memory was written, or a beginning of it
@@ -37,40 +39,59 @@ pub still_there : (old new : SessionView) (t position : ℕ) (breakpoints : List
     → desk new position breakpoints ≡ desk old position breakpoints
 still_there old new t position breakpoints shown = rw shown.same refl
 
-pub limited : (may_refuse : Bool) (d : Desk) (input : Input) (k : ℕ) (old new bytes : List ℕ) (result : Result (Unit {0}) WriteFailed)
-    → step_limit < d.position + k
-    → bytes ≡ line (codes "E40 LIMIT") → Writes old new bytes result → Replies may_refuse (tries input k) d d old new result
-limited may_refuse d input k old new bytes result past e w =
-    let is : ltb step_limit (d.position + k) ≡ true = grind (arith, nat_tests, past) in
-    replies-text may_refuse (tries input k) d d old new (line (codes "E40 LIMIT")) bytes result (λ answers additions. rw is refl) e w
+pub not_yet : (may_refuse : Bool) (d : Desk) (input : Input) (k first more : ℕ) (old new bytes : List ℕ)
+    (result : Result (Unit {0}) WriteFailed) → d.steps < first + more
+    → bytes ≡ line (codes "E41 NOT YET") → Writes old new bytes result
+    → Replies may_refuse (tries_from input k first more) d d old new result
+not_yet may_refuse d input k first more old new bytes result late e w =
+    let is : ltb d.steps (first + more) ≡ true = grind (arith, nat_tests, late) in
+    replies-text may_refuse (tries_from input k first more) d d old new (line (codes "E41 NOT YET")) bytes result
+    (λ answers additions. rw is refl) e w
 
-pub crowded : (may_refuse : Bool) (d : Desk) (input : Input) (k : ℕ) (old new bytes : List ℕ) (result : Result (Unit {0}) WriteFailed)
-    → d.position + k ≤ step_limit → most_plain_inputs ≤ plain_inputs d.scenario
-    → bytes ≡ line (codes "E32 TOO MANY") → Writes old new bytes result → Replies may_refuse (tries input k) d d old new result
-crowded may_refuse d input k old new bytes result within many e w =
-    let is : ltb step_limit (d.position + k) ≡ false = grind (arith, nat_tests, within) in
+pub limited : (may_refuse : Bool) (d : Desk) (input : Input) (k first more : ℕ) (old new bytes : List ℕ)
+    (result : Result (Unit {0}) WriteFailed) → first + more ≤ d.steps → step_limit < first + more + k
+    → bytes ≡ line (codes "E40 LIMIT") → Writes old new bytes result → Replies may_refuse (tries_from input k first more) d d old new result
+limited may_refuse d input k first more old new bytes result made past e w =
+    let stands : ltb d.steps (first + more) ≡ false = grind (arith, nat_tests, made) in
+    let is : ltb step_limit (first + more + k) ≡ true = grind (arith, nat_tests, past) in
+    replies-text may_refuse (tries_from input k first more) d d old new (line (codes "E40 LIMIT")) bytes result
+    (λ answers additions. rw (stands, is) refl) e w
+
+pub crowded : (may_refuse : Bool) (d : Desk) (input : Input) (k first more : ℕ) (old new bytes : List ℕ)
+    (result : Result (Unit {0}) WriteFailed) → first + more ≤ d.steps
+    → first + more + k ≤ step_limit → most_plain_inputs ≤ plain_inputs d.scenario
+    → bytes ≡ line (codes "E32 TOO MANY") → Writes old new bytes result
+    → Replies may_refuse (tries_from input k first more) d d old new result
+crowded may_refuse d input k first more old new bytes result made within many e w =
+    let stands : ltb d.steps (first + more) ≡ false = grind (arith, nat_tests, made) in
+    let is : ltb step_limit (first + more + k) ≡ false = grind (arith, nat_tests, within) in
     let full : leb most_plain_inputs (plain_inputs d.scenario) ≡ true = grind (arith, nat_tests, many) in
-    replies-text may_refuse (tries input k) d d old new (line (codes "E32 TOO MANY")) bytes result (λ answers additions. rw (is, full) refl)
-    e w
+    replies-text may_refuse (tries_from input k first more) d d old new (line (codes "E32 TOO MANY")) bytes result
+    (λ answers additions. rw (stands, is, full) refl) e w
 
-pub forgotten : (may_refuse : Bool) (d to : Desk) (input : Input) (k : ℕ) (old new bytes : List ℕ) (result : Result (Unit {0}) WriteFailed)
-    → to ≡ d → d.position + k ≤ step_limit → plain_inputs d.scenario < most_plain_inputs
-    → bytes ≡ line (codes "E2 MEMORY") → Writes old new bytes result → Replies may_refuse (tries input k) d to old new result
-forgotten may_refuse d to input k old new bytes result still within few e w =
-    let is : ltb step_limit (d.position + k) ≡ false = grind (arith, nat_tests, within) in
+pub forgotten : (may_refuse : Bool) (d to : Desk) (input : Input) (k first more : ℕ) (old new bytes : List ℕ)
+    (result : Result (Unit {0}) WriteFailed) → to ≡ d → first + more ≤ d.steps
+    → first + more + k ≤ step_limit → plain_inputs d.scenario < most_plain_inputs
+    → bytes ≡ line (codes "E2 MEMORY") → Writes old new bytes result
+    → Replies may_refuse (tries_from input k first more) d to old new result
+forgotten may_refuse d to input k first more old new bytes result still made within few e w =
+    let stands : ltb d.steps (first + more) ≡ false = grind (arith, nat_tests, made) in
+    let is : ltb step_limit (first + more + k) ≡ false = grind (arith, nat_tests, within) in
     let room : leb most_plain_inputs (plain_inputs d.scenario) ≡ false = grind (arith, nat_tests, few) in
-    rw still (replies_trying may_refuse (tries input k) d d None old new (line (codes "E2 MEMORY")) bytes result
-    (λ answers additions. rw (is, room) refl) e w)
+    rw still (replies_trying may_refuse (tries_from input k first more) d d None old new (line (codes "E2 MEMORY")) bytes result
+    (λ answers additions. rw (stands, is, room) refl) e w)
 
-pub told_whole : (may_refuse : Bool) (d to : Desk) (input : Input) (k : ℕ) (old new bytes : List ℕ) (result : Result (Unit {0}) WriteFailed)
-    → to ≡ d → d.position + k ≤ step_limit → plain_inputs d.scenario < most_plain_inputs
-    → bytes ≡ whatif_text d.scenario d.position input k → Writes old new bytes result
-    → Replies may_refuse (tries input k) d to old new result
-told_whole may_refuse d to input k old new bytes result still within few e w =
-    let is : ltb step_limit (d.position + k) ≡ false = grind (arith, nat_tests, within) in
+pub told_whole : (may_refuse : Bool) (d to : Desk) (input : Input) (k first more : ℕ) (old new bytes : List ℕ)
+    (result : Result (Unit {0}) WriteFailed) → to ≡ d → first + more ≤ d.steps
+    → first + more + k ≤ step_limit → plain_inputs d.scenario < most_plain_inputs
+    → bytes ≡ whatif_text d.scenario first more input k → Writes old new bytes result
+    → Replies may_refuse (tries_from input k first more) d to old new result
+told_whole may_refuse d to input k first more old new bytes result still made within few e w =
+    let stands : ltb d.steps (first + more) ≡ false = grind (arith, nat_tests, made) in
+    let is : ltb step_limit (first + more + k) ≡ false = grind (arith, nat_tests, within) in
     let room : leb most_plain_inputs (plain_inputs d.scenario) ≡ false = grind (arith, nat_tests, few) in
-    rw still (replies_trying may_refuse (tries input k) d d (Some 0) old new (whatif_text d.scenario d.position input k) bytes result
-    (λ answers additions. rw (is, room) refl) e w)
+    rw still (replies_trying may_refuse (tries_from input k first more) d d (Some 0) old new (whatif_text d.scenario first more input k)
+    bytes result (λ answers additions. rw (stands, is, room) refl) e w)
 
 -- how many inputs are plain
 pub counted_plain : (scenario : Scenario) (plain : List Plain) → map plain_entry plain ≡ filter (is_from None) scenario.inputs
@@ -90,22 +111,34 @@ either_keeps : {X : Type 0} (of : Reply → X) (x : X) (b : Bool) (r s : Reply) 
 either_keeps of x true r s p q = p
 either_keeps of x false r s p q = q
 
-pub keeps_scenario : (input : Input) (k : ℕ) (d : Desk) → (tries input k d).desk.scenario ≡ d.scenario
-keeps_scenario input k d =
-    let tried = tried_by (addition_to_come d.additions) d (whatif_text d.scenario d.position input k) in
+from_keeps : {X : Type 0} (of : Reply → X) (x : X) (input : Input) (k first more : ℕ) (d : Desk)
+    → ((text : List ℕ) → of (refuses d text) ≡ x)
+    → of (tried_by (addition_to_come d.additions) d (whatif_text d.scenario first more input k)) ≡ x
+    → of (tries_from input k first more d) ≡ x
+from_keeps of x input k first more d refused tried =
+    let told = tried_by (addition_to_come d.additions) d (whatif_text d.scenario first more input k) in
     let room = leb most_plain_inputs (plain_inputs d.scenario) in
-    let of : Reply → Scenario = λ (r : Reply). r.desk.scenario in
-    either_keeps of d.scenario (ltb step_limit (d.position + k)) (refuses d (codes "E40 LIMIT"))
-    (cond room (refuses d (codes "E32 TOO MANY")) tried) refl
-    (either_keeps of d.scenario room (refuses d (codes "E32 TOO MANY")) tried refl
-    (tried_keeps (addition_to_come d.additions) d (whatif_text d.scenario d.position input k)))
+    let limit = ltb step_limit (first + more + k) in
+    either_keeps of x (ltb d.steps (first + more)) (refuses d (codes "E41 NOT YET"))
+    (cond limit (refuses d (codes "E40 LIMIT")) (cond room (refuses d (codes "E32 TOO MANY")) told)) (refused (codes "E41 NOT YET"))
+    (either_keeps of x limit (refuses d (codes "E40 LIMIT")) (cond room (refuses d (codes "E32 TOO MANY")) told)
+    (refused (codes "E40 LIMIT"))
+    (either_keeps of x room (refuses d (codes "E32 TOO MANY")) told (refused (codes "E32 TOO MANY")) tried))
 
-pub keeps_steps : (input : Input) (k : ℕ) (d : Desk) → (tries input k d).desk.steps ≡ d.steps
-keeps_steps input k d =
-    let tried = tried_by (addition_to_come d.additions) d (whatif_text d.scenario d.position input k) in
-    let room = leb most_plain_inputs (plain_inputs d.scenario) in
-    let of : Reply → ℕ = λ (r : Reply). r.desk.steps in
-    either_keeps of d.steps (ltb step_limit (d.position + k)) (refuses d (codes "E40 LIMIT"))
-    (cond room (refuses d (codes "E32 TOO MANY")) tried) refl
-    (either_keeps of d.steps room (refuses d (codes "E32 TOO MANY")) tried refl
-    (tried_stays (addition_to_come d.additions) d (whatif_text d.scenario d.position input k)))
+from_keeps_scenario : (input : Input) (k first more : ℕ) (d : Desk) → (tries_from input k first more d).desk.scenario ≡ d.scenario
+from_keeps_scenario input k first more d =
+    from_keeps (λ (r : Reply). r.desk.scenario) d.scenario input k first more d (λ text. refl)
+    (tried_keeps (addition_to_come d.additions) d (whatif_text d.scenario first more input k))
+
+from_keeps_steps : (input : Input) (k first more : ℕ) (d : Desk) → (tries_from input k first more d).desk.steps ≡ d.steps
+from_keeps_steps input k first more d =
+    from_keeps (λ (r : Reply). r.desk.steps) d.steps input k first more d (λ text. refl)
+    (tried_stays (addition_to_come d.additions) d (whatif_text d.scenario first more input k))
+
+pub keeps_scenario : (input : Input) (extent : Extent) (d : Desk) → (tries input extent d).desk.scenario ≡ d.scenario
+keeps_scenario input (Here k) d = from_keeps_scenario input k d.position 0 d
+keeps_scenario input (Each k first more) d = from_keeps_scenario input k first more d
+
+pub keeps_steps : (input : Input) (extent : Extent) (d : Desk) → (tries input extent d).desk.steps ≡ d.steps
+keeps_steps input (Here k) d = from_keeps_steps input k d.position 0 d
+keeps_steps input (Each k first more) d = from_keeps_steps input k first more d

@@ -1,6 +1,8 @@
--- What an input would change that came at the position.
+-- What an input would change that came at the position, or at each of some steps.
 use Rattle.std.specs.Prelude.{ℕ, ◌+◌, nat_le, nat_lt, List, Option, None, Some, codes, if◌then◌else◌}
 use Rattle.feed.specs.declared.input.Input.{Input}
+use Rattle.commands.specs.declared.whatif.Extent.{Extent}
+use Rattle.commands.specs.declared.whatif.Extent.TheVariants.{Here, Each}
 use Rattle.cpu.specs.Additions.{plain_inputs, most_plain_inputs}
 use Rattle.cpu.specs.State.{Scenario}
 use Rattle.replay.specs.Memory.{step_limit}
@@ -8,19 +10,25 @@ use Rattle.whatif.specs.Here.{here_text}
 use Rattle.debugger.specs.Growth.{later}
 use Rattle.debugger.specs.Replies.{Desk, Reply, addition_to_come, line, refuses, says}
 
--- so many steps after a position: what the run puts out in them, and what it would with an input at the cycles there, which comes after
--- all others of its cycle; of the other words the first
-abbrev pub whatif_text : Scenario → ℕ → Input → ℕ → List ℕ
-whatif_text scenario position input k = here_text scenario position input (position + k)
+-- from a step on, and in so many steps after the last at which it is tried: what the run puts out, and what it would with an input at the
+-- cycles after that step, or after one of so many more, which comes after all others of its cycle; of the other words the first
+abbrev pub whatif_text : Scenario → ℕ → ℕ → Input → ℕ → List ℕ
+whatif_text scenario first more input k = here_text scenario first more input (first + more + k)
 
 -- this is told, or memory runs out; nothing changes
 abbrev pub tried_by : Option ℕ → Desk → List ℕ → Reply
 tried_by None d text = says (line (codes "E2 MEMORY")) (record d { additions = later d.additions })
 tried_by (Some l) d text = says text (record d { additions = later d.additions })
 
--- unless a run has no so many steps, or no input more may stand
-abbrev pub tries : Input → ℕ → Desk → Reply
-tries input k d =
-    if nat_lt step_limit (d.position + k) then refuses d (codes "E40 LIMIT")
+-- unless the steps do not stand yet, or a run has no so many, or no input more may stand
+abbrev pub tries_from : Input → ℕ → ℕ → ℕ → Desk → Reply
+tries_from input k first more d =
+    if nat_lt d.steps (first + more) then refuses d (codes "E41 NOT YET")
+    else (if nat_lt step_limit (first + more + k) then refuses d (codes "E40 LIMIT")
     else (if nat_le most_plain_inputs (plain_inputs d.scenario) then refuses d (codes "E32 TOO MANY")
-    else tried_by (addition_to_come d.additions) d (whatif_text d.scenario d.position input k))
+    else tried_by (addition_to_come d.additions) d (whatif_text d.scenario first more input k)))
+
+-- at the position, or at each of some steps
+abbrev pub tries : Input → Extent → Desk → Reply
+tries input (Here k) d = tries_from input k d.position 0 d
+tries input (Each k first more) d = tries_from input k first more d

@@ -119,8 +119,8 @@ impl Desk {
             ExtendedLine::Say(steps) => {
                 self.trace(session, symbols, LineForm::Sentences, *steps, out)
             }
-            ExtendedLine::WhatIf(input, steps) => {
-                self.what_if(alloc, session, *input, *steps, out)
+            ExtendedLine::WhatIf(input, extent) => {
+                self.what_if(alloc, session, *input, *extent, out)
             }
             ExtendedLine::Calls => write_all(out, self.calls(session, symbols).as_slice()),
         }

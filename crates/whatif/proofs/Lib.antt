@@ -10,3 +10,5 @@ mod Rising
 mod Told
 mod Words
 mod Rows
+mod Stepwise
+mod Holding

@@ -11,7 +11,9 @@ use Rattle.yayul.specs.Listing.{place_text}
 use Rattle.space.specs.Places.{window}
 use Rattle.whatif.specs.declared.finish.Finish.{Finish}
 use Rattle.whatif.specs.declared.others.Others.TheVariants.{All, First}
+use Rattle.whatif.specs.declared.others.Telling.{Telling}
 use Rattle.whatif.specs.Spans.{end_line, one, span_line, spans_text, without_line}
+use Rattle.whatif.specs.Here.{most_steps, own_steps}
 use Rattle.whatif.specs.Trials.{are_rising, line_above}
 use Rattle.whatif.specs.declared.sent.Sent.{Sent}
 use Rattle.space.specs.declared.place.Linear.TheVariants.{Erasable, Fixed}
@@ -71,15 +73,20 @@ without : without_line (record { alike = 0; others = five ∷ six ∷ []; strays
 unfolding digits
 without = refl
 
+-- a run of 1000 cycles
+abbrev to_the_end : Telling
+to_the_end = record { others = All; end = 1000 }
+
 abbrev at_5 : Outcome → Finish
 at_5 a = record { answer = a; place = Fixed 2 5; difference = None }
 
-alike : span_line (record { first = 850; last = 882; count = 33; finish = at_5 (record { alike = 13; others = []; strays = false }) })
+alike : span_line to_the_end
+    (record { first = 850; last = 882; count = 33; finish = at_5 (record { alike = 13; others = []; strays = false }) })
     ≡ codes "FROM 850 TO 882 COUNT 33 ALIKE 13 OTHERS 0\n"
 unfolding digits
 alike = refl
 
-stray : span_line (one 883 (at_5 (record { alike = 13; others = []; strays = true })))
+stray : span_line to_the_end (one 883 (at_5 (record { alike = 13; others = []; strays = true })))
     ≡ codes "FROM 883 TO 883 COUNT 1 ALIKE 13 OTHERS 0 ERASABLE\n"
 unfolding digits
 stray = refl
@@ -94,7 +101,7 @@ ended_otherwise : end_line (Fixed 2 5) (Some (record { place = 0o61; word = 3; o
 unfolding place_text window octal_text digits
 ended_otherwise = refl
 
-three_trials : spans_text All None
+three_trials : spans_text to_the_end None
     ((7, at_5 (record { alike = 1; others = []; strays = false })) ∷ (8, at_5 (record { alike = 1; others = []; strays = false }))
     ∷ (9, at_5 (record { alike = 0; others = six ∷ five ∷ []; strays = false })) ∷ [])
     ≡ (codes "FROM 7 TO 8 COUNT 2 ALIKE 1 OTHERS 0\nEND 02,4005\nFROM 9 TO 9 COUNT 1 ALIKE 0 OTHERS 2\nCH 010 00006\nCH 010 00005\nEND 02,"
@@ -103,7 +110,24 @@ unfolding spans_text place_text window octal_text digits
 three_trials = refl
 
 -- of the other words the first
-first_alone : spans_text First None ((9, at_5 (record { alike = 0; others = six ∷ five ∷ []; strays = false })) ∷ [])
+first_alone : spans_text (record to_the_end { others = First }) None
+    ((9, at_5 (record { alike = 0; others = six ∷ five ∷ []; strays = false })) ∷ [])
     ≡ codes "FROM 9 TO 9 COUNT 1 ALIKE 0 OTHERS 2\nCH 010 00006\nEND 02,4005\n"
 unfolding spans_text place_text window octal_text digits
 first_alone = refl
+
+-- at the last cycle, and behind it, an input never comes
+behind_the_end : spans_text to_the_end None
+    ((999, at_5 (record { alike = 1; others = []; strays = false }))
+    ∷ (1000, at_5 (record { alike = 1; others = []; strays = false }))
+    ∷ (1001, at_5 (record { alike = 1; others = []; strays = false })) ∷ [])
+    ≡ (codes "FROM 999 TO 999 COUNT 1 ALIKE 1 OTHERS 0\nEND 02,4005\nFROM 1000 TO 1001 COUNT 2 ALIKE 1 OTHERS 0 NEVER\nEND 02,4005"
+    ++ codes "\n")
+unfolding spans_text place_text window octal_text digits
+behind_the_end = refl
+
+-- ## Steps
+-- of a run of 20 steps, with an input at step 5, 6 or 7: 15 without one, 2 from step 5 to 7, and 15, 14 and 13 with one
+three_ways : most_steps 5 2 20 ≡ 59
+unfolding own_steps
+three_ways = refl

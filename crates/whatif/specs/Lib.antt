@@ -5,3 +5,4 @@ pub mod Failing
 pub mod Spans
 pub mod Laws
 pub mod Here
+pub mod Images

@@ -1,6 +1,6 @@
 -- What is told of trials: those one after another that come to the same, in one line.
-use Rattle.std.specs.Prelude.{ℕ, ◌+◌, Bool, true, false, List, [], ◌∷◌, ◌++◌, length, take, codes, decimal, Option, None, Some}
-use Rattle.std.specs.Prelude.{if◌then◌else◌}
+use Rattle.std.specs.Prelude.{ℕ, ◌+◌, ◌&&◌, nat_le, Bool, true, false, List, [], ◌∷◌, ◌++◌, length, take, codes, decimal, Option}
+use Rattle.std.specs.Prelude.{None, Some, if◌then◌else◌}
 use Rattle.std.specs.List.{flat_map}
 use Rattle.words.specs.Numerals.{octal_text}
 use Rattle.space.specs.declared.place.Linear.{Linear}
@@ -13,19 +13,31 @@ use Rattle.whatif.specs.declared.finish.Difference.{Difference}
 use Rattle.whatif.specs.declared.finish.Finish.{Finish}
 use Rattle.whatif.specs.declared.others.Others.{Others}
 use Rattle.whatif.specs.declared.others.Others.TheVariants.{All, First}
+use Rattle.whatif.specs.declared.others.Telling.{Telling}
 use Rattle.whatif.specs.declared.sent.Sent.{Sent}
 use Rattle.whatif.specs.declared.span.Span.{Span}
 use Rattle.whatif.specs.Finishes.{next_place}
-use Rattle.whatif.specs.Outcomes.{Outcome, is_same, outcome}
+use Rattle.whatif.specs.Outcomes.{Outcome, is_same, is_same_flag, outcome}
 use Rattle.whatif.specs.Trials.{finishes}
 
--- trials one after another that come to the same, which are those of a span: one trial, and one more. Where they have come out is
--- told of the first
+-- how trials are told beside a run that has ended in a state
+abbrev pub telling : Others → State → Telling
+telling others s = record { others = others; end = s.cycles }
+
+-- a trial never comes where the run without one ends at its cycle, or before
+abbrev pub is_never : Telling → ℕ → Bool
+is_never told cycle = nat_le told.end cycle
+
+-- trials one after another that come to the same, or never come, which are those of a span: one trial, and one more. Where they have
+-- come out is told of the first
 abbrev pub one : ℕ → Finish → Span
 one cycle a = record { first = cycle; last = cycle; count = 1; finish = a }
 
 abbrev pub with_one : Span → ℕ → Span
 with_one span cycle = record span { last = cycle; count = span.count + 1 }
+
+abbrev pub joins : Telling → Span → ℕ → Finish → Bool
+joins told span cycle a = is_same span.finish.answer a.answer && is_same_flag (is_never told span.first) (is_never told cycle)
 
 -- the line of a word
 abbrev pub sent_line : Sent → List ℕ
@@ -39,9 +51,12 @@ abbrev pub others_told : Others → List Sent → List Sent
 others_told All others = others
 others_told First others = take 1 others
 
--- the end of a line
-abbrev pub line_end : Outcome → List ℕ
-line_end a = (if a.strays then codes " ERASABLE" else []) ++ codes "\n"
+-- what stands at the end of a line: that an instruction was executed in erasable memory, and that a trial never comes
+abbrev pub stray_text : Outcome → List ℕ
+stray_text a = if a.strays then codes " ERASABLE" else []
+
+abbrev pub never_text : Telling → ℕ → List ℕ
+never_text told cycle = if is_never told cycle then codes " NEVER" else []
 
 -- the line of where a run has come out: the place of its next instruction, and the first erasable word that differs
 abbrev pub difference_text : Option Difference → List ℕ
@@ -54,32 +69,34 @@ end_line place difference = codes "END " ++ place_text place ++ difference_text 
 
 -- what is told of the run without a trial: how many words it puts out, and where it has come out
 abbrev pub without_line : Outcome → List ℕ
-without_line a = codes "WITHOUT WORDS " ++ decimal (length a.others) ++ line_end a
+without_line a = codes "WITHOUT WORDS " ++ decimal (length a.others) ++ stray_text a ++ codes "\n"
 
 abbrev pub without_text : State → Outcome → List ℕ
 without_text s a = without_line a ++ end_line (next_place s) None
 
 -- what is told of some trials: how many of the words are those of the run without, how many others then follow, these, and where the
 -- run has come out
-abbrev pub span_line : Span → List ℕ
-span_line s =
+abbrev pub span_line : Telling → Span → List ℕ
+span_line told s =
     codes "FROM " ++ decimal s.first ++ codes " TO " ++ decimal s.last ++ codes " COUNT " ++ decimal s.count
     ++ codes " ALIKE " ++ decimal s.finish.answer.alike ++ codes " OTHERS " ++ decimal (length s.finish.answer.others)
-    ++ line_end s.finish.answer
+    ++ stray_text s.finish.answer ++ never_text told s.first ++ codes "\n"
 
-abbrev pub span_text : Others → Span → List ℕ
-span_text told s = span_line s ++ (others_text (others_told told s.finish.answer.others) ++ end_line s.finish.place s.finish.difference)
+abbrev pub span_text : Telling → Span → List ℕ
+span_text told s =
+    span_line told s
+    ++ (others_text (others_told told.others s.finish.answer.others) ++ end_line s.finish.place s.finish.difference)
 
 -- trials that are open, and one more: they are told where it comes to something else
-abbrev pub closed : Others → Option Span → Finish → List ℕ
-closed told None a = []
-closed told (Some span) a = if is_same span.finish.answer a.answer then [] else span_text told span
+abbrev pub closed : Telling → Option Span → ℕ → Finish → List ℕ
+closed told None cycle a = []
+closed told (Some span) cycle a = if joins told span cycle a then [] else span_text told span
 
-abbrev pub opened : Option Span → ℕ → Finish → Span
-opened None cycle a = one cycle a
-opened (Some span) cycle a = if is_same span.finish.answer a.answer then with_one span cycle else one cycle a
+abbrev pub opened : Telling → Option Span → ℕ → Finish → Span
+opened told None cycle a = one cycle a
+opened told (Some span) cycle a = if joins told span cycle a then with_one span cycle else one cycle a
 
-abbrev pub open_text : Others → Option Span → List ℕ
+abbrev pub open_text : Telling → Option Span → List ℕ
 open_text told None = []
 open_text told (Some span) = span_text told span
 
@@ -87,17 +104,18 @@ abbrev pub number_of : Option Span → ℕ
 number_of None = 0
 number_of (Some span) = span.count
 
-unfoldable pub spans_text : Others → Option Span → List (ℕ × Finish) → List ℕ
+unfoldable pub spans_text : Telling → Option Span → List (ℕ × Finish) → List ℕ
 spans_text told pending [] = open_text told pending
-spans_text told pending (tried ∷ more) = closed told pending tried.1 ++ spans_text told (Some (opened pending tried.0 tried.1)) more
+spans_text told pending (tried ∷ more) =
+    closed told pending tried.0 tried.1 ++ spans_text told (Some (opened told pending tried.0 tried.1)) more
 
 -- what is told of a run of so many steps and of some trials, where its steps after so many are looked at. Beside no words a run has
 -- none but others
 unfoldable pub trials_text : Others → ℕ → Scenario → List Plain → ℕ → List ℕ
-trials_text told from scenario trials steps =
+trials_text others from scenario trials steps =
     let s = run scenario steps in
     let without = outcome [] from scenario steps in
-    without_text s without ++ spans_text told None (finishes without.others s.cells from scenario steps trials)
+    without_text s without ++ spans_text (telling others s) None (finishes without.others s.cells from scenario steps trials)
 
 -- of a whole run
 unfoldable pub whatif_text : Scenario → List Plain → ℕ → List ℕ

@@ -137,8 +137,8 @@ impl Answer {
     }
 }
 
-/// Whether two answers are the same.
-fn is_same_flag(one: bool, other: bool) -> bool
+/// Whether two things are both so, or both not.
+pub(crate) fn is_same_flag(one: bool, other: bool) -> bool
     ensures { result ≡ is_same_flag one other }
 {
     if one { other } else { !other }

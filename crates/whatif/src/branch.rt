@@ -1,22 +1,25 @@
 //! The run with one input more, from where it parts from the run without it.
 
-ghost use Rattle.std.specs.Prelude.{◌≡◌, ◌+◌, ◌-◌, ◌^◌, ◌≤◌, IfOk, OnOk};
+ghost use Rattle.std.specs.Prelude.{◌≡◌, ◌+◌, ◌-◌, ◌^◌, ◌<◌, ◌≤◌, IfOk, OnOk};
 ghost use Rattle.feed.specs.Added.{AddsLast};
 ghost use Rattle.cpu.specs.Run.{run};
 ghost use Rattle.whatif.specs.Finishes.{finish};
+ghost use Rattle.whatif.specs.Images.{most_images, past_image};
 ghost use Rattle.whatif.specs.Outcomes.{outcome};
 ghost use Rattle.whatif.specs.Trials.{AreSameBelow, IsBefore, tried};
 
 use crate::fault::{Refused, refused_of};
 use crate::finish::{Finish, finished};
 use crate::going::Going;
+use crate::images::Images;
 use cpu::Processor;
 use feed::Plain;
 use std::alloc::Global;
 
-/// How a trial comes out, and how many steps were made for it.
+/// At which cycle a trial comes, how it comes out, and how many steps were made for it.
 #[derive(Drop)]
 pub(crate) struct Tried {
+    pub(crate) cycle: u64,
     pub(crate) finish: Finish,
     pub(crate) made: u128,
 }
@@ -25,12 +28,14 @@ pub(crate) struct Tried {
 /// that run.
 pub(crate) fn try_one(
     alloc: Global,
+    images: &mut Images,
     processor: &mut Processor,
     trunk: &mut Going,
     trial: &Plain,
     without: &Going,
     steps: u64,
 ) -> Result<Finish, Refused>
+    requires room { images.old.held < most_images }
     requires few { steps ≤ 2 ^ 40 - 2 }
     requires begun { trunk.old.from ≤ trunk.old.done }
     requires within { trunk.old.done ≤ steps }
@@ -50,9 +55,10 @@ pub(crate) fn try_one(
     ensures seen { OnOk result (trunk.new.answer
         ≡ outcome without.now.answer.others trunk.old.from processor.old.scenario trunk.new.done) }
     ensures before { OnOk result (IsBefore processor.old.scenario trunk.new.done trial.now.cycle) }
+    ensures images { OnOk result (images.new ≡ past_image images.old) }
 {
     trunk.go_to(processor, without.answer.others(), trial.cycle, steps)?;
-    let tried = branch(alloc, processor, trunk, trial, without, steps)?;
+    let tried = branch(alloc, images, processor, trunk, trial, without, steps)?;
     Ok(tried.finish)
 }
 
@@ -60,12 +66,14 @@ pub(crate) fn try_one(
 /// input reaches: no step up to there is made again.
 pub(crate) fn branch(
     alloc: Global,
+    images: &mut Images,
     processor: &Processor,
     trunk: &Going,
     trial: &Plain,
     without: &Going,
     steps: u64,
 ) -> Result<Tried, Refused>
+    requires room { images.old.held < most_images }
     requires few { steps ≤ 2 ^ 40 - 2 }
     requires begun { trunk.now.from ≤ trunk.now.done }
     requires within { trunk.now.done ≤ steps }
@@ -76,14 +84,19 @@ pub(crate) fn branch(
     ensures finish { IfOk result (λ r. r.finish
         ≡ finish without.now.answer.others without.now.machine.cells trunk.now.from
         (tried processor.now.scenario trial.now) steps) }
+    ensures cycle { IfOk result (λ r. r.cycle ≡ trial.now.cycle) }
     ensures once { IfOk result (λ r. r.made + trunk.now.done ≤ steps) }
+    ensures images { OnOk result (images.new ≡ past_image images.old) }
 {
     let mut fork = forked(alloc, processor, trial)?;
-    let mut going = trunk.copied(alloc)?;
+    let mut going = trunk.copied(alloc, images)?;
     going.go_on(&mut fork, without.answer.others(), steps)?;
     let made = fork.meter();
+    let finish = finished(going, without.machine.store());
+    images.give();
     Ok(Tried {
-        finish: finished(going, without.machine.store()),
+        cycle: trial.cycle,
+        finish,
         made,
     })
 }

@@ -4,11 +4,13 @@ ghost use Rattle.std.specs.Prelude.{◌≡◌, ◌+◌, ◌-◌, ◌^◌, ◌<�
 ghost use Rattle.cpu.specs.Next.{next};
 ghost use Rattle.cpu.specs.Run.{run};
 ghost use Rattle.cpu.specs.State.{FitsRun, start};
+ghost use Rattle.whatif.specs.Images.{most_images, with_image};
 ghost use Rattle.whatif.specs.Outcomes.{begun, outcome, seen, strays};
 ghost use Rattle.whatif.specs.Trials.{IsBefore};
 
 use crate::answer::{Answer, strays};
 use crate::fault::Refused;
+use crate::images::Images;
 use crate::sent::Sent;
 use cpu::{Machine, Processor, make_step};
 use std::alloc::Global;
@@ -24,12 +26,15 @@ pub(crate) struct Going {
 
 impl Going {
     /// A run of no step.
-    pub(crate) fn at_start(alloc: Global) -> Going
+    pub(crate) fn at_start(alloc: Global, images: &mut Images) -> Going
+        requires room { images.old.held < most_images }
+        ensures images { images.new ≡ with_image images.old }
         ensures machine { result.machine ≡ start }
         ensures answer { result.answer ≡ begun }
         ensures from { result.from ≡ 0 }
         ensures done { result.done ≡ 0 }
     {
+        images.take();
         Going {
             machine: Machine::start(),
             answer: Answer::begun(alloc),
@@ -39,12 +44,15 @@ impl Going {
     }
 
     /// A run after some steps, of which none is looked at.
-    pub(crate) fn after(alloc: Global, machine: &Machine, done: u64) -> Going
+    pub(crate) fn after(alloc: Global, images: &mut Images, machine: &Machine, done: u64) -> Going
+        requires room { images.old.held < most_images }
+        ensures images { images.new ≡ with_image images.old }
         ensures machine { result.machine ≡ machine.now }
         ensures answer { result.answer ≡ begun }
         ensures from { result.from ≡ done }
         ensures done { result.done ≡ done }
     {
+        images.take();
         let mut copy = Machine::start();
         machine.copy_to(&mut copy);
         Going {
@@ -56,13 +64,16 @@ impl Going {
     }
 
     /// The same again.
-    pub(crate) fn copied(&self, alloc: Global) -> Result<Going, Refused>
+    pub(crate) fn copied(&self, alloc: Global, images: &mut Images) -> Result<Going, Refused>
+        requires room { images.old.held < most_images }
+        ensures images { OnOk result (images.new ≡ with_image images.old) }
         ensures machine { IfOk result (λ going. going.machine ≡ self.now.machine) }
         ensures answer { IfOk result (λ going. going.answer ≡ self.now.answer) }
         ensures from { IfOk result (λ going. going.from ≡ self.now.from) }
         ensures done { IfOk result (λ going. going.done ≡ self.now.done) }
     {
         let answer = self.answer.copied(alloc)?;
+        images.take();
         let mut machine = Machine::start();
         self.machine.copy_to(&mut machine);
         Ok(Going {
@@ -90,6 +101,7 @@ impl Going {
         ensures from { self.new.from ≡ self.old.from }
         ensures machine { OnOk result (self.new.machine ≡ run processor.old.scenario steps) }
         ensures answer { OnOk result (self.new.answer ≡ outcome base.now self.old.from processor.old.scenario steps) }
+        ensures done { OnOk result (self.new.done ≡ steps) }
     {
         for _ in self.done..steps {
             step_and_see(processor, &mut self.machine, base, &mut self.answer)?;

@@ -7,6 +7,7 @@ mod fault;
 mod finish;
 mod going;
 mod here;
+mod images;
 pub mod laws;
 mod others;
 mod sent;
@@ -15,7 +16,7 @@ mod text_reader;
 mod trying;
 
 pub use fault::TrialFault;
-pub use here::try_now;
+pub use here::{TrialsTold, try_steps};
 pub use sent::Sent;
 pub use text_reader::TextReader;
-pub use trying::{TrialsTold, try_here, try_inputs};
+pub use trying::try_inputs;

@@ -7,14 +7,15 @@ ghost use Rattle.words.specs.Devices.{Writes, one_more};
 ghost use Rattle.whatif.specs.Failing.{has_write_failed};
 ghost use Rattle.space.specs.declared.place.Linear.TheVariants.{Erasable};
 ghost use Rattle.yayul.specs.Listing.{place_text};
-ghost use Rattle.whatif.specs.Spans.{closed, difference_text, end_line, number_of, one, open_text, opened, others_text};
-ghost use Rattle.whatif.specs.Spans.{others_told, sent_line, span_line, span_text, without_line, without_text};
+ghost use Rattle.whatif.specs.Spans.{closed, difference_text, end_line, is_never, joins, number_of, one, open_text};
+ghost use Rattle.whatif.specs.Spans.{opened, others_text, others_told, sent_line, span_line, span_text, without_line};
+ghost use Rattle.whatif.specs.Spans.{without_text};
 
-use crate::answer::Answer;
+use crate::answer::{Answer, is_same_flag};
 use crate::fault::TrialFault;
 use crate::finish::{Difference, Finish};
 use crate::going::Going;
-use crate::others::Others;
+use crate::others::{Others, Telling};
 use crate::sent::Sent;
 use arrayvec::ArrayVec;
 use space::place::Linear;
@@ -38,23 +39,23 @@ pub(crate) struct Span {
 
 /// One trial more, after those that are open: where it comes to something else, these are told.
 pub(crate) fn with_trial<W: Write>(
-    told: Others,
+    told: Telling,
     pending: Option<Span>,
     cycle: u64,
     finish: Finish,
     out: &mut W,
 ) -> Result<Span, TrialFault>
     requires few { number_of pending < 2 ^ 63 }
-    ensures written { W.told ≡ true → Writes (W.written out.old) (W.written out.new) (closed told pending finish)
+    ensures written { W.told ≡ true → Writes (W.written out.old) (W.written out.new) (closed told pending cycle finish)
         result }
     ensures failures { W.failures out.new ≡
         (if has_write_failed result then one_more (W.failures out.old) else W.failures out.old) }
-    ensures span { IfOk result (λ span. span ≡ opened pending cycle finish) }
+    ensures span { IfOk result (λ span. span ≡ opened told pending cycle finish) }
 {
     match pending {
         None => Ok(one(cycle, finish)),
         Some(mut span) => {
-            if span.finish.answer.is_same(&finish.answer) {
+            if joins(told, &span, cycle, &finish) {
                 span.last = cycle;
                 span.count += 1;
                 return Ok(span);
@@ -63,6 +64,21 @@ pub(crate) fn with_trial<W: Write>(
             Ok(one(cycle, finish))
         }
     }
+}
+
+/// Whether a trial comes to the same as those of a span, or never comes as they do not.
+fn joins(told: Telling, span: &Span, cycle: u64, finish: &Finish) -> bool
+    ensures { result ≡ joins told span.now cycle finish.now }
+{
+    span.finish.answer.is_same(&finish.answer)
+        && is_same_flag(is_never(told, span.first), is_never(told, cycle))
+}
+
+/// Whether a trial at a cycle never comes.
+fn is_never(told: Telling, cycle: u64) -> bool
+    ensures { result ≡ is_never told cycle }
+{
+    told.end <= cycle
 }
 
 /// A trial alone.
@@ -79,7 +95,7 @@ pub(crate) fn one(cycle: u64, finish: Finish) -> Span
 
 /// Tells the trials that are open at the end.
 pub(crate) fn write_open<W: Write>(
-    told: Others,
+    told: Telling,
     pending: &Option<Span>,
     out: &mut W,
 ) -> Result<(), TrialFault>
@@ -96,13 +112,13 @@ pub(crate) fn write_open<W: Write>(
 
 /// Tells some trials: their line, a line for each other word that is told, and the line of where the first of them has
 /// come out.
-fn write_span<W: Write>(told: Others, span: &Span, out: &mut W) -> Result<(), TrialFault>
+fn write_span<W: Write>(told: Telling, span: &Span, out: &mut W) -> Result<(), TrialFault>
     ensures written { W.told ≡ true → Writes (W.written out.old) (W.written out.new) (span_text told span.now) result }
     ensures failures { W.failures out.new ≡
         (if has_write_failed result then one_more (W.failures out.old) else W.failures out.old) }
 {
-    write_line(span, out)?;
-    write_others(others_told(told, span.finish.answer.others()), out)?;
+    write_line(told, span, out)?;
+    write_others(others_told(told.others, span.finish.answer.others()), out)?;
     write_end(span.finish.place, &span.finish.difference, out)
 }
 
@@ -162,12 +178,12 @@ fn write_sent<W: Write>(sent: &Sent, out: &mut W) -> Result<(), TrialFault>
 }
 
 /// Writes the line of some trials.
-fn write_line<W: Write>(span: &Span, out: &mut W) -> Result<(), TrialFault>
-    ensures written { W.told ≡ true → Writes (W.written out.old) (W.written out.new) (span_line span.now) result }
+fn write_line<W: Write>(told: Telling, span: &Span, out: &mut W) -> Result<(), TrialFault>
+    ensures written { W.told ≡ true → Writes (W.written out.old) (W.written out.new) (span_line told span.now) result }
     ensures failures { W.failures out.new ≡
         (if has_write_failed result then one_more (W.failures out.old) else W.failures out.old) }
 {
-    write_text(span_line(span).as_slice(), out)
+    write_text(span_line(told, span).as_slice(), out)
 }
 
 /// Tells what the run without a trial puts out, and where it has come out.
@@ -210,8 +226,8 @@ fn without_line(answer: &Answer) -> Line
 
 /// The line of some trials.
 #[tactic(auto, using(words::proofs::Digits::short_decimal))]
-fn span_line(span: &Span) -> Line
-    ensures { result.items ≡ span_line span.now }
+fn span_line(told: Telling, span: &Span) -> Line
+    ensures { result.items ≡ span_line told span.now }
 {
     let mut line = ArrayVec::new();
     push_all(&mut line, b"FROM ");
@@ -226,6 +242,9 @@ fn span_line(span: &Span) -> Line
     push_decimal(&mut line, span.finish.answer.others().len() as u64);
     if span.finish.answer.strays() {
         push_all(&mut line, b" ERASABLE");
+    }
+    if is_never(told, span.first) {
+        push_all(&mut line, b" NEVER");
     }
     push_all(&mut line, b"\n");
     line

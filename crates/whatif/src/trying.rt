@@ -1,12 +1,13 @@
 //! Trying some inputs, each of them alone.
 
-ghost use Rattle.std.specs.Prelude.{◌≡◌, ◌+◌, ◌-◌, ◌*◌, ◌^◌, ◌≤◌, [], None, IfOk, OnOk, false, true, if◌then◌else◌};
+ghost use Rattle.std.specs.Prelude.{◌≡◌, ◌+◌, ◌-◌, ◌*◌, ◌^◌, ◌<◌, ◌≤◌, [], None, IfOk, OnOk, false, true};
+ghost use Rattle.std.specs.Prelude.{if◌then◌else◌};
 ghost use Rattle.words.specs.Devices.{Writes, one_more};
 ghost use Rattle.whatif.specs.Failing.{has_write_failed};
 ghost use Rattle.whatif.specs.Finishes.{finish};
+ghost use Rattle.whatif.specs.Images.{most_images, past_image, with_image};
 ghost use Rattle.whatif.specs.Outcomes.{begun, outcome};
-ghost use Rattle.whatif.specs.Spans.{spans_text, trials_text, whatif_text};
-ghost use Rattle.whatif.specs.declared.others.Others.TheVariants.{First};
+ghost use Rattle.whatif.specs.Spans.{spans_text, telling, trials_text, whatif_text};
 ghost use Rattle.cpu.specs.Run.{run};
 ghost use Rattle.whatif.specs.Trials.{IsBefore, are_rising, finishes, tried};
 
@@ -14,19 +15,13 @@ use crate::branch::try_one;
 use crate::fault::{TrialFault, told_of};
 use crate::finish::Finish;
 use crate::going::Going;
-use crate::others::Others;
+use crate::images::Images;
+use crate::others::{Others, Telling};
 use crate::span::{with_trial, write_open, write_without};
-use cpu::{Machine, Processor};
+use cpu::Processor;
 use feed::Plain;
 use std::alloc::Global;
-use words::{Buffer, Write};
-
-/// What is told of trials, and how many steps were made besides those of each.
-#[derive(Drop)]
-pub struct TrialsTold {
-    pub text: Buffer,
-    pub made: u128,
-}
+use words::Write;
 
 /// Tries some inputs, each of them alone: tells what the run of so many steps puts out without them, and then what it
 /// would with each. Trials one after another that come to the same are told in one line.
@@ -49,66 +44,34 @@ pub fn try_inputs<W: Write>(
         (if has_write_failed result then one_more (W.failures out.old) else W.failures out.old) }
     ensures twice { processor.new.meter ≤ processor.old.meter + 2 * steps }
 {
-    let start = Going::at_start(alloc);
-    try_after(alloc, processor, &start, 0, Others::All, trials, steps, out)
-}
-
-/// Tries some inputs after so many steps of a run, at which its machine stands: tells what the run puts out in those
-/// that follow, up to so many in all, and what it would with each input, of the other words the first. None comes below
-/// the cycles of the machine.
-///
-/// What runs, and the machine, are copied; the steps up to there are not made again, and those that follow twice,
-/// however many the inputs are, and once for each from where it parts.
-pub fn try_here(
-    alloc: Global,
-    processor: &Processor,
-    machine: &Machine,
-    done: u64,
-    trials: &[Plain],
-    steps: u64,
-) -> Result<TrialsTold, TrialFault>
-    requires few { steps ≤ 2 ^ 40 - 2 }
-    requires within { done ≤ steps }
-    requires stands { machine.now ≡ run processor.now.scenario done }
-    ensures text { IfOk result (λ told. told.text.written
-        ≡ trials_text First done processor.now.scenario trials.now steps) }
-    ensures twice { IfOk result (λ told. told.made + 2 * done ≤ 2 * steps) }
-{
-    let Ok(mut copy) = processor.copied(alloc) else {
-        return Err(TrialFault::NoMemory);
-    };
-    let start = Going::after(alloc, machine, done);
-    let first = machine.cycles();
-    let mut text = Buffer::new(alloc);
-    match try_after(
+    let mut images = Images::none();
+    let start = Going::at_start(alloc, &mut images);
+    try_after(
         alloc,
-        &mut copy,
+        &mut images,
+        processor,
         &start,
-        first,
-        Others::First,
+        0,
+        Others::All,
         trials,
         steps,
-        &mut text,
-    ) {
-        Ok(()) => Ok(TrialsTold {
-            text,
-            made: copy.meter(),
-        }),
-        Err(fault) => Err(fault),
-    }
+        out,
+    )
 }
 
 /// Tries some inputs, none below a cycle, from where a run stands of which no step is looked at yet.
 fn try_after<W: Write>(
     alloc: Global,
+    images: &mut Images,
     processor: &mut Processor,
     start: &Going,
     first: u64,
-    told: Others,
+    others: Others,
     trials: &[Plain],
     steps: u64,
     out: &mut W,
 ) -> Result<(), TrialFault>
+    requires room { images.old.held ≡ 1 }
     requires few { steps ≤ 2 ^ 40 - 2 }
     requires within { start.now.done ≤ steps }
     requires begun { start.now.answer ≡ begun }
@@ -116,7 +79,7 @@ fn try_after<W: Write>(
     requires machine { start.now.machine ≡ run processor.old.scenario start.now.done }
     requires before { IsBefore processor.old.scenario start.now.done first }
     ensures written { W.told ≡ true → Writes (W.written out.old) (W.written out.new)
-        (trials_text told start.now.from processor.old.scenario trials.now steps) result }
+        (trials_text others start.now.from processor.old.scenario trials.now steps) result }
     ensures failures { W.failures out.new ≡
         (if has_write_failed result then one_more (W.failures out.old) else W.failures out.old) }
     ensures twice { processor.new.meter + 2 * start.now.done ≤ processor.old.meter + 2 * steps }
@@ -124,20 +87,33 @@ fn try_after<W: Write>(
     if !are_rising(first, trials) {
         return Err(TrialFault::OutOfOrder);
     }
-    let without = run_without(alloc, processor, start, steps)?;
+    let without = run_without(alloc, images, processor, start, steps)?;
     write_without(&without, out)?;
+    let told = telling(others, &without);
     write_trials(
-        alloc, processor, start, first, told, &without, trials, steps, out,
+        alloc, images, processor, start, first, told, &without, trials, steps, out,
     )
+}
+
+/// How trials are told beside a run.
+pub(crate) fn telling(others: Others, without: &Going) -> Telling
+    ensures { result ≡ telling others without.now.machine }
+{
+    Telling {
+        others,
+        end: without.machine.cycles(),
+    }
 }
 
 /// How the run without a trial comes out: beside no words it has none but others.
 pub(crate) fn run_without(
     alloc: Global,
+    images: &mut Images,
     processor: &mut Processor,
     start: &Going,
     steps: u64,
 ) -> Result<Going, TrialFault>
+    requires room { images.old.held < most_images }
     requires few { steps ≤ 2 ^ 40 - 2 }
     requires within { start.now.done ≤ steps }
     requires begun { start.now.answer ≡ begun }
@@ -148,8 +124,9 @@ pub(crate) fn run_without(
     ensures answer { IfOk result (λ without. without.answer ≡ outcome [] start.now.from processor.old.scenario steps) }
     ensures scenario { processor.new.scenario ≡ processor.old.scenario }
     ensures once { processor.new.meter + start.now.done ≤ processor.old.meter + steps }
+    ensures images { OnOk result (images.new ≡ with_image images.old) }
 {
-    match start.copied(alloc) {
+    match start.copied(alloc, images) {
         Ok(whole) => run_whole(alloc, processor, whole, steps),
         Err(refused) => Err(told_of(refused)),
     }
@@ -198,15 +175,17 @@ fn are_rising(first: u64, trials: &[Plain]) -> bool
 /// Tells how the run would come out with each of some inputs, beside how it does.
 fn write_trials<W: Write>(
     alloc: Global,
+    images: &mut Images,
     processor: &mut Processor,
     start: &Going,
     first: u64,
-    told: Others,
+    told: Telling,
     without: &Going,
     trials: &[Plain],
     steps: u64,
     out: &mut W,
 ) -> Result<(), TrialFault>
+    requires room { images.old.held ≡ 2 }
     requires few { steps ≤ 2 ^ 40 - 2 }
     requires within { start.now.done ≤ steps }
     requires begun { start.now.answer ≡ begun }
@@ -221,13 +200,13 @@ fn write_trials<W: Write>(
         (if has_write_failed result then one_more (W.failures out.old) else W.failures out.old) }
     ensures once { processor.new.meter + start.now.done ≤ processor.old.meter + steps }
 {
-    let mut trunk = match start.copied(alloc) {
+    let mut trunk = match start.copied(alloc, images) {
         Ok(trunk) => trunk,
         Err(refused) => return Err(told_of(refused)),
     };
     let mut pending = None;
     for trial in trials {
-        let finish = try_next(alloc, processor, &mut trunk, trial, without, steps)?;
+        let finish = try_next(alloc, images, processor, &mut trunk, trial, without, steps)?;
         pending = Some(with_trial(told, pending, trial.cycle, finish, out)?);
     }
     write_open(told, &pending, out)
@@ -236,12 +215,14 @@ fn write_trials<W: Write>(
 /// Goes on to the next trial, and answers how it comes out: see `try_one`.
 fn try_next(
     alloc: Global,
+    images: &mut Images,
     processor: &mut Processor,
     trunk: &mut Going,
     trial: &Plain,
     without: &Going,
     steps: u64,
 ) -> Result<Finish, TrialFault>
+    requires room { images.old.held < most_images }
     requires few { steps ≤ 2 ^ 40 - 2 }
     requires begun { trunk.old.from ≤ trunk.old.done }
     requires within { trunk.old.done ≤ steps }
@@ -262,8 +243,9 @@ fn try_next(
         ≡ outcome without.now.answer.others trunk.old.from processor.old.scenario trunk.new.done) }
     ensures before { OnOk result (IsBefore processor.old.scenario trunk.new.done trial.now.cycle) }
     ensures kept { has_write_failed result ≡ false }
+    ensures images { OnOk result (images.new ≡ past_image images.old) }
 {
-    match try_one(alloc, processor, trunk, trial, without, steps) {
+    match try_one(alloc, images, processor, trunk, trial, without, steps) {
         Ok(finish) => Ok(finish),
         Err(refused) => Err(told_of(refused)),
     }

@@ -1,5 +1,7 @@
 use Rattle.std.proofs.Common.{◌≡◌, ◌∙◌, ap, arith}
+use Rattle.whatif.specs.Images.{less_image}
 use Rattle.whatif.specs.Outcomes.{outcome}
+use Rattle.whatif.proofs.Holding.{let_go}
 use Rattle.whatif.proofs.OneMore.{finishes_as_trial, outcome_at, state_at}
 use Rattle.whatif.proofs.branch.branch.Goals as goal
 
@@ -25,4 +27,7 @@ returns-clause-finish c =
     (c.others.ensures, c.in_ok-going.ensures.from) at c.in_ok-go_on.ensures.answer in
     finishes_as_trial others c.args.without.now.machine.cells c.args.trunk.now.from scenario _ c.args.trial.now c.args.steps _ _ _
     c.in_ok-fork.ensures.rope c.in_ok-fork.ensures.inputs
-    c.in_ok-go_on.ensures.machine answer (rw c.store.ensures at c.finished.ensures)
+    c.in_ok-go_on.ensures.machine answer (rw c.store.ensures at c.finished-finish.ensures)
+
+pub returns-clause-images : goal.returns-clause-images
+returns-clause-images c = c.give.ensures ∙ ap less_image c.in_ok-going.ensures.images ∙ let_go c.args.images.now

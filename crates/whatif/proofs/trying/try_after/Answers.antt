@@ -22,14 +22,14 @@ pub returns-in_err-write_without-clause-written : goal.returns-in_err-write_with
 returns-in_err-write_without-clause-written g c = λ told.
     let p = err_from_is_err_and c.from_residual-in_err-write_without.result c.from_residual-in_err-write_without.ensures.1 in
     let without = c.in_ok-without.without in
-    rw (trials_parts c.args.told c.args.start.now.from c.args.processor.now.scenario c.args.trials.now c.args.steps without.machine
+    rw (trials_parts c.args.others c.args.start.now.from c.args.processor.now.scenario c.args.trials.now c.args.steps without.machine
     without.answer c.in_ok-without.ensures.machine c.in_ok-without.ensures.answer)
     (rw p.1 (beginning-longer _ _ (without_text without.machine without.answer) _ (c.in_err-write_without.ensures.written told)))
 
 pub returns-clause-written : goal.returns-clause-written
 returns-clause-written g c = λ told.
     let without = c.in_ok-without.without in
-    rw (trials_parts c.args.told c.args.start.now.from c.args.processor.now.scenario c.args.trials.now c.args.steps without.machine
+    rw (trials_parts c.args.others c.args.start.now.from c.args.processor.now.scenario c.args.trials.now c.args.steps without.machine
     without.answer c.in_ok-without.ensures.machine c.in_ok-without.ensures.answer)
     (Writes-after _ _ _ (without_text without.machine without.answer) _ _ (c.in_ok-write_without.ensures.written told)
-    (rw c.in_ok-without.ensures.scenario at (c.write_trials.ensures.written told)))
+    (rw (c.in_ok-without.ensures.scenario, c.telling-told.ensures) at (c.write_trials.ensures.written told)))

@@ -1,6 +1,7 @@
 use Rattle.std.proofs.Common.{◌≡◌, ◌∙◌, ◌+◌, ◌<◌, ◌∷◌, ◌++◌, [], false, drop, length, refl, sym, ap, arith}
 use Rattle.std.proofs.lemmas.List.{drop_all, drop_more}
 use Rattle.std.proofs.lemmas.Result.{err_from_is_err_and}
+use Rattle.whatif.specs.declared.images.Images.{Images}
 use Rattle.whatif.specs.Failing.{has_write_failed}
 use Rattle.whatif.specs.Spans.{open_text}
 use Rattle.whatif.proofs.Rising.{first_way, next_before, next_way}
@@ -24,6 +25,7 @@ loop-trial-init g c = record {
       c.requires.before c.requires.rising;
   few = omega arith;
   once = omega (arith, c.in-Ok.ensures.done);
+  held = ap (λ (i : Images). i.held) c.in-Ok.ensures.images ∙ omega (arith, c.requires.room);
 }
 
 pub try_next-requires-clause-machine : goal.try_next-requires-clause-machine
@@ -84,9 +86,10 @@ loop-trial-preserved g c =
       answer = rw (c.loop-trial.invariant.scenario, c.loop-trial.invariant.from) at c.in_ok-finish.ensures.seen;
       way = next_way c.args.processor.now.scenario c.loop-trial.trunk.done _ _ c.trial-item.result more split c.loop-trial.invariant.way
           (rw c.loop-trial.invariant.scenario at c.in_ok-finish.ensures.before);
-      few = few_span c.loop-trial.pending c.trial-item.result.cycle _ _ c.loop-trial.trial-index c.loop-trial.invariant.few
+      few = few_span c.args.told c.loop-trial.pending c.trial-item.result.cycle _ _ c.loop-trial.trial-index c.loop-trial.invariant.few
           c.in_ok-with_trial.ensures.span;
       once = omega (arith, c.loop-trial.invariant.once, c.in_ok-finish.ensures.once);
+      held = ap (λ (i : Images). i.held) c.in_ok-finish.ensures.images ∙ c.loop-trial.invariant.held;
     }
 
 pub returns-clause-written : goal.returns-clause-written
