@@ -39,7 +39,7 @@ asked lines = map (extended_line symbols) lines
 -- what no other session is asked for
 further : asked (codes "breaks" ∷ codes "clear 2 # the second" ∷ codes "help" ∷ codes "help mem" ∷ codes "on" ∷ codes "on 5"
     ∷ codes "regs all" ∷ codes "regs" ∷ codes "until 123456789012345" ∷ [])
-    ≡ Breaks ∷ ClearOne 2 ∷ Help ∷ Says (codes "HELP mem takes a place, or a place and a count: the word there, or so many from there on\n")
+    ≡ Breaks ∷ ClearOne 2 ∷ Help ∷ Says (codes "HELP mem takes a place, or a place and a count: the word there, or so many\n")
     ∷ On 999999999999999 ∷ On 5 ∷ AllRegisters ∷ Common Registers ∷ Until 123456789012345 ∷ []
 unfolding extended_line extended_forms usages forms runs parsed counters sequences registers window
 further = refl

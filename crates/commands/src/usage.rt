@@ -30,7 +30,7 @@ const ROWS: [Row; 36] = [
     (
         "on",
         "a number of steps, or nothing",
-        "on from the position, up to a breakpoint",
+        "on, up to a breakpoint",
     ),
     (
         "until",
@@ -40,12 +40,12 @@ const ROWS: [Row; 36] = [
     (
         "over",
         "a number of steps, or nothing",
-        "to after the TC at Z, or one step on",
+        "past the TC at Z, or one step on",
     ),
     (
         "out",
         "a number of steps, or nothing",
-        "to where the routine or interrupt returns to",
+        "out of the routine or interrupt",
     ),
     ("back", "a number of steps", "so many steps back"),
     ("goto", "a step", "to the step"),
@@ -53,7 +53,7 @@ const ROWS: [Row; 36] = [
     (
         "break",
         "at|exec|change PLACE, word PLACE W, chan C W [M]",
-        "one breakpoint more",
+        "a breakpoint",
     ),
     ("breaks", "nothing", "the breakpoints"),
     (
@@ -69,7 +69,7 @@ const ROWS: [Row; 36] = [
     (
         "mem",
         "a place, or a place and a count",
-        "the word there, or so many from there on",
+        "the word there, or so many",
     ),
     ("chan", "a channel", "the word there"),
     ("chans", "nothing", "the channels whose words are not zero"),
@@ -106,12 +106,12 @@ const ROWS: [Row; 36] = [
     (
         "list",
         "a place, or a place and a count",
-        "the rows of the listing from there on",
+        "rows of the listing from there",
     ),
     (
         "value",
         "a place, or a place and a count",
-        "the word as octal, decimal, fraction and binary",
+        "octal, decimal, fraction, bits",
     ),
     ("sym", "a name", "the symbol's value"),
     (
