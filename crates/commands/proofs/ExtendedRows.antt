@@ -451,7 +451,7 @@ trials : asked (codes "whatif TIME3 PINC" ∷ codes "whatif RUPT 4 20 # soon" �
     ∷ WhatIf (Count Time3 Pinc) (Each 5 6 0)
     ∷ WhatIf (Word 0o15 0o21) (Each 5 0 1099511627776)
     ∷ Plain WrongCounter
-    ∷ Says (codes "HELP whatif takes an input as in a feed, [k [from A to B]]: k steps on with it [at A to B], beside without\n") ∷ []
+    ∷ Says (codes "HELP whatif takes an input as in a feed, [k [from A to B]]: what it would change\n") ∷ []
 unfolding extended_line extended_forms usages forms runs parsed counters sequences registers window
 trials = refl
 
@@ -477,7 +477,7 @@ surveys : asked (codes "survey 1 60 6" ∷ codes "survey 3 3 4096 SUM +1 CH013 A
           ∷ subject.Place 0o102 ∷ [];
     })
     ∷ Survey (record { first = 1; last = 9; buckets = 1; subjects = replicate 8 (subject.Place 0) })
-    ∷ Says (codes "HELP survey takes FROM TO, 1 to 4096 buckets, at most 8 places: what happened in steps FROM to TO, by buckets\n") ∷ []
+    ∷ Says (codes "HELP survey takes FROM TO, 1 to 4096 buckets, at most 8 places: a run by buckets\n") ∷ []
 unfolding extended_line extended_forms usages forms runs parsed counters sequences registers window
 surveys = refl
 

@@ -81,7 +81,7 @@ const ROWS: [Row; 36] = [
     (
         "why",
         "step, [PLACE [k|control]] .. [since T]",
-        "the steps that made the word there, last first",
+        "how it came about",
     ),
     (
         "trace",
@@ -132,17 +132,17 @@ const ROWS: [Row; 36] = [
     (
         "survey",
         "FROM TO, 1 to 4096 buckets, at most 8 places",
-        "what happened in steps FROM to TO, by buckets",
+        "a run by buckets",
     ),
     (
         "whatif",
         "an input as in a feed, [k [from A to B]]",
-        "k steps on with it [at A to B], beside without",
+        "what it would change",
     ),
     (
         "tail",
         "nothing, or [a count] steps",
-        "the last channel lines [with their steps]",
+        "the last channel lines [and steps]",
     ),
     ("add", "a line of a feed", "one input more"),
     (
