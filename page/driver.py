@@ -130,13 +130,16 @@ class Browser:
         return self.ask("POST", "/element", {"using": "css selector", "value": selector})[ELEMENT]
 
     def found(self, selector, method, path, body=None):
-        """Asks of what stands there now: a page draws a thing anew at any time."""
+        """Asks of what stands there now: a page draws a thing anew at any time, and a browser shows it a while later."""
+        until = time.monotonic() + 10
         while True:
             try:
                 return self.ask(method, f"/element/{self.find(selector)}/{path}", body)
             except Failed as failed:
-                if "stale element" not in str(failed):
+                is_hidden = "not interactable" in str(failed) and time.monotonic() < until
+                if not is_hidden and "stale element" not in str(failed):
                     raise
+                time.sleep(0.03)
 
     def click(self, selector):
         self.found(selector, "POST", "click")
