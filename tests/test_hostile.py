@@ -711,7 +711,7 @@ class Sizes(HostileCase):
         """Ropes of few words that stand again and again, or of none in common, are aligned in bounded time."""
         rng = random.Random(5)
         periods = {"zeros": [0], "ones": [0o77777], "one word": [0o30100], "two words": [0o30100, 0o54101], "three words": [1, 2, 5], "thirteen words": list(range(100, 113)), "a bank": [rng.randrange(0o100000) for _ in range(1024)], "two random words": [rng.choice((0o1234, 0o4321)) for _ in range(36864)], "random words": [rng.randrange(0o100000) for _ in range(36864)], "other random words": [rng.randrange(0o100000) for _ in range(36864)]}
-        ropes = {name: write(f"{self.room}/periodic_{number}", b"".join((2 * word).to_bytes(2, "big") for word in (words * 36864)[:36864])) for number, (name, words) in enumerate(periods.items())}
+        ropes = {name: write(f"{self.room}/periodic_{number}", b"".join((2 * word).to_bytes(2, "big") for word in (words * (36864 // len(words) + 1))[:36864])) for number, (name, words) in enumerate(periods.items())}
         slow, wrong = [], []
         for old, first in ropes.items():
             for new, second in ropes.items():
