@@ -14,7 +14,7 @@ ghost use Rattle.commands.specs.Extended.{with_counted_place, usual_links, if_no
 ghost use Rattle.commands.specs.Extended.{watches, bits_of, watches_bits, subject_alone, break_form, in_words};
 ghost use Rattle.commands.specs.Extended.{behind_blank, echoed, extended_in, extended_line, steps_in, telling};
 ghost use Rattle.commands.specs.Extended.{places_in, lines_in, word_alone, stepped_in, word_then, links_then, since_in};
-ghost use Rattle.commands.specs.Extended.{index_told, since_of, why_since};
+ghost use Rattle.commands.specs.Extended.{index_told, since_of, why_since, word_asked};
 
 use crate::command::{Breakpoint, Command, ParsedLine};
 use crate::fields::{channel_in, count_in, is_word};
@@ -96,6 +96,10 @@ pub enum ExtendedLine {
     WhyWay,
     /// The last choice before the step that wrote the word of something.
     WhyControl(Subject),
+    /// What the word of something comes from.
+    WhyInputs(Subject),
+    /// In which interrupts the steps stand that made the word of something.
+    WhyInterrupts(Subject),
     /// How the word of something came to be what it is, by at most so many steps.
     Why(Subject, u64, LinkLines),
     /// The same, by steps from one on, which is the last number.
@@ -508,17 +512,34 @@ fn why_place(symbols: &Symbols, rest: &[u8]) -> Option<ExtendedLine>
     }
 }
 
-// `why` of a subject, followed by the word `control`, or by a number of links or none and by what is told besides.
+// `why` of a subject, followed by a word that asks for something else, or by a number of links or none and by what is
+// told besides.
 fn why_of(subject: Option<Subject>, rest: &[u8]) -> Option<ExtendedLine>
     requires { All (λ field. length field ≤ 80) (texts (runs rest.now)) }
     ensures { result ≡ why_of subject (texts (runs rest.now)) }
 {
     let subject = subject?;
-    if is_sole(rest, "control") {
-        return Some(ExtendedLine::WhyControl(subject));
+    if let Some(request) = word_asked(subject, rest) {
+        return Some(request);
     }
     let (links, lines) = links_in(rest)?;
     Some(ExtendedLine::Why(subject, links, lines))
+}
+
+// What a word that stands alone asks of a subject.
+fn word_asked(subject: Subject, rest: &[u8]) -> Option<ExtendedLine>
+    requires { All (λ field. length field ≤ 80) (texts (runs rest.now)) }
+    ensures { result ≡ word_asked subject (texts (runs rest.now)) }
+{
+    if is_sole(rest, "control") {
+        Some(ExtendedLine::WhyControl(subject))
+    } else if is_sole(rest, "inputs") {
+        Some(ExtendedLine::WhyInputs(subject))
+    } else if is_sole(rest, "interrupts") {
+        Some(ExtendedLine::WhyInterrupts(subject))
+    } else {
+        None
+    }
 }
 
 // A number of links or none, and what is told besides.

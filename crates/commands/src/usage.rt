@@ -80,8 +80,8 @@ const ROWS: [Row; 36] = [
     ),
     (
         "why",
-        "step, [PLACE [k|control]] .. [since T]",
-        "how it came about",
+        "[step|PLACE [k|control|inputs|interrupts|since]]",
+        "what made it so",
     ),
     (
         "trace",
