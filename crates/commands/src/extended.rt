@@ -132,6 +132,8 @@ pub enum ExtendedLine {
     WhatIf(Input, Extent),
     /// The calls of routines that are in progress.
     Calls,
+    /// Why the program never came to a place.
+    Never(Linear),
 }
 
 /// What a line of an extended session asks for, where the symbols of a program stand.
@@ -282,6 +284,8 @@ fn state_command_in(symbols: &Symbols, name: &[u8], rest: &[u8]) -> Option<Exten
         whatif_form(rest)
     } else if is_word(name, "calls") {
         with_none(ExtendedLine::Calls, rest)
+    } else if is_word(name, "never") {
+        place_alone(symbols, rest).map(ExtendedLine::Never)
     } else {
         None
     }
