@@ -8,14 +8,28 @@ ghost use Rattle.way_laws.specs.Leading.{IsOnePlace, LeadsToOnePlace};
 ghost use Rattle.way_laws.specs.SameWay.{ChainsFixWay, ChainsFixWayFromStart, GuidesChoices, GuidesFixStep};
 ghost use Rattle.way_laws.specs.SameWay.{WayDependsOnOrigins};
 
-use cpu::Processor;
+use cpu::{Machine, Processor};
 
 /// Where a step leads depends on the step, on what it chooses by, and on that from which it sets the banks, and on
 /// nothing else.
 pub fn step_leads_to_one_place()
-    ensures leads { (one other : Scenario) (s t : State) → LeadsToOnePlace one s other t }
-    ensures place { (one other : Scenario) (s t : State) → IsOnePlace one s other t }
+    ensures { (one other : Scenario) (s t : State) → LeadsToOnePlace one s other t }
 {}
+
+/// Where Z and the banks are the same, Z leads to the same place.
+pub fn banks_fix_place(
+    processor: &Processor,
+    machine: &Machine,
+    other_processor: &Processor,
+    other: &Machine,
+)
+    ensures { IsOnePlace processor.now.scenario machine.now other_processor.now.scenario other.now }
+{
+    let _processor = processor;
+    let _machine = machine;
+    let _other_processor = other_processor;
+    let _other = other;
+}
 
 /// Which step is next, and where it leads, depends on the position, on the input that is due, and on the guides, and on
 /// nothing else. Among the guides is what the step chooses by.
@@ -31,11 +45,12 @@ pub fn way_depends_on_origins()
 {}
 
 /// Two runs whose guides come by the same chains from the same words go the same way, where the same inputs are taken
-/// at the same steps.
-pub fn chains_fix_way(one: &Processor, other: &Processor)
-    ensures between { (m n k : ℕ) → ChainsFixWay one.now.scenario m other.now.scenario n k }
-    ensures from_start { (k : ℕ) → ChainsFixWayFromStart one.now.scenario other.now.scenario k }
-{
-    let _one = one;
-    let _other = other;
-}
+/// at the same steps, from any two steps in one position on.
+pub fn chains_fix_way()
+    ensures { (one other : Scenario) (m n k : ℕ) → ChainsFixWay one m other n k }
+{}
+
+/// So do they from their start.
+pub fn chains_fix_way_from_start()
+    ensures { (one other : Scenario) (k : ℕ) → ChainsFixWayFromStart one other k }
+{}
