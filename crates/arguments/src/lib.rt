@@ -223,7 +223,7 @@ pub struct WhatIfArguments<'a> {
     pub trials: &'a str,
 }
 
-/// `agcws differ .. SRC FEED N --with SRC2 FEED2`.
+/// `agcws differ [--why K] .. SRC FEED N --with SRC2 FEED2`.
 #[derive(Clone, Copy)]
 pub struct DifferArguments<'a> {
     /// What is run.
@@ -232,6 +232,8 @@ pub struct DifferArguments<'a> {
     pub other: ProgramArguments<'a>,
     /// How many steps of each.
     pub steps: u64,
+    /// `--why`: in how many steps it is told how what differs came about, where it is.
+    pub why: Option<u64>,
 }
 
 /// `agcws debug [--extended] .. SRC FEED`.

@@ -33,6 +33,8 @@ pub const DIFFER: &str = "differ";
 /// The program and the feed of the other run.
 pub const WITH: &str = "with";
 
+pub const WHY: &str = "why";
+
 /// The subcommand that tries inputs.
 pub const WHATIF: &str = "whatif";
 

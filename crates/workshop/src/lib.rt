@@ -42,7 +42,7 @@ pub use debugging::{
     open_program, open_session,
 };
 pub use delaying::delays_program;
-pub use differing::differ_program;
+pub use differing::{Side, differ_program};
 pub use ending::write_end;
 pub use engine::{
     MOST_STEPS, Summary, may_run, run_and_tell, run_engine, run_image_engine, run_program,
