@@ -81,6 +81,8 @@ pub struct ImageLayout {
     pub is_complemented: bool,
     /// `--form numbered`: whether the banks stand by their numbers.
     pub is_numbered: bool,
+    /// `--form module1` to `module6`: which module of six banks stands alone, or 0.
+    pub one_module: usize,
 }
 
 /// A program to be run, with its feed.

@@ -279,7 +279,8 @@ fn image<'a>(
         layout: ImageLayout {
             is_swapped: form / 2 % 2 == 1,
             is_complemented: form / 4 % 2 == 1,
-            is_numbered: form / 8 % 2 == 1,
+            is_numbered: form / 8 == 1,
+            one_module: (form / 8).saturating_sub(1),
         },
     })
 }
