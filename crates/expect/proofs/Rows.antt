@@ -1,12 +1,15 @@
 -- Rows of texts of tests, worked out by hand.
-use Rattle.std.proofs.Common.{◌≡◌, [], ◌∷◌, true, false, refl, Option, Some, None, Ok, Err}
-use Rattle.std.specs.Prelude.{codes}
+use Rattle.std.proofs.Common.{◌≡◌, ℕ, List, [], ◌∷◌, true, false, refl, Option, Some, None, Ok, Err}
+use Rattle.std.specs.Prelude.{codes, set}
+use Rattle.agc_text.specs.Lines.{lines}
 use Rattle.expect.specs.Claims.{breaks, lacks, related}
 use Rattle.expect.specs.Fields.{relation_in, value_in}
-use Rattle.expect.specs.Lines.{claims_of, most_cycles, words_at}
+use Rattle.expect.specs.Facts.{Facts, cited, misses}
+use Rattle.expect.specs.Kinds.{first_other, no_kind}
+use Rattle.expect.specs.Lines.{claims_of, kinds_at, most_cycles, words_at}
 use Rattle.expect.specs.Statements.{before_return}
 use Rattle.expect.specs.Texts.{claims_after, heading_of, in_test}
-use Rattle.expect.specs.declared.claim.Claim.TheVariants.{Puts, PutsNoMore, Always, Never, AtEnd, At, Calls, CallsWithin}
+use Rattle.expect.specs.declared.claim.Claim.TheVariants.{Puts, PutsNoMore, Always, Never, AtEnd, At, Calls, CallsWithin, Notes, Check}
 use Rattle.expect.specs.declared.claim.Relation.TheVariants.{Same, Other, Less, Greater, AtMost, AtLeast}
 use Rattle.expect.specs.declared.refusal.Asked.TheVariants as asked
 use Rattle.space.specs.declared.place.Linear.TheVariants.{Fixed}
@@ -141,6 +144,52 @@ called_for_so_long = refl
 
 no_number_of_calls : claims_of [] (codes "CALLS" ∷ codes "4000" ∷ codes "often" ∷ []) ≡ Err (record { field = 2; asked = asked.Calls })
 no_number_of_calls = refl
+
+no_notes : claims_of [] (codes "NOTES" ∷ codes "NONE" ∷ []) ≡ Ok (Notes no_kind ∷ [])
+no_notes = refl
+
+notes_of_two_kinds : claims_of [] (codes "NOTES" ∷ codes "QUOTIENT" ∷ codes "UNREAD" ∷ [])
+    ≡ Ok (Notes (set (set no_kind 0 true) 13 true) ∷ [])
+unfolding kinds_at
+notes_of_two_kinds = refl
+
+notes_of_nothing : claims_of [] (codes "NOTES" ∷ []) ≡ Err (record { field = 1; asked = asked.Notes })
+notes_of_nothing = refl
+
+notes_of_no_kind : claims_of [] (codes "NOTES" ∷ codes "SKIP" ∷ codes "SKIPS" ∷ []) ≡ Err (record { field = 2; asked = asked.Kind })
+unfolding kinds_at
+notes_of_no_kind = refl
+
+nothing_behind_none : claims_of [] (codes "NOTES" ∷ codes "NONE" ∷ codes "SKIP" ∷ []) ≡ Err (record { field = 2; asked = asked.End })
+nothing_behind_none = refl
+
+a_clean_source : claims_of [] (codes "CHECK" ∷ []) ≡ Ok (Check ∷ [])
+a_clean_source = refl
+
+-- ## Notes: QUOTIENT is kind 0, SKIP kind 1
+some_notes : List ℕ
+some_notes = codes "NOTE SKIP       02,4005  54101  TS SUM\nNOTE QUOTIENT   02,4016  10100  DV D\n"
+
+some_facts : Facts
+some_facts = record { notes = some_notes; report = codes "a.agc:2:5: warning W1: so\n  TS 5\n"; errors = 0; warnings = 1 }
+
+the_quotient_is_another : first_other (set no_kind 1 true) (lines some_notes) ≡ Some (codes "NOTE QUOTIENT   02,4016  10100  DV D")
+unfolding first_other
+the_quotient_is_another = refl
+
+both_are_listed : misses some_facts (Notes (set (set no_kind 0 true) 1 true)) ≡ false
+unfolding first_other
+both_are_listed = refl
+
+none_is_listed : cited some_facts (Notes no_kind) ≡ codes "NOTE SKIP       02,4005  54101  TS SUM"
+unfolding first_other
+none_is_listed = refl
+
+a_warning_is_told : cited some_facts Check ≡ codes "a.agc:2:5: warning W1: so"
+a_warning_is_told = refl
+
+it_is_missed : misses some_facts Check ≡ true
+it_is_missed = refl
 
 -- ## Lines with a carriage return, and without
 a_carriage_return_ends_a_line : before_return (0o101 ∷ 0o15 ∷ []) ≡ 0o101 ∷ []

@@ -4,6 +4,7 @@ ghost use Rattle.std.specs.Prelude.{◌≡◌, ◌<ℤ◌, ◌≤◌, ◌<◌, �
 ghost use Rattle.words.specs.Numbers.{value};
 ghost use Rattle.expect.specs.Claims.{holds, related};
 
+use crate::kinds::KINDS;
 use cpu::Machine;
 use space::{Chan, Eras, Linear};
 use words::Word;
@@ -68,6 +69,10 @@ pub enum Claim {
     Calls(Linear, u64),
     /// It is called, and each call takes at most so many cycles.
     CallsWithin(Linear, u64),
+    /// The run has no note but of some kinds: of each by its number, whether it is one of them.
+    Notes([bool; KINDS]),
+    /// `check` tells no error of the source, and no warning.
+    Check,
 }
 
 /// A claim, with the test that states it.

@@ -35,6 +35,10 @@ pub enum Asked {
     Routine,
     /// How often a routine is called, or `WITHIN`.
     Calls,
+    /// `NONE`, or a kind of notes.
+    Notes,
+    /// A kind of notes.
+    Kind,
     /// A relation.
     Relation,
     /// A word.

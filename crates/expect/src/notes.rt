@@ -1,0 +1,58 @@
+//! What a line claims of the notes of a run.
+
+ghost use Rattle.std.specs.Prelude.{◌≡◌, ◌≤◌, ◌<◌, set, true};
+ghost use Rattle.agc_text.specs.Fields.{runs, texts};
+ghost use Rattle.expect.specs.Lines.{kinds_at, notes_at};
+
+use crate::calls::ended;
+use crate::claim::Claim;
+use crate::condition::wrong;
+use crate::fields::is_word;
+use crate::kinds::{KINDS, kind_in};
+use crate::refusal::{Asked, Wrong};
+use agc_text::split_field;
+
+/// The last field of a line that names a kind.
+const LAST_KIND: u64 = 30;
+
+/// What a line claims of notes: NONE, or the kinds of which there may be some. The first has a number among the fields.
+pub(crate) fn notes_at(at: u64, fields: &[u8]) -> Result<Claim, Wrong>
+    requires { at ≤ 1 }
+    ensures { result ≡ notes_at at (texts (runs fields.now)) }
+{
+    let Some((field, rest)) = split_field(fields) else {
+        return Err(wrong(at, Asked::Notes));
+    };
+    if is_word(field, "NONE") {
+        ended(at + 1, Claim::Notes([false; KINDS]), rest)
+    } else {
+        kinds_at(at, [false; KINDS], fields)
+    }
+}
+
+/// Some kinds, and those of some fields.
+fn kinds_at(at: u64, kinds: [bool; KINDS], fields: &[u8]) -> Result<Claim, Wrong>
+    requires { at ≤ 31 }
+    ensures { result ≡ kinds_at at kinds (texts (runs fields.now)) }
+{
+    let Some((field, rest)) = split_field(fields) else {
+        return Ok(Claim::Notes(kinds));
+    };
+    if at > LAST_KIND {
+        return Err(wrong(at, Asked::End));
+    }
+    match kind_in(field) {
+        Some(kind) => kinds_at(at + 1, with_kind(kinds, kind), rest),
+        None => Err(wrong(at, Asked::Kind)),
+    }
+}
+
+/// Some kinds, and one more.
+fn with_kind(kinds: [bool; KINDS], kind: usize) -> [bool; KINDS]
+    requires { kind < 14 }
+    ensures { result ≡ set kinds kind true }
+{
+    let mut listed = kinds;
+    listed[kind] = true;
+    listed
+}
