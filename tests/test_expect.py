@@ -26,6 +26,8 @@ CLAIMED = [
     ("AT END Q +0 <> 0", ""),
     ("AT START A = 1", ": line {}, step 0, cycle 0: it is 00000 (0); wanted = 00001 (1)"),
     ("AT TWO A = 2", ": line {}, step 20, cycle 24: nothing came; wanted = 00002 (2)"),
+    ("COVERED 8", ""),
+    ("COVERED 9", ": line {}, step 20, cycle 24: it executes 8 words; wanted 9 or more"),
     ("CALLS TWICE 3", ": line {}, step 20, cycle 24: it is called 2 times; wanted 3"),
     ("CALLS TWICE 1", ": line {}, step 6, cycle 8: it is called 2 times; wanted 1"),
     ("CALLS TWO WITHIN 9 CYCLES", ": line {}, step 20, cycle 24: it is not called; wanted within 9 cycles"),
@@ -73,12 +75,14 @@ REFUSED_CLAIMS = [
     ("CALLS TWICE 2 3", 15, "the end of the line is asked for"),
     ("AT START +2000 A = 0", 10, "a number of words after + is asked for, in octal, which stays in the bank"),
     ("NEVER Q +8 = 0", 9, "a number of words after + is asked for, in octal, which stays in the bank"),
-    ("CALS TWICE 2", 1, "TEST, CHANNEL, AT, ALWAYS, NEVER, CALLS, NOTES or CHECK is asked for; CALLS is near"),
+    ("CALS TWICE 2", 1, "TEST, CHANNEL, AT, ALWAYS, NEVER, CALLS, NOTES, CHECK or COVERED is asked for; CALLS is near"),
     ("NOTES", 6, "NONE or a kind of notes, as run --notes tells them, is asked for"),
     ("NOTES SKIPP", 7, "a kind of notes is asked for, as run --notes tells them; SKIP is near"),
     ("NOTES SKIP QUOTENT", 12, "a kind of notes is asked for, as run --notes tells them; QUOTIENT is near"),
     ("NOTES NONE SKIP", 12, "the end of the line is asked for"),
     ("CHECK ALL", 7, "the end of the line is asked for"),
+    ("COVERED", 8, "how many words are executed at least is asked for"),
+    ("COVERED all", 9, "how many words are executed at least is asked for"),
 ]
 
 

@@ -17,9 +17,9 @@ use workshop::{
 const MOST_BYTES: usize = 65_536;
 
 /// The words with which a line begins.
-static KEYWORDS: [&str; 11] = [
+static KEYWORDS: [&str; 12] = [
     "SOURCE", "FEED", "STEPS", "TEST", "CHANNEL", "ALWAYS", "NEVER", "AT", "CALLS", "NOTES",
-    "CHECK",
+    "CHECK", "COVERED",
 ];
 
 /// The words that stand within a line.
@@ -314,7 +314,7 @@ fn asked_text(asked: Asked) -> &'static str {
         Asked::Source => "SOURCE and a path are asked for",
         Asked::Steps => "STEPS and a number of steps, at most 1099511627774, are asked for",
         Asked::Test => "TEST and a name are asked for, before what is claimed",
-        Asked::Claim => "TEST, CHANNEL, AT, ALWAYS, NEVER, CALLS, NOTES or CHECK is asked for",
+        Asked::Claim => "TEST, CHANNEL, AT, ALWAYS, NEVER, CALLS, NOTES, CHECK or COVERED is asked for",
         Asked::Name => "the name of the test is asked for",
         Asked::Channel => "a channel, 0 to 777 in octal, is asked for",
         Asked::Put => "a word or NOTHING is asked for; octal, or decimal where D ends it",
@@ -331,6 +331,7 @@ fn asked_text(asked: Asked) -> &'static str {
         Asked::Calls => "a number of calls or WITHIN is asked for",
         Asked::Notes => "NONE or a kind of notes, as run --notes tells them, is asked for",
         Asked::Kind => "a kind of notes is asked for, as run --notes tells them",
+        Asked::Least => "how many words are executed at least is asked for",
         Asked::Relation => "one of = <> < > <= >= is asked for",
         Asked::Word => "a word is asked for; octal, or decimal where D ends it",
         Asked::End => "the end of the line is asked for",

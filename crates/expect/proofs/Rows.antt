@@ -9,7 +9,7 @@ use Rattle.expect.specs.Kinds.{first_other, no_kind}
 use Rattle.expect.specs.Lines.{claims_of, kinds_at, most_cycles, words_at}
 use Rattle.expect.specs.Statements.{before_return}
 use Rattle.expect.specs.Texts.{claims_after, heading_of, in_test}
-use Rattle.expect.specs.declared.claim.Claim.TheVariants.{Puts, PutsNoMore, Always, Never, AtEnd, At, Calls, CallsWithin, Notes, Check}
+use Rattle.expect.specs.declared.claim.Claim.TheVariants.{Puts, PutsNoMore, Always, Never, AtEnd, At, Calls, CallsWithin, Notes, Check, Covered}
 use Rattle.expect.specs.declared.claim.Relation.TheVariants.{Same, Other, Less, Greater, AtMost, AtLeast}
 use Rattle.expect.specs.declared.refusal.Asked.TheVariants as asked
 use Rattle.space.specs.declared.place.Linear.TheVariants.{Fixed}
@@ -163,6 +163,12 @@ notes_of_no_kind = refl
 nothing_behind_none : claims_of [] (codes "NOTES" ∷ codes "NONE" ∷ codes "SKIP" ∷ []) ≡ Err (record { field = 2; asked = asked.End })
 nothing_behind_none = refl
 
+twelve_words : claims_of [] (codes "COVERED" ∷ codes "12" ∷ []) ≡ Ok (Covered 12 ∷ [])
+twelve_words = refl
+
+no_number_of_words : claims_of [] (codes "COVERED" ∷ codes "ALL" ∷ []) ≡ Err (record { field = 1; asked = asked.Least })
+no_number_of_words = refl
+
 a_clean_source : claims_of [] (codes "CHECK" ∷ []) ≡ Ok (Check ∷ [])
 a_clean_source = refl
 
@@ -171,7 +177,7 @@ some_notes : List ℕ
 some_notes = codes "NOTE SKIP       02,4005  54101  TS SUM\nNOTE QUOTIENT   02,4016  10100  DV D\n"
 
 some_facts : Facts
-some_facts = record { notes = some_notes; report = codes "a.agc:2:5: warning W1: so\n  TS 5\n"; errors = 0; warnings = 1 }
+some_facts = record { notes = some_notes; report = codes "a.agc:2:5: warning W1: so\n  TS 5\n"; errors = 0; warnings = 1; executed = 9 }
 
 the_quotient_is_another : first_other (set no_kind 1 true) (lines some_notes) ≡ Some (codes "NOTE QUOTIENT   02,4016  10100  DV D")
 unfolding first_other
@@ -190,6 +196,12 @@ a_warning_is_told = refl
 
 it_is_missed : misses some_facts Check ≡ true
 it_is_missed = refl
+
+nine_words_are_nine : misses some_facts (Covered 9) ≡ false
+nine_words_are_nine = refl
+
+nine_words_are_not_ten : misses some_facts (Covered 10) ≡ true
+nine_words_are_not_ten = refl
 
 -- ## Lines with a carriage return, and without
 a_carriage_return_ends_a_line : before_return (0o101 ∷ 0o15 ∷ []) ≡ 0o101 ∷ []

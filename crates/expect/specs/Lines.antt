@@ -9,7 +9,7 @@ use Rattle.commands.specs.NamedPlaces.{begins_with_plus, named_place}
 use Rattle.expect.specs.Fields.{moved_in, relation_in, value_in}
 use Rattle.expect.specs.Kinds.{Kinds, kind_in, no_kind}
 use Rattle.expect.specs.declared.claim.Claim.{Claim}
-use Rattle.expect.specs.declared.claim.Claim.TheVariants.{Puts, PutsNoMore, Always, Never, AtEnd, At, Calls, CallsWithin, Notes, Check}
+use Rattle.expect.specs.declared.claim.Claim.TheVariants.{Puts, PutsNoMore, Always, Never, AtEnd, At, Calls, CallsWithin, Notes, Check, Covered}
 use Rattle.expect.specs.declared.claim.Condition.{Condition}
 use Rattle.expect.specs.declared.claim.Relation.{Relation}
 use Rattle.expect.specs.declared.refusal.Asked.{Asked}
@@ -218,6 +218,15 @@ notes_at at [] = asks at asked.Notes
 notes_at at (field ∷ more) =
     if same_name field (codes "NONE") then ended_at (at + 1) (Notes no_kind) more else kinds_at at no_kind (field ∷ more)
 
+-- ## Words that are executed: how many at least
+abbrev pub with_least : ℕ → Option ℕ → List (List ℕ) → Reading Claim
+with_least at None more = asks at asked.Least
+with_least at (Some least) more = ended_at (at + 1) (Covered least) more
+
+abbrev pub covered_at : ℕ → List (List ℕ) → Reading Claim
+covered_at at [] = asks at asked.Least
+covered_at at (field ∷ more) = with_least at (count_in field) more
+
 -- ## Any line of a test
 -- what follows AT: END, or a place
 abbrev pub with_moved_place : SymbolTable → ℕ → Option Linear → List (List ℕ) → Reading (List Claim)
@@ -252,4 +261,5 @@ claims_of symbols (name ∷ more) =
     else (if same_name name (codes "CALLS") then alone (calls_at symbols 1 more)
     else (if same_name name (codes "NOTES") then alone (notes_at 1 more)
     else (if same_name name (codes "CHECK") then alone (ended_at 1 Check more)
-    else asks 0 asked.Claim))))))
+    else (if same_name name (codes "COVERED") then alone (covered_at 1 more)
+    else asks 0 asked.Claim)))))))

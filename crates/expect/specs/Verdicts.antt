@@ -9,7 +9,7 @@ use Rattle.expect.specs.Facts.{Facts, cited}
 use Rattle.expect.specs.Statements.{Statement}
 use Rattle.expect.specs.Texts.{name_of}
 use Rattle.expect.specs.declared.claim.Claim.{Claim}
-use Rattle.expect.specs.declared.claim.Claim.TheVariants.{Puts, PutsNoMore, Always, Never, AtEnd, At, Calls, CallsWithin, Notes, Check}
+use Rattle.expect.specs.declared.claim.Claim.TheVariants.{Puts, PutsNoMore, Always, Never, AtEnd, At, Calls, CallsWithin, Notes, Check, Covered}
 use Rattle.expect.specs.declared.claim.Condition.{Condition}
 use Rattle.expect.specs.declared.claim.Relation.{Relation}
 use Rattle.expect.specs.declared.claim.Relation.TheVariants.{Same, Other, Less, Greater, AtMost, AtLeast}
@@ -64,6 +64,7 @@ came_text facts (CallsWithin place most) seen word = if seen == 0 then codes "it
 came_text facts (Notes kinds) seen word = []
 came_text facts Check seen word =
     codes "check: errors " ++ decimal facts.errors ++ codes ", warnings " ++ decimal facts.warnings ++ codes ": "
+came_text facts (Covered least) seen word = codes "it executes " ++ decimal facts.executed ++ codes " words"
 came_text facts _ seen word = word_came_text word
 
 -- how a word has to stand to another
@@ -99,6 +100,7 @@ wanted_text (Calls place times) came = decimal times
 wanted_text (CallsWithin place most) came = codes "within " ++ decimal most ++ codes " cycles"
 wanted_text (Notes kinds) came = codes "no other note"
 wanted_text Check came = codes "none"
+wanted_text (Covered least) came = decimal least ++ codes " or more"
 
 -- whether a test is met, in a word
 abbrev pub verdict_word : Option (Watch × Failure) → List ℕ

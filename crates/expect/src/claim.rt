@@ -73,6 +73,8 @@ pub enum Claim {
     Notes([bool; KINDS]),
     /// `check` tells no error of the source, and no warning.
     Check,
+    /// So many words of the program are executed, or more.
+    Covered(u64),
 }
 
 /// A claim, with the test that states it.

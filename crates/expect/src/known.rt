@@ -1,8 +1,8 @@
 //! What is known of a run beside its steps.
 
 ghost use Rattle.std.specs.Prelude.{◌≡◌};
-ghost use Rattle.expect.specs.Facts.{ask_for_check, ask_for_notes, cited, facts_of, first_of, is_of_check};
-ghost use Rattle.expect.specs.Facts.{is_of_notes, misses};
+ghost use Rattle.expect.specs.Facts.{ask_for_check, ask_for_notes, ask_for_words, cited, facts_of, first_of};
+ghost use Rattle.expect.specs.Facts.{is_of_check, is_of_notes, is_of_words, misses};
 ghost use Rattle.agc_text.specs.Lines.{lines};
 
 use crate::claim::{Claim, Stated};
@@ -20,6 +20,8 @@ pub struct Known<'a> {
     pub errors: u64,
     /// How many warnings.
     pub warnings: u64,
+    /// How many words of the program it has executed.
+    pub executed: u64,
 }
 
 /// Whether it does not bear a claim out; the steps decide on the others.
@@ -29,6 +31,7 @@ pub(crate) fn misses(known: &Known<'_>, claim: &Claim) -> bool
     match claim {
         Claim::Notes(kinds) => first_other(kinds, known.notes).is_some(),
         Claim::Check => !(known.errors == 0 && known.warnings == 0),
+        Claim::Covered(least) => known.executed < *least,
         Claim::Puts(_) | Claim::PutsNoMore(_, _) => false,
         Claim::Always(_) | Claim::Never(_) | Claim::AtEnd(_) | Claim::At(_, _) => false,
         Claim::Calls(_, _) | Claim::CallsWithin(_, _) => false,
@@ -70,6 +73,13 @@ pub fn ask_for_check(claims: &[Stated]) -> bool
     claims.iter().any(|stated| is_of_check(&stated.claim))
 }
 
+/// Whether some claim asks how many words are executed.
+pub fn ask_for_words(claims: &[Stated]) -> bool
+    ensures { result ≡ ask_for_words claims.now }
+{
+    claims.iter().any(|stated| is_of_words(&stated.claim))
+}
+
 /// Whether a claim is one of notes.
 fn is_of_notes(claim: &Claim) -> bool
     ensures { result ≡ is_of_notes claim.now }
@@ -86,6 +96,16 @@ fn is_of_check(claim: &Claim) -> bool
 {
     match claim {
         Claim::Check => true,
+        _ => false,
+    }
+}
+
+/// Whether it is one of how many words are executed.
+fn is_of_words(claim: &Claim) -> bool
+    ensures { result ≡ is_of_words claim.now }
+{
+    match claim {
+        Claim::Covered(_) => true,
         _ => false,
     }
 }

@@ -11,7 +11,7 @@ use crate::channel::{alone, channel_at};
 use crate::claim::Claim;
 use crate::condition::{condition_at, wrong};
 use crate::fields::{begins_with_plus, is_word, moved_in};
-use crate::notes::notes_at;
+use crate::notes::{covered_at, notes_at};
 use crate::refusal::{Asked, Wrong};
 use agc_text::split_field;
 use commands::named_place;
@@ -67,6 +67,8 @@ pub(crate) fn line_of<'a>(symbols: &Symbols, fields: &'a [u8]) -> Result<Line<'a
         alone(notes_at(1, rest))
     } else if is_word(name, "CHECK") {
         alone(ended(1, Claim::Check, rest))
+    } else if is_word(name, "COVERED") {
+        alone(covered_at(1, rest))
     } else {
         Err(wrong(0, Asked::Claim))
     }

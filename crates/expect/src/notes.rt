@@ -1,13 +1,13 @@
-//! What a line claims of the notes of a run.
+//! What a line claims of the notes of a run, and of how many words it executes.
 
 ghost use Rattle.std.specs.Prelude.{◌≡◌, ◌≤◌, ◌<◌, set, true};
 ghost use Rattle.agc_text.specs.Fields.{runs, texts};
-ghost use Rattle.expect.specs.Lines.{kinds_at, notes_at};
+ghost use Rattle.expect.specs.Lines.{covered_at, kinds_at, notes_at};
 
 use crate::calls::ended;
 use crate::claim::Claim;
 use crate::condition::wrong;
-use crate::fields::is_word;
+use crate::fields::{count_in, is_word};
 use crate::kinds::{KINDS, kind_in};
 use crate::refusal::{Asked, Wrong};
 use agc_text::split_field;
@@ -55,4 +55,18 @@ fn with_kind(kinds: [bool; KINDS], kind: usize) -> [bool; KINDS]
     let mut listed = kinds;
     listed[kind] = true;
     listed
+}
+
+/// What a line claims of the words that are executed: how many they are at least, which has a number among the fields.
+pub(crate) fn covered_at(at: u64, fields: &[u8]) -> Result<Claim, Wrong>
+    requires { at ≤ 1 }
+    ensures { result ≡ covered_at at (texts (runs fields.now)) }
+{
+    let Some((field, rest)) = split_field(fields) else {
+        return Err(wrong(at, Asked::Least));
+    };
+    match count_in(field) {
+        Some(least) => ended(at + 1, Claim::Covered(least), rest),
+        None => Err(wrong(at, Asked::Least)),
+    }
 }

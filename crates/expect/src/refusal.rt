@@ -39,6 +39,8 @@ pub enum Asked {
     Notes,
     /// A kind of notes.
     Kind,
+    /// How many words are executed at least.
+    Least,
     /// A relation.
     Relation,
     /// A word.

@@ -237,6 +237,7 @@ fn push_came(
         Claim::CallsWithin(_, _) => push_long(text, seen),
         Claim::Notes(_) => {}
         Claim::Check => push_counts(text, known.errors, known.warnings),
+        Claim::Covered(_) => push_executed(text, known.executed),
         _ => push_word_that_came(text, word),
     }
 }
@@ -254,6 +255,29 @@ fn push_counts(text: &mut FailureText, errors: u64, warnings: u64)
     push_all(text, b", warnings ");
     push_decimal(text, warnings);
     push_all(text, b": ");
+}
+
+/// Appends how many words are executed.
+#[tactic(auto, using(words::proofs::Digits::short_decimal))]
+fn push_executed(text: &mut FailureText, executed: u64)
+    requires { array_vec_len text.old ≤ 90 }
+    ensures items { text.new.items ≡ text.old.items ++ (codes "it executes " ++ decimal executed ++ codes " words") }
+    ensures len { array_vec_len text.new ≤ array_vec_len text.old + 40 }
+{
+    push_all(text, b"it executes ");
+    push_decimal(text, executed);
+    push_all(text, b" words");
+}
+
+/// Appends how many are wanted at least.
+#[tactic(auto, using(words::proofs::Digits::short_decimal))]
+fn push_least(text: &mut FailureText, least: u64)
+    requires { array_vec_len text.old ≤ 90 }
+    ensures items { text.new.items ≡ text.old.items ++ (decimal least ++ codes " or more") }
+    ensures len { array_vec_len text.new ≤ array_vec_len text.old + 40 }
+{
+    push_decimal(text, least);
+    push_all(text, b" or more");
 }
 
 /// Appends how often a routine is called.
@@ -346,6 +370,7 @@ fn push_wanted(text: &mut FailureText, claim: &Claim, came: Option<Word>)
         Claim::CallsWithin(_, most) => push_within(text, *most),
         Claim::Notes(_) => push_all(text, b"no other note"),
         Claim::Check => push_all(text, b"none"),
+        Claim::Covered(least) => push_least(text, *least),
     }
 }
 

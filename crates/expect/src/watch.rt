@@ -187,7 +187,7 @@ fn breaks(
         }
         Claim::Calls(place, times) => is_at(processor, machine, place) && *times <= seen,
         Claim::CallsWithin(_, most) => is_long(*most, machine, call),
-        Claim::Notes(_) | Claim::Check => false,
+        Claim::Notes(_) | Claim::Check | Claim::Covered(_) => false,
     }
 }
 
@@ -205,7 +205,7 @@ fn counts(claim: &Claim, processor: &Processor, machine: &Machine, put: &Option<
         Claim::Calls(place, _) | Claim::CallsWithin(place, _) => {
             is_at(processor, machine, place)
         }
-        Claim::Notes(_) | Claim::Check => false,
+        Claim::Notes(_) | Claim::Check | Claim::Covered(_) => false,
     }
 }
 
@@ -219,7 +219,7 @@ fn told_of(claim: &Claim, machine: &Machine, put: &Option<Output>) -> Option<Wor
             Some(machine.word(it.place))
         }
         Claim::Calls(_, _) | Claim::CallsWithin(_, _) => None,
-        Claim::Notes(_) | Claim::Check => None,
+        Claim::Notes(_) | Claim::Check | Claim::Covered(_) => None,
     }
 }
 
@@ -233,7 +233,7 @@ fn lacks(claim: &Claim, seen: u64, machine: &Machine) -> bool
         Claim::AtEnd(condition) => !condition.holds(machine),
         Claim::At(_, _) | Claim::CallsWithin(_, _) => seen == 0,
         Claim::Calls(_, times) => seen < *times,
-        Claim::Notes(_) | Claim::Check => false,
+        Claim::Notes(_) | Claim::Check | Claim::Covered(_) => false,
     }
 }
 

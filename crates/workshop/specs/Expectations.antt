@@ -12,7 +12,7 @@ use Rattle.faults.specs.Report.{report}
 use Rattle.faults.specs.Warnings.{warnings}
 use Rattle.cpu.specs.State.{Scenario}
 use Rattle.notes.specs.RunNotes.{notes_text}
-use Rattle.expect.specs.Facts.{Facts, ask_for_check, ask_for_notes}
+use Rattle.expect.specs.Facts.{Facts, ask_for_check, ask_for_notes, ask_for_words}
 use Rattle.expect.specs.Statements.{Statement, statements}
 use Rattle.expect.specs.Texts.{claims_after}
 use Rattle.expect.specs.Verdicts.{are_all_met, verdicts}
@@ -26,6 +26,7 @@ use Rattle.workshop.specs.declared.expecting.Judged.TheVariants.{Refused, Met}
 use Rattle.workshop.specs.declared.fault.WorkshopFault.{WorkshopFault}
 use Rattle.workshop.specs.declared.fault.WorkshopFault.TheVariants.{NoMemory}
 use Rattle.workshop.specs.Checks.{tally}
+use Rattle.workshop.specs.Executed.{executed}
 use Rattle.workshop.specs.Failures.{Writer}
 use Rattle.workshop.specs.Inputs.{assembled}
 use Rattle.workshop.specs.Loading.{Reads, ReadsInputs, ReadsText}
@@ -54,8 +55,13 @@ checked name source = (report Text Standard name source (told Standard source) (
 abbrev pub checked_for : List Stated → List ℕ → List ℕ → List ℕ × Tally
 checked_for claims name source = if ask_for_check claims then checked name source else ([], record { errors = 0; warnings = 0 })
 
-abbrev pub facts_by : List ℕ → List ℕ × Tally → Facts
-facts_by notes r = record { notes = notes; report = r.0; errors = r.1.errors; warnings = r.1.warnings }
+-- how many words n steps have executed, where some claim asks for it
+abbrev pub executed_for : List Stated → Scenario → ℕ → ℕ
+executed_for claims scenario n = if ask_for_words claims then executed scenario n else 0
+
+abbrev pub facts_by : List ℕ → List ℕ × Tally → ℕ → Facts
+facts_by notes r executed =
+    record { notes = notes; report = r.0; errors = r.1.errors; warnings = r.1.warnings; executed = executed }
 
 -- a source that is judged: its text, its symbols, and the places that its words name
 pub record Subject : Type 0 where
@@ -66,6 +72,7 @@ pub record Subject : Type 0 where
 abbrev pub facts : Task → Subject → List Stated → Scenario → Facts
 facts task subject claims scenario =
     facts_by (noted claims subject.symbols subject.named scenario task.steps) (checked_for claims task.name subject.text)
+    (executed_for claims scenario task.steps)
 
 -- ## What is answered, and written
 -- memory is refused, and nothing is written; or the verdicts on some claims of a run are written, and it is answered whether all are met

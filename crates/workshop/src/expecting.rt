@@ -5,13 +5,14 @@ ghost use Rattle.std.specs.Result.{result_map_both};
 ghost use Rattle.expect.specs.Texts.{claims_after};
 ghost use Rattle.json_text.specs.declared.notation.Notation.TheVariants as Notation;
 ghost use Rattle.notes.specs.RunNotes.{notes_text};
-ghost use Rattle.workshop.specs.Expectations.{Judges, JudgesClaims, JudgesRun, checked, checked_for, noted, read_of};
-ghost use Rattle.workshop.specs.Expectations.{task_of};
+ghost use Rattle.workshop.specs.Expectations.{Judges, JudgesClaims, JudgesRun, checked, checked_for, executed_for};
+ghost use Rattle.workshop.specs.Expectations.{noted, read_of, task_of};
 ghost use Rattle.workshop.specs.Failures.{reader, writer};
 ghost use Rattle.workshop.specs.Loading.{Reads, ReadsText};
 ghost use Rattle.workshop.specs.declared.fault.WorkshopFault.TheVariants as WorkshopFault;
 
 use crate::checking::{Tally, told_of};
+use crate::executed::executed_words;
 use crate::fault::WorkshopFault;
 use crate::inputs::read_feed;
 use crate::noting::run_then_note;
@@ -19,7 +20,7 @@ use crate::progress::Unheard;
 use cpu::{Machine, Processor};
 use expect::{
     ExpectFault, Expectation, Known, Refusal as TextRefusal, Stated, are_all_met, ask_for_check,
-    ask_for_notes, claims_in, judge, settle, write_verdicts,
+    ask_for_notes, ask_for_words, claims_in, judge, settle, write_verdicts,
 };
 use feed::Feed;
 use json_text::Notation;
@@ -146,6 +147,9 @@ fn judge_claims<W: Write>(
         return Err(WorkshopFault::NoMemory);
     };
     let Subject { text, named, names } = subject;
+    let Ok(executed) = executed_for(alloc, claims, processor, tests.steps) else {
+        return Err(WorkshopFault::NoMemory);
+    };
     let Ok(notes) = noted(alloc, claims, named, &names, processor, tests.steps) else {
         return Err(WorkshopFault::NoMemory);
     };
@@ -157,6 +161,7 @@ fn judge_claims<W: Write>(
         report: &report,
         errors: tally.errors as u64,
         warnings: tally.warnings as u64,
+        executed,
     };
     let settled = settle(watches, &known, &machine, tests.steps);
     write_verdicts(tests.line, tests.tests, &settled, &known, out)?;
@@ -250,5 +255,23 @@ fn checked(alloc: Global, name: &[u8], source: &[u8]) -> Result<(Vec<u8>, Tally)
     ) {
         Ok(told) => Ok(told),
         Err(_) => Err(WorkshopFault::NoMemory),
+    }
+}
+
+/// How many words some steps from the start execute, where a claim asks for it.
+fn executed_for(
+    alloc: Global,
+    claims: &[Stated],
+    processor: &mut Processor,
+    steps: u64,
+) -> Result<u64, WorkshopFault>
+    requires { steps ≤ 2 ^ 40 - 2 }
+    ensures count { IfOk result (λ count. count ≡ executed_for claims.now processor.old.scenario steps) }
+    ensures scenario { processor.new.scenario ≡ processor.old.scenario }
+{
+    if ask_for_words(claims) {
+        executed_words(alloc, processor, steps)
+    } else {
+        Ok(0)
     }
 }
