@@ -39,14 +39,6 @@ pub enum Judged {
     Met(bool),
 }
 
-/// A source whose run is judged: its text, the places that its words name, and its names.
-#[derive(Drop)]
-struct Subject<'a> {
-    text: &'a [u8],
-    named: NamedPlaces,
-    names: PlaceNames,
-}
-
 /// Reads a source and then a feed, makes the steps of a text of tests, and writes for each test whether the run bears
 /// it out: see `write_verdicts`. The steps are made once, and again for their notes where a test is of these.
 ///
@@ -121,9 +113,17 @@ fn judge_source<W: Write>(
     let Ok(names) = PlaceNames::new(alloc, symbols) else {
         return Err(WorkshopFault::NoMemory);
     };
-    let subject = Subject { text, named, names };
     let mut processor = Processor::new(rope, feed);
-    judge_claims(alloc, tests, &claims, subject, &mut processor, out)
+    judge_claims(
+        alloc,
+        tests,
+        &claims,
+        text,
+        named,
+        &names,
+        &mut processor,
+        out,
+    )
 }
 
 /// Makes the steps, looks up what else is asked for, and writes the verdicts.
@@ -131,14 +131,16 @@ fn judge_claims<W: Write>(
     alloc: Global,
     tests: &Expectation<'_>,
     claims: &[Stated],
-    subject: Subject<'_>,
+    text: &[u8],
+    named: NamedPlaces,
+    names: &PlaceNames,
     processor: &mut Processor,
     out: &mut W,
 ) -> Result<Judged, WorkshopFault>
     requires steps { tests.now.steps ≤ 2 ^ 40 - 2 }
     requires short { tests.now.line + length tests.now.tests.now ≤ 2 ^ 20 }
     ensures { JudgesClaims (task_of tests.now)
-        (record { text = subject.text.now; symbols = subject.names; named = subject.named })
+        (record { text = text.now; symbols = names.now; named = named })
         processor.old.scenario claims.now
         (writer W.told W.written W.failures out.old) (writer W.told W.written W.failures out.new) result }
 {
@@ -146,11 +148,10 @@ fn judge_claims<W: Write>(
     let Ok(watches) = judge(alloc, processor, &mut machine, claims, tests.steps) else {
         return Err(WorkshopFault::NoMemory);
     };
-    let Subject { text, named, names } = subject;
     let Ok(executed) = executed_for(alloc, claims, processor, tests.steps) else {
         return Err(WorkshopFault::NoMemory);
     };
-    let Ok(notes) = noted(alloc, claims, named, &names, processor, tests.steps) else {
+    let Ok(notes) = noted(alloc, claims, named, names, processor, tests.steps) else {
         return Err(WorkshopFault::NoMemory);
     };
     let Ok((report, tally)) = checked_for(alloc, claims, tests.source, text) else {
