@@ -1,11 +1,12 @@
 -- Rows of texts of tests, worked out by hand.
 use Rattle.std.proofs.Common.{◌≡◌, ℕ, List, [], ◌∷◌, true, false, refl, Option, Some, None, Ok, Err}
-use Rattle.std.specs.Prelude.{codes, set}
+use Rattle.std.specs.Prelude.{codes}
+use Rattle.agc_text.specs.Fields.{runs}
 use Rattle.agc_text.specs.Lines.{lines}
 use Rattle.expect.specs.Claims.{breaks, lacks, related}
 use Rattle.expect.specs.Fields.{relation_in, value_in}
 use Rattle.expect.specs.Facts.{Facts, cited, misses}
-use Rattle.expect.specs.Kinds.{first_other, no_kind}
+use Rattle.expect.specs.Kinds.{first_other}
 use Rattle.expect.specs.Lines.{claims_of, kinds_at, most_cycles, words_at}
 use Rattle.expect.specs.Statements.{before_return}
 use Rattle.expect.specs.Texts.{claims_after, heading_of, in_test}
@@ -145,11 +146,11 @@ called_for_so_long = refl
 no_number_of_calls : claims_of [] (codes "CALLS" ∷ codes "4000" ∷ codes "often" ∷ []) ≡ Err (record { field = 2; asked = asked.Calls })
 no_number_of_calls = refl
 
-no_notes : claims_of [] (codes "NOTES" ∷ codes "NONE" ∷ []) ≡ Ok (Notes no_kind ∷ [])
+no_notes : claims_of [] (codes "NOTES" ∷ codes "NONE" ∷ []) ≡ Ok (Notes 0 ∷ [])
 no_notes = refl
 
 notes_of_two_kinds : claims_of [] (codes "NOTES" ∷ codes "QUOTIENT" ∷ codes "UNREAD" ∷ [])
-    ≡ Ok (Notes (set (set no_kind 0 true) 13 true) ∷ [])
+    ≡ Ok (Notes 8193 ∷ [])
 unfolding kinds_at
 notes_of_two_kinds = refl
 
@@ -172,26 +173,27 @@ no_number_of_words = refl
 a_clean_source : claims_of [] (codes "CHECK" ∷ []) ≡ Ok (Check ∷ [])
 a_clean_source = refl
 
--- ## Notes: QUOTIENT is kind 0, SKIP kind 1
-some_notes : List ℕ
+-- ## Notes: QUOTIENT has the number 1, SKIP 2, UNREAD 8192
+abbrev some_notes : List ℕ
 some_notes = codes "NOTE SKIP       02,4005  54101  TS SUM\nNOTE QUOTIENT   02,4016  10100  DV D\n"
 
-some_facts : Facts
+abbrev some_facts : Facts
 some_facts = record { notes = some_notes; report = codes "a.agc:2:5: warning W1: so\n  TS 5\n"; errors = 0; warnings = 1; executed = 9 }
 
-the_quotient_is_another : first_other (set no_kind 1 true) (lines some_notes) ≡ Some (codes "NOTE QUOTIENT   02,4016  10100  DV D")
-unfolding first_other
+the_quotient_is_another : first_other 2 (lines some_notes) ≡ Some (codes "NOTE QUOTIENT   02,4016  10100  DV D")
+unfolding first_other lines runs
 the_quotient_is_another = refl
 
-both_are_listed : misses some_facts (Notes (set (set no_kind 0 true) 1 true)) ≡ false
-unfolding first_other
+both_are_listed : misses some_facts (Notes 3) ≡ false
+unfolding first_other lines runs
 both_are_listed = refl
 
-none_is_listed : cited some_facts (Notes no_kind) ≡ codes "NOTE SKIP       02,4005  54101  TS SUM"
-unfolding first_other
+none_is_listed : cited some_facts (Notes 0) ≡ codes "NOTE SKIP       02,4005  54101  TS SUM"
+unfolding first_other lines runs
 none_is_listed = refl
 
 a_warning_is_told : cited some_facts Check ≡ codes "a.agc:2:5: warning W1: so"
+unfolding lines
 a_warning_is_told = refl
 
 it_is_missed : misses some_facts Check ≡ true

@@ -1,5 +1,5 @@
 -- What a line of a test claims, by its fields; or at which field, from 0 on, what is asked for.
-use Rattle.std.specs.Prelude.{ℕ, ◌+◌, ◌^◌, ◌==◌, ◌&&◌, nat_lt, Bool, true, List, [], ◌∷◌, Option, None, Some, Result, Ok, Err, codes, set}
+use Rattle.std.specs.Prelude.{ℕ, ◌+◌, ◌^◌, ◌==◌, ◌&&◌, nat_lt, Bool, List, [], ◌∷◌, Option, None, Some, Result, Ok, Err, codes}
 use Rattle.std.specs.Prelude.{if◌then◌else◌}
 use Rattle.agc_text.specs.Tables.{same_name}
 use Rattle.symbols.specs.Values.{SymbolTable}
@@ -7,7 +7,7 @@ use Rattle.space.specs.declared.place.Linear.{Linear}
 use Rattle.commands.specs.Commands.{channel_in, count_in, erasable_number}
 use Rattle.commands.specs.NamedPlaces.{begins_with_plus, named_place}
 use Rattle.expect.specs.Fields.{moved_in, relation_in, value_in}
-use Rattle.expect.specs.Kinds.{Kinds, kind_in, no_kind}
+use Rattle.expect.specs.Kinds.{kind_in, with_kind}
 use Rattle.expect.specs.declared.claim.Claim.{Claim}
 use Rattle.expect.specs.declared.claim.Claim.TheVariants.{Puts, PutsNoMore, Always, Never, AtEnd, At, Calls, CallsWithin, Notes, Check, Covered}
 use Rattle.expect.specs.declared.claim.Condition.{Condition}
@@ -203,20 +203,20 @@ abbrev pub last_kind : ℕ
 last_kind = 30
 
 -- kinds with one more
-abbrev pub with_kind : ℕ → Kinds → Option ℕ → (Kinds → Reading Claim) → Reading Claim
-with_kind at kinds None more = asks at asked.Kind
-with_kind at kinds (Some kind) more = more (set kinds kind true)
+abbrev pub and_kind : ℕ → ℕ → Option ℕ → (ℕ → Reading Claim) → Reading Claim
+and_kind at kinds None more = asks at asked.Kind
+and_kind at kinds (Some kind) more = more (with_kind kinds kind)
 
 -- kinds, and those of some fields, of which the first has a number
-unfoldable pub kinds_at : ℕ → Kinds → List (List ℕ) → Reading Claim
+unfoldable pub kinds_at : ℕ → ℕ → List (List ℕ) → Reading Claim
 kinds_at at kinds [] = Ok (Notes kinds)
 kinds_at at kinds (field ∷ more) =
-    if nat_lt last_kind at then asks at asked.End else with_kind at kinds (kind_in field) (λ listed. kinds_at (at + 1) listed more)
+    if nat_lt last_kind at then asks at asked.End else and_kind at kinds (kind_in field) (λ listed. kinds_at (at + 1) listed more)
 
 abbrev pub notes_at : ℕ → List (List ℕ) → Reading Claim
 notes_at at [] = asks at asked.Notes
 notes_at at (field ∷ more) =
-    if same_name field (codes "NONE") then ended_at (at + 1) (Notes no_kind) more else kinds_at at no_kind (field ∷ more)
+    if same_name field (codes "NONE") then ended_at (at + 1) (Notes 0) more else kinds_at at 0 (field ∷ more)
 
 -- ## Words that are executed: how many at least
 abbrev pub with_least : ℕ → Option ℕ → List (List ℕ) → Reading Claim

@@ -4,7 +4,6 @@ ghost use Rattle.std.specs.Prelude.{◌≡◌, ◌<ℤ◌, ◌≤◌, ◌<◌, �
 ghost use Rattle.words.specs.Numbers.{value};
 ghost use Rattle.expect.specs.Claims.{holds, related};
 
-use crate::kinds::KINDS;
 use cpu::Machine;
 use space::{Chan, Eras, Linear};
 use words::Word;
@@ -69,8 +68,8 @@ pub enum Claim {
     Calls(Linear, u64),
     /// It is called, and each call takes at most so many cycles.
     CallsWithin(Linear, u64),
-    /// The run has no note but of some kinds: of each by its number, whether it is one of them.
-    Notes([bool; KINDS]),
+    /// The run has no note but of some kinds, which have the sum of their numbers.
+    Notes(u64),
     /// `check` tells no error of the source, and no warning.
     Check,
     /// So many words of the program are executed, or more.

@@ -1,6 +1,6 @@
 //! What a line claims of the notes of a run, and of how many words it executes.
 
-ghost use Rattle.std.specs.Prelude.{◌≡◌, ◌≤◌, ◌<◌, set, true};
+ghost use Rattle.std.specs.Prelude.{◌≡◌, ◌≤◌, ◌*◌};
 ghost use Rattle.agc_text.specs.Fields.{runs, texts};
 ghost use Rattle.expect.specs.Lines.{covered_at, kinds_at, notes_at};
 
@@ -8,7 +8,7 @@ use crate::calls::ended;
 use crate::claim::Claim;
 use crate::condition::wrong;
 use crate::fields::{count_in, is_word};
-use crate::kinds::{KINDS, kind_in};
+use crate::kinds::{kind_in, with_kind};
 use crate::refusal::{Asked, Wrong};
 use agc_text::split_field;
 
@@ -24,15 +24,16 @@ pub(crate) fn notes_at(at: u64, fields: &[u8]) -> Result<Claim, Wrong>
         return Err(wrong(at, Asked::Notes));
     };
     if is_word(field, "NONE") {
-        ended(at + 1, Claim::Notes([false; KINDS]), rest)
+        ended(at + 1, Claim::Notes(0), rest)
     } else {
-        kinds_at(at, [false; KINDS], fields)
+        kinds_at(at, 0, fields)
     }
 }
 
 /// Some kinds, and those of some fields.
-fn kinds_at(at: u64, kinds: [bool; KINDS], fields: &[u8]) -> Result<Claim, Wrong>
-    requires { at ≤ 31 }
+fn kinds_at(at: u64, kinds: u64, fields: &[u8]) -> Result<Claim, Wrong>
+    requires last { at ≤ 31 }
+    requires few { kinds ≤ 8192 * at }
     ensures { result ≡ kinds_at at kinds (texts (runs fields.now)) }
 {
     let Some((field, rest)) = split_field(fields) else {
@@ -45,16 +46,6 @@ fn kinds_at(at: u64, kinds: [bool; KINDS], fields: &[u8]) -> Result<Claim, Wrong
         Some(kind) => kinds_at(at + 1, with_kind(kinds, kind), rest),
         None => Err(wrong(at, Asked::Kind)),
     }
-}
-
-/// Some kinds, and one more.
-fn with_kind(kinds: [bool; KINDS], kind: usize) -> [bool; KINDS]
-    requires { kind < 14 }
-    ensures { result ≡ set kinds kind true }
-{
-    let mut listed = kinds;
-    listed[kind] = true;
-    listed
 }
 
 /// What a line claims of the words that are executed: how many they are at least, which has a number among the fields.

@@ -272,7 +272,7 @@ fn push_executed(text: &mut FailureText, executed: u64)
 /// Appends how many are wanted at least.
 #[tactic(auto, using(words::proofs::Digits::short_decimal))]
 fn push_least(text: &mut FailureText, least: u64)
-    requires { array_vec_len text.old ≤ 90 }
+    requires { array_vec_len text.old ≤ 150 }
     ensures items { text.new.items ≡ text.old.items ++ (decimal least ++ codes " or more") }
     ensures len { array_vec_len text.new ≤ array_vec_len text.old + 40 }
 {
