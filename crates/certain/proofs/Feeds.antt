@@ -1,7 +1,6 @@
 -- The rows of a listing hold no line feed, and how long they are.
 use Rattle.std.proofs.Common.{◌≡◌, ◌≢◌, ◌<◌, ◌≤◌, ◌+◌, ◌-◌, ◌/◌, ◌%◌, ◌^◌, ℕ, zero, suc, List, [], ◌∷◌, ◌++◌, length, decimal, nat_lt, eqb}
-use Rattle.std.proofs.Common.{cond}
-use Rattle.std.proofs.Common.{Option, Some, None, true, false, refl, ap, ◌∙◌, arith, length-append, inl, inr}
+use Rattle.std.proofs.Common.{Option, Some, None, refl, ◌∙◌, arith, length-append, inl, inr}
 use Rattle.std.specs.Prelude.{codes}
 use Rattle.std.specs.List.{onto_first}
 use Rattle.std.specs.Option.{option_map_or}

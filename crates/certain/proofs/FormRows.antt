@@ -4,7 +4,6 @@ use Rattle.std.specs.Fmt.{digits}
 use Rattle.std.specs.Prelude.{codes}
 use Rattle.agc_text.specs.Fields.{runs}
 use Rattle.rope.specs.Places.{Words, word_at}
-use Rattle.yayul.specs.Flight.{flight_operators}
 use Rattle.yayul.specs.Listing.{number_column}
 use Rattle.yayul.specs.Readings.{parts_for}
 use Rattle.yayul.specs.Roles.{roles, flight_roles}
@@ -16,7 +15,7 @@ use Rattle.certain.specs.declared.line_forms.EbankUse.TheVariants.{Missing, Unus
 use Rattle.certain.specs.declared.line_forms.LineForms.{LineForms}
 use Rattle.certain.specs.Comparison.{form_text, uncertain_text}
 use Rattle.certain.specs.LineForms.{both, ebank_after, forms_on, second_at}
-use Rattle.certain.specs.Places.{Walk, row_passed, rows_passed, start_with}
+use Rattle.certain.specs.Places.{row_passed, rows_passed, start_with}
 use Rattle.certain.specs.Rows.{is_second, place_before, place_margin, text_on}
 
 abbrev lf : List ℕ

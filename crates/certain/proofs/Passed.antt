@@ -1,6 +1,6 @@
 -- The rows of each line hold the forms of its words at their places.
-use Rattle.std.proofs.Common.{◌≡◌, ◌<◌, ◌≤◌, ◌+◌, ◌-◌, ◌*◌, ◌/◌, ◌%◌, ◌^◌, ◌==◌, nat_lt, ℕ, suc, List, [], ◌∷◌, ◌++◌, length, map, drop, decimal}
-use Rattle.std.proofs.Common.{slice_get, if◌then◌else◌, Option, Some, None, Bool, true, false, refl, sym, ap, ◌∙◌, arith, append_assoc}
+use Rattle.std.proofs.Common.{◌≡◌, ◌<◌, ◌≤◌, ◌+◌, ◌-◌, ◌*◌, ◌/◌, ◌%◌, ◌==◌, nat_lt, ℕ, suc, List, [], ◌∷◌, ◌++◌, length, map, drop}
+use Rattle.std.proofs.Common.{slice_get, if◌then◌else◌, Option, Some, None, true, false, refl, sym, ap, ◌∙◌, arith, append_assoc}
 use Rattle.std.proofs.Common.{length-append, inl, inr}
 use Rattle.std.specs.Prelude.{codes}
 use Rattle.std.proofs.Math.Seq.{drop-append_seam}
@@ -19,11 +19,11 @@ use Rattle.yayul.specs.declared.language.Language.{Language}
 use Rattle.yayul.specs.declared.language.Language.TheVariants.{Standard, Flight}
 use Rattle.yayul.specs.Layout.{Layout, line_effect, start, statement_on}
 use Rattle.yayul.specs.Listing.{Shown, columns, number_column, row_front, shown, word_columns}
-use Rattle.yayul.specs.PlaceRows.{ListedLine, listed_lines}
+use Rattle.yayul.specs.PlaceRows.{listed_lines}
 use Rattle.yayul.specs.Program.{Source}
 use Rattle.yayul.specs.Readings.{parts_for}
 use Rattle.certain.specs.Lines.{AreOfLines, further_held, line_passed, lines_passed}
-use Rattle.certain.specs.Places.{UncertainWords, Walk, all_certain, line_of, row_passed, rows_passed, start_with, uncertain_words}
+use Rattle.certain.specs.Places.{Walk, all_certain, line_of, row_passed, rows_passed, start_with, uncertain_words}
 use Rattle.certain.specs.Places.{with_line, with_second}
 use Rattle.certain.specs.Rows.{front_length, is_second, place_before, place_margin, placed_rows, text_on}
 use Rattle.certain.proofs.Columns.{column_long}

@@ -1,7 +1,4 @@
-use Rattle.std.proofs.Common.{◌++◌, ap}
 use Rattle.std.proofs.lemmas.Result.{err_from_is_err_and}
-use Rattle.certain.specs.Comparison.{uncertain_line, form_lines}
-use Rattle.audit.specs.Differences.{count_line}
 use Rattle.certain.proofs.Whole.{comparison_after, comparison_begin_after, comparison_begin}
 use Rattle.certain.proofs.comparison.write_comparison.Goals as goal
 
