@@ -33,7 +33,7 @@ TURNS = [
     ["commands", "symbols", "agc_text"],
     ["words", "json_text", "audit", "align"],
     ["replay", "test_devices", "test_keepers"],
-    ["feed", "rope", "space", "expect"],
+    ["feed", "rope", "space", "expect", "certain"],
     ["calls", "trace", "names", "cover", "reach", "notes", "access", "delays", "say", "whatif", "differ", "xref", "source_laws", "named_source", "image_file", "plans", "octals", "agcws"],
 ]
 

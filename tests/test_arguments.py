@@ -351,7 +351,8 @@ class Arguments(Case):
             self.assertTrue(is_listed, f"{listing}")
         for version in ("1", "2"):
             self.same(f"asm --sums --flight --rope {version} flight.agc sums.rope", 0, listing.decode())
-            self.same(f"compare --only --flight --new {version} flight.agc sums.rope", 0, "COUNT 0\n")
+            right = "COUNT 0\nUNCERTAIN 0 OF 1\nFORM OCT CONFIRMED 1 DENIED 0\n"
+            self.same(f"compare --only --flight --new {version} flight.agc sums.rope", 0, right)
             status, out, _ = self.call(f"sums --rope {version} sums.rope")
             with self.subTest("the sum of a flight source"):
                 self.assertTrue(status == 0 and (b"02 00002\n" in out or b"02 77775\n" in out))

@@ -1,9 +1,7 @@
-"""Tests of views/certain on a source with each kind of form, beside expected lines by hand."""
+"""Tests of `agcws compare --only --flight`, which tells the words of uncertain forms apart, on a source with each kind of form, beside expected lines by hand."""
 import unittest
 
-from common import read, write
-import pipe
-from viewing import ViewCase, call
+from common import Case, agcws, read, write
 
 SOURCE = """        SETLOC  1400
 X       ERASE
@@ -24,63 +22,117 @@ TEN     OCT     12
         VN      0616
         TC      12000
         CA      -Y
+        BBCON   FAR     # by the EBANK= of an earlier 2CADR
         BANK    4
 FAR     TC      START
         BANK    31
 HIGH    TC      START
 """
-# For each word of bank 2 that is another in the dump: its offset, that word, and what is told after the words and instructions.
-CHANGED = {
-    0o0: (0o34001, ""),
-    0o1: (0o02001, ""),
-    0o4: (0o10000, "LINE 9 2CADR after the EBANK= of an earlier one"),
-    0o6: (0o62064, "LINE 11 2CADR of banks 030 to 037"),
-    0o13: (0o03001, "LINE 15 2DEC"),
-    0o14: (0o00006, ""),
-    0o16: (0o02001, "LINE 18 a number of a place of a bank"),
-}
-FORMS = [
-    "2CADR of banks 030 to 037, 65 %: 0 RIGHT, 1 NOT",
-    "2CADR after the EBANK= of an earlier one, 85 %: 0 RIGHT, 1 NOT",
-    "GENADR, 90 %: 1 RIGHT, 0 NOT",
-    "2DEC, 95 %: 1 RIGHT, 1 NOT",
-    "OCT with a sign, 95 %: 1 RIGHT, 0 NOT",
-    "a number of a place of a bank, 95 %: 0 RIGHT, 1 NOT",
-    "VN, 97 %: 1 RIGHT, 0 NOT",
-    "a name that begins with a sign, 97 %: 1 RIGHT, 0 NOT",
-]
+# Words of bank 2 that are others in the dump, by their offsets.
+CHANGED = {0o0: 0o34001, 0o1: 0o02001, 0o4: 0o10000, 0o6: 0o62064, 0o12: 0o03001, 0o14: 0o00006, 0o16: 0o02001}
+# 1.5 times 2 ^ -4 is 03000 00000 in 28 bits; HIGH stands in bank 031, and -Y in E4.
+DIFFERENCES = """02,4000 34010 34001 CA 4010, CA 4001
+02,4001 02000 02001 TC 2000, TC 2001
+02,4004 10003 10000 CCS 0003, CCS 0000 UNCERTAIN EBANK=
+02,4006 62004 62064 AD 2004, AD 2064 UNCERTAIN 2CADR
+02,4012 03000 03001 TC 3000, TC 3001 UNCERTAIN 2DEC
+02,4014 00005 00006 TC 0005, EXTEND
+02,4016 02000 02001 TC 2000, TC 2001 UNCERTAIN 10000
+COUNT 7
+UNCERTAIN 4 OF 10
+FORM 2CADR CONFIRMED 0 DENIED 1
+FORM EBANK= CONFIRMED 1 DENIED 1
+FORM GENADR CONFIRMED 1 DENIED 0
+FORM OCT CONFIRMED 1 DENIED 0
+FORM 2DEC CONFIRMED 1 DENIED 1
+FORM 10000 CONFIRMED 0 DENIED 1
+FORM VN CONFIRMED 1 DENIED 0
+FORM -NAME CONFIRMED 1 DENIED 0
+"""
+NONE = """COUNT 0
+UNCERTAIN 0 OF 10
+FORM 2CADR CONFIRMED 1 DENIED 0
+FORM EBANK= CONFIRMED 2 DENIED 0
+FORM GENADR CONFIRMED 1 DENIED 0
+FORM OCT CONFIRMED 1 DENIED 0
+FORM 2DEC CONFIRMED 2 DENIED 0
+FORM 10000 CONFIRMED 1 DENIED 0
+FORM VN CONFIRMED 1 DENIED 0
+FORM -NAME CONFIRMED 1 DENIED 0
+"""
+# One line of each form that SOURCE has not, and what follows COUNT: 2CADR of bank 040 is certain, 2DEC above it is not.
+OTHERS = """        SETLOC  1400
+X       ERASE
+        SETLOC  4000
+        REMADR  FAR
+        3DNADR  X
+        DNCHAN  34
+        -CADR   FAR
+        -GENADR X
+        -3DNADR X
+        OCTAL   12
+        2OCT    0000100002
+        DEC     5 B-4
+        2CADR   HIGHER
+        EBANK=  X
+        -2CADR  FAR
+        -2CADR  FAR
+        ADRES   X
+        BBCON   FAR
+        BANK    4
+FAR     OCT     0
+        BANK    40
+HIGHER  OCT     0
+"""
+OF_OTHERS = """COUNT 0
+UNCERTAIN 0 OF 15
+FORM EBANK= CONFIRMED 2 DENIED 0
+FORM GENADR CONFIRMED 1 DENIED 0
+FORM 1DNADR CONFIRMED 2 DENIED 0
+FORM -CADR CONFIRMED 6 DENIED 0
+FORM OCTAL CONFIRMED 3 DENIED 0
+FORM 2DEC CONFIRMED 1 DENIED 0
+"""
+# Nothing is uncertain here: the first EBANK= is that of the only 2CADR.
+CERTAIN = " SETLOC 1400\nX ERASE\n SETLOC 4000\n EBANK= X\n 2CADR FAR\n DEC 5\n OCT 77\n TC +1\nFAR CA X +1\n"
 
 
-class Certain(ViewCase):
+class Certain(Case):
     """A flight source beside a dump."""
 
-    def test_certain(self):
-        """Words of certain forms that differ stand first, then those of uncertain ones; each form is counted."""
-        source, rope, dump = write(f"{self.room}/certain.agc", SOURCE.encode()), f"{self.room}/certain.rope", f"{self.room}/dump.rope"
-        pipe.answer("asm", "--flight", source, rope)
+    def image_of(self, source, changed):
+        """Writes a source, and its image with some words of bank 2 changed; answers both paths."""
+        path, rope = write(f"{self.room}/source.agc", source.encode()), f"{self.room}/dump.rope"
+        self.assertEqual(agcws("asm", "--flight", path, rope)[0], 0)
         image = bytearray(read(rope))
-        for offset, (word, _) in CHANGED.items():
+        for offset, word in changed.items():
             image[2 * offset : 2 * offset + 2] = (2 * word + (bin(word).count("1") + 1) % 2).to_bytes(2, "big")
-        write(dump, bytes(image))
-        status, out, err = call("certain", source, dump)
-        lines = out.splitlines()
-        places = {f"02,{0o4000 + offset:04o}": told for offset, (_, told) in CHANGED.items()}
-        certain, uncertain = [place for place, told in places.items() if not told], [place for place, told in places.items() if told]
-        with self.subTest("the certain words that differ"):
-            self.assertEqual([it.split()[0] for it in lines[: len(certain)]], certain)
-        rest = lines[len(certain) : len(places)]
-        with self.subTest("the uncertain ones"):
-            self.assertEqual([(it.split()[:2], it[it.index(" LINE ") + 1 :]) for it in rest], [(["UNCERTAIN", place], places[place]) for place in uncertain])
-        with self.subTest("the uncertain forms"):
-            self.assertEqual(lines[len(places) : -1], [f"FORM {it}" for it in FORMS])
-        with self.subTest("how many differ"):
-            self.assertEqual((status, lines[-1], err), (1, f"COUNT {len(certain)}, UNCERTAIN {len(uncertain)}", ""))
-        with self.subTest("a source beside its own rope"):
-            self.assertEqual((lambda it: (it[0], it[1].splitlines()[-1]))(call("certain", source, rope)), (0, "COUNT 0, UNCERTAIN 0"))
-        with self.subTest("a refused source"):
-            self.assertEqual(call("certain", write(f"{self.room}/wrong.agc", b" FROB\n"), rope)[:2], (1, ""))
-        with self.subTest("a refused image"):
-            self.assertEqual(call("certain", source, source)[:2], (1, ""))
+        return path, write(rope, bytes(image))
+
+    def test_certain(self):
+        """A remark stands where a word of an uncertain form differs, and what the rope says of each form at the end."""
+        for name, source, changed, wanted in (
+            ("certain and uncertain words differ", SOURCE, CHANGED, DIFFERENCES),
+            ("no word differs", SOURCE, {}, NONE),
+            ("the other forms", OTHERS, {}, OF_OTHERS),
+            ("nothing is uncertain", CERTAIN, {}, "COUNT 0\n"),
+            ("nothing is uncertain, a word differs", CERTAIN, {0o2: 0o00006}, "02,4002 00005 00006 TC 0005, EXTEND\nCOUNT 1\n"),
+        ):
+            with self.subTest(name):
+                self.assertAnswer(agcws("compare", "--only", "--flight", *self.image_of(source, changed)), bool(changed), wanted.encode())
+
+    def test_standard(self):
+        """Without --flight no word has a remark."""
+        standard = " SETLOC 4000\n DEC .25\n 2CADR FAR\nFAR ADRES FAR\n"
+        self.assertAnswer(agcws("compare", "--only", *self.image_of(standard, {0: 0o10001})), 1, b"02,4000 10000 10001 CCS 0000, CCS 0001\nCOUNT 1\n")
+
+    def test_refused(self):
+        """A source and an image that are refused leave nothing written."""
+        source, rope = self.image_of(CERTAIN, {})
+        wrong = write(f"{self.room}/wrong.agc", b" FROB\n")
+        for words in ((wrong, rope), (source, source)):
+            with self.subTest(f"{words}"):
+                self.assertEqual(agcws("compare", "--only", "--flight", *words)[:2], (1, b""))
 
 
 if __name__ == "__main__":

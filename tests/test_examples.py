@@ -65,7 +65,9 @@ class Examples(Case):
             with self.subTest(f"the image of flight/{name}"):
                 self.assertAnswer(agcws("run", "--image", rope, feed, str(steps)), 0, wanted)
             with self.subTest(f"flight/{name} beside its image"):
-                self.assertAnswer(agcws("compare", "--only", "--flight", source, rope), 0, b"COUNT 0\n")
+                status, out, err = agcws("compare", "--only", "--flight", source, rope)
+                self.assertEqual((status, err), (0, b""))
+                self.assertRegex(out, rb"\ACOUNT 0\n(UNCERTAIN 0 OF [1-9]\d*\n(FORM \S+ CONFIRMED [1-9]\d* DENIED 0\n)+)?\Z")
             status, report, _ = agcws("check", "--flight", source)
             with self.subTest(f"a check of flight/{name}"):
                 self.assertTrue(status == 0 and re.search(rb"^0 errors, \d+ warnings?\n\Z", report, re.M), f"{status} {report!r}")

@@ -26,12 +26,16 @@ differing_in extent old new bank = flat_map (differing_at extent old new bank) (
 unfoldable pub differing : Extent → Words → Words → List (ℕ × ℕ)
 differing extent old new = flat_map (differing_in extent old new) (range_with_len 0 banks)
 
--- the line of a place: both words, and the instruction that each is among the words of its own memory
-unfoldable pub difference_line : Words → Words → ℕ × ℕ → List ℕ
-difference_line old new place =
+-- a place, both words, and the instruction that each is among the words of its own memory
+unfoldable pub difference_text : Words → Words → ℕ × ℕ → List ℕ
+difference_text old new place =
     place_text place.0 place.1 ++ codes " " ++ octal_text 5 (word_at old place.0 place.1) ++ codes " "
     ++ octal_text 5 (word_at new place.0 place.1)
-    ++ codes " " ++ instruction_at old place.0 place.1 ++ codes ", " ++ instruction_at new place.0 place.1 ++ codes "\n"
+    ++ codes " " ++ instruction_at old place.0 place.1 ++ codes ", " ++ instruction_at new place.0 place.1
+
+-- the line of a place
+unfoldable pub difference_line : Words → Words → ℕ × ℕ → List ℕ
+difference_line old new place = difference_text old new place ++ codes "\n"
 
 -- the lines of some places
 unfoldable pub difference_lines : Words → Words → List (ℕ × ℕ) → List ℕ

@@ -2,8 +2,9 @@
 
 ghost use Rattle.std.specs.Prelude.{◌≡◌, ◌<◌, ◌≤◌, true, length, IfOk};
 ghost use Rattle.words.specs.Devices.{Writes, failures_after};
+ghost use Rattle.arrayvec.specs.ArrayVec.{array_vec_len};
 ghost use Rattle.audit.specs.Differences.{is_compared, differing_at, differing_in, differing, difference_line};
-ghost use Rattle.audit.specs.Differences.{difference_lines, count_line, differences};
+ghost use Rattle.audit.specs.Differences.{difference_lines, difference_text, count_line, differences};
 ghost use Rattle.audit.specs.WordLines.{extracode_at};
 
 use crate::lines::{Line, bank_of, offset_of, push_instruction, push_place};
@@ -139,6 +140,25 @@ fn difference_line(old: &Rope, new: &Rope, bank: Bank, offset: Offset, extra: (b
     requires new { extra.1 ≡ extracode_at new.now bank offset }
     ensures { result.items ≡ difference_line old.now new.now (bank, offset) }
 {
+    let mut line = difference_text(old, new, bank, offset, extra);
+    push_all(&mut line, b"\n");
+    line
+}
+
+/// A place, both words, and the instruction that each is, under extracode or not.
+#[tactic(auto, unfolding(crate::specs::Differences::difference_text))]
+pub fn difference_text(
+    old: &Rope,
+    new: &Rope,
+    bank: Bank,
+    offset: Offset,
+    extra: (bool, bool),
+) -> Line
+    requires old { extra.0 ≡ extracode_at old.now bank offset }
+    requires new { extra.1 ≡ extracode_at new.now bank offset }
+    ensures items { result.items ≡ difference_text old.now new.now (bank, offset) }
+    ensures len { array_vec_len result ≤ 42 }
+{
     let mut line = ArrayVec::new();
     push_place(&mut line, bank, offset);
     push_all(&mut line, b" ");
@@ -149,13 +169,12 @@ fn difference_line(old: &Rope, new: &Rope, bank: Bank, offset: Offset, extra: (b
     push_instruction(&mut line, old, bank, offset, extra.0);
     push_all(&mut line, b", ");
     push_instruction(&mut line, new, bank, offset, extra.1);
-    push_all(&mut line, b"\n");
     line
 }
 
 /// The line that tells how many places differ.
 #[tactic(auto, using(words::proofs::Digits::short_decimal))]
-pub(crate) fn count_line(count: u32) -> Line
+pub fn count_line(count: u32) -> Line
     ensures { result.items ≡ count_line count }
 {
     let mut line = ArrayVec::new();

@@ -19,7 +19,7 @@ mod wrong_words;
 
 pub use check_words::{NoRoom, add_check_words, check_words_hold};
 pub use damages::{Finding, write_damages};
-pub use differences::{Extent, write_differences};
+pub use differences::{Extent, count_line, difference_text, write_differences};
 pub use form_sums::{holds_sum, write_form_sums};
 pub use layout::{Layout, arranged};
 pub use lines::{bank_of, offset_of, word_line, write_words};

@@ -83,6 +83,12 @@ their numbers, as
 with the place as in a listing, the word in OLD and in NEW in octal, and the
 instruction that each is, read as agcws words reads it. Then COUNT, and how many
 places differ.
+With --only --flight a word of a form of which it is not certain what yaYUL
+makes of it (docs/DECISIONS.md) has a remark at the end of its line, as
+UNCERTAIN 2CADR; and where OLD has such words more lines follow COUNT: how many
+of them differ, and of each form how many places NEW confirms and denies, as
+  UNCERTAIN 1 OF 8
+  FORM 2CADR CONFIRMED 7 DENIED 1
 
 Exit status:
   0  the words are equal

@@ -1,5 +1,5 @@
 -- What the engines answer that read images, and what they have then written.
-use Rattle.std.specs.Prelude.{◌≡◌, ℕ, true, List, ◌++◌, length, Result, Ok, Err, IfOk, if◌then◌else◌}
+use Rattle.std.specs.Prelude.{◌≡◌, ◌⊎◌, ℕ, true, List, ◌++◌, length, Result, Ok, Err, IfOk, if◌then◌else◌}
 use Rattle.words.specs.Devices.{WritesBeginning, one_more}
 use Rattle.rope.specs.Places.{Words}
 use Rattle.rope.specs.Dumps.{ReadsDump}
@@ -13,8 +13,10 @@ use Rattle.audit.specs.Differences.{differing, differences}
 use Rattle.audit.specs.declared.differences.Extent.{Extent}
 use Rattle.audit.specs.declared.differences.Extent.TheVariants.{All, Filled}
 use Rattle.audit.specs.Parities.{wrong, parities}
+use Rattle.certain.specs.Comparison.{comparison}
+use Rattle.certain.specs.Places.{uncertain_words}
 use Rattle.workshop.specs.declared.fault.WorkshopFault.{WorkshopFault}
-use Rattle.workshop.specs.declared.fault.WorkshopFault.TheVariants.{WriteFailed}
+use Rattle.workshop.specs.declared.fault.WorkshopFault.TheVariants.{NoMemory, WriteFailed}
 use Rattle.workshop.specs.declared.ropes.Compared.{Compared}
 use Rattle.workshop.specs.declared.ropes.Compared.TheVariants as compared
 use Rattle.workshop.specs.Failures.{Reader, Writer}
@@ -22,6 +24,7 @@ use Rattle.workshop.specs.Faults.{of_rope_fault}
 use Rattle.workshop.specs.Inputs.{assembled}
 use Rattle.workshop.specs.Loading.{Reads, ReadsText}
 use Rattle.yayul.specs.declared.language.Language.{Language}
+use Rattle.yayul.specs.declared.language.Language.TheVariants.{Standard, Flight}
 use Rattle.yayul.specs.Program.{Program}
 
 -- an image is read, where its bytes are told; and the reader has failed exactly where that is answered
@@ -83,10 +86,36 @@ pub record Compares (first second : Version) (before after : Comparing) (last : 
   pub reads : ReadsRope first before.old after.old read
   pub next : ComparesThen second read before after last result
 
+-- where memory is refused nothing is written; else the differences of a flight source, with its uncertain places, and how many there are is
+-- answered
+abbrev pub WritesUncertain : Program → Words → Writer → Writer → Result ℕ WorkshopFault → Type 0
+WritesUncertain p words before after result =
+    ((result ≡ Err NoMemory) × (after ≡ before))
+    ⊎ (WritesText (comparison (uncertain_words p.source p.rope) p.rope words) before after result
+    × IfOk result (λ count. count ≡ length (differing Filled p.rope words)))
+
+-- the differences at the places that a source of a language fills
+abbrev pub WritesCompared : Language → Program → Words → Writer → Writer → Result ℕ WorkshopFault → Type 0
+WritesCompared Standard p words before after result = WritesDifferences Filled p.rope (Ok words) before after result
+WritesCompared Flight p words before after result = WritesUncertain p words before after result
+
+abbrev pub ComparedThen : Language → Program → Result Words RopeFault → Writer → Writer → Result ℕ WorkshopFault → Type 0
+ComparedThen language p (Ok words) before after result = WritesCompared language p words before after result
+ComparedThen language p (Err fault) before after result = (result ≡ Err (of_rope_fault fault)) × (after ≡ before)
+
+-- an image is read, and compared with a source
+pub record ComparesImage (language : Language) (version : Version) (p : Program) (before after : Comparing)
+    (result : Result ℕ WorkshopFault) : Type 0 where
+  pub read : Result Words RopeFault
+  pub reads : ReadsRope version before.new after.new read
+  pub next : ComparedThen language p read before.out after.out result
+
 -- where a source was assembled an image is read, and after a fault nothing of it, and nothing is written
-abbrev pub ComparesOnlyThen : Version → Result Program WorkshopFault → Comparing → Comparing → Compared → Result ℕ WorkshopFault → Type 0
-ComparesOnlyThen version (Ok p) before after last result = ComparesNext Filled version p.rope before after result × (last ≡ compared.New)
-ComparesOnlyThen version (Err fault) before after last result =
+abbrev pub ComparesOnlyThen : Language → Version → Result Program WorkshopFault → Comparing → Comparing → Compared → Result ℕ WorkshopFault
+    → Type 0
+ComparesOnlyThen language version (Ok p) before after last result =
+    ComparesImage language version p before after result × (last ≡ compared.New)
+ComparesOnlyThen language version (Err fault) before after last result =
     (result ≡ Err fault) × (after.new ≡ before.new) × (after.out ≡ before.out) × (last ≡ compared.Old)
 
 -- a source of a language is assembled, and then an image is read: they are compared at the places that the source fills; and which was
@@ -95,7 +124,7 @@ pub record ComparesOnly (language : Language) (version : Version) (before after 
     (result : Result ℕ WorkshopFault) : Type 0 where
   pub program : Result Program WorkshopFault
   pub reads : Reads (λ old new. ReadsText (assembled language old) old new) before.old after.old program
-  pub next : ComparesOnlyThen version program before after last result
+  pub next : ComparesOnlyThen language version program before after last result
 
 -- the bytes of an image are read, where they are told; and the reader has failed exactly where that is answered
 pub record ReadsBytes (before after : Reader) (read : Result (List ℕ) RopeFault) : Type 0 where

@@ -10,7 +10,7 @@ ghost use Rattle.names.specs.NamedLines.{named_lines};
 ghost use Rattle.rope.specs.Image.{image};
 ghost use Rattle.workshop.specs.Failures.{Reader, reader, writer};
 ghost use Rattle.workshop.specs.Ropes.{Compares, ComparesNext, ComparesOnly, Shows, ShowsMended, TellsDamages};
-ghost use Rattle.workshop.specs.Ropes.{TellsParity};
+ghost use Rattle.workshop.specs.Ropes.{TellsParity, WritesCompared, WritesUncertain};
 
 use crate::fault::WorkshopFault;
 use crate::inputs::read_program;
@@ -18,13 +18,14 @@ use audit::{
     Extent, write_damages, write_differences, write_form_sums, write_mended, write_octals,
     write_parities, write_source, write_sums, write_words,
 };
+use certain::{UncertainPlaces, write_comparison};
 use names::write_named_words;
 use rope::{Dump, Rope, Version};
 use space::Bank;
 use std::alloc::Global;
 use trace::PlaceNames;
 use words::{Read, Write};
-use yayul::{Language, Symbols};
+use yayul::{Language, Program, Symbols};
 
 /// Which of two that are compared.
 #[derive(Clone, Copy, PartialEq, Eq, Debug)]
@@ -209,7 +210,8 @@ pub fn compare_engine<A: Read, B: Read, W: Write>(
 
 /// Assembles a source of a language, reads a rope image of a version to its end, and writes a line for each place that
 /// the source fills where the words differ, and then how many places there are, which it answers. Of the other places
-/// nothing is said.
+/// nothing is said. Of a flight source the lines of uncertain words have a remark, and more lines tell how many there
+/// are, and what the image says of each form.
 ///
 /// The source has at most 8,388,608 bytes. Its first fault is answered, else that of the image, and then nothing is
 /// written. Which of them was read last stands in `last`.
@@ -240,7 +242,42 @@ pub fn compare_only_engine<S: Read, R: Read, W: Write>(
     let program = read_program(alloc, language, source)?;
     *last = Compared::New;
     let words = Rope::read(alloc, image, version)?;
-    Ok(write_differences(program.rope(), &words, Extent::Filled, out)?)
+    compare_program(alloc, language, program, &words, out)
+}
+
+/// Writes where the words of a source and those of an image differ: of a flight source with the uncertain places told
+/// apart. All memory is taken before anything is written.
+fn compare_program<W: Write>(
+    alloc: Global,
+    language: Language,
+    program: Program,
+    words: &Rope,
+    out: &mut W,
+) -> Result<u32, WorkshopFault>
+    ensures { WritesCompared language program words.now (writer W.told W.written W.failures out.old)
+        (writer W.told W.written W.failures out.new) result }
+{
+    match language {
+        Language::Standard => Ok(write_differences(program.rope(), words, Extent::Filled, out)?),
+        Language::Flight => compare_flight_program(alloc, program, words, out),
+    }
+}
+
+/// The same of a flight source.
+fn compare_flight_program<W: Write>(
+    alloc: Global,
+    program: Program,
+    words: &Rope,
+    out: &mut W,
+) -> Result<u32, WorkshopFault>
+    ensures { WritesUncertain program words.now (writer W.told W.written W.failures out.old)
+        (writer W.told W.written W.failures out.new) result }
+{
+    let (rope, rows) = program.split_rows();
+    let Some(uncertain) = UncertainPlaces::of(alloc, &rows, &rope) else {
+        return Err(WorkshopFault::NoMemory);
+    };
+    Ok(write_comparison(&uncertain, &rope, words, out)?)
 }
 
 /// Reads the bytes of a rope image to their end, and writes a line for each word whose two bytes have an even number of

@@ -1,0 +1,6 @@
+pub mod Forms
+pub mod LineForms
+pub mod Rows
+pub mod Places
+pub mod Comparison
+pub mod Lines

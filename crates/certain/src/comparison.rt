@@ -1,0 +1,190 @@
+//! A flight source and a rope as text.
+
+ghost use Rattle.std.specs.Prelude.{◌≡◌, ◌≤◌, ◌++◌, true, length, IfOk};
+ghost use Rattle.arrayvec.specs.ArrayVec.{array_vec_len};
+ghost use Rattle.words.specs.Devices.{Writes, failures_after};
+ghost use Rattle.audit.specs.Differences.{count_line, differing, differing_at, differing_in};
+ghost use Rattle.audit.specs.WordLines.{extracode_at};
+ghost use Rattle.audit.specs.declared.differences.Extent.TheVariants.{Filled};
+ghost use Rattle.certain.specs.Comparison.{comparison, form_lines, remark, told_line, told_lines, uncertain_line};
+
+use crate::form::UncertainForm;
+use crate::form_lines::{write_form_lines, write_uncertain_line};
+use crate::places::UncertainPlaces;
+use arrayvec::ArrayVec;
+use audit::{bank_of, count_line, difference_text, offset_of};
+use cpu::extracode_after;
+use rope::Rope;
+use space::{BANK_WORDS, Bank, FIXED_BANKS, Offset};
+use words::{Write, WriteFailed, push_all, write_all};
+
+/// The most bytes of a line: those of a difference, ` UNCERTAIN `, a name of 6 bytes, and a line feed.
+const LINE: usize = 80;
+
+type Line = ArrayVec<u8, LINE>;
+
+/// Writes a line for each place that a source fills where its word and that of a rope differ, as `audit` does, with a
+/// remark at its end where the word is uncertain, as `UNCERTAIN 2CADR`; and how many places there are, as `COUNT 3`,
+/// which is answered. Where the source has uncertain words it then writes how many of them differ, as
+/// `UNCERTAIN 1 OF 8`, and for each form how many the rope confirms and denies, as `FORM 2CADR CONFIRMED 7 DENIED 1`.
+///
+/// After a failure a beginning of it was written.
+pub fn write_comparison<W: Write>(
+    uncertain: &UncertainPlaces,
+    old: &Rope,
+    new: &Rope,
+    out: &mut W,
+) -> Result<u32, WriteFailed>
+    ensures written { W.told ≡ true → Writes (W.written out.old) (W.written out.new)
+        (comparison uncertain.now old.now new.now) result }
+    ensures count { IfOk result (λ count. count ≡ length (differing Filled old.now new.now)) }
+    ensures failures { W.failures out.new ≡ failures_after (W.failures out.old) result }
+{
+    let count = write_places(uncertain, old, new, out)?;
+    write_counts(count, uncertain, old, new, out)?;
+    Ok(count)
+}
+
+/// Writes how many places there are, and what is known of the uncertain ones.
+fn write_counts<W: Write>(
+    count: u32,
+    uncertain: &UncertainPlaces,
+    old: &Rope,
+    new: &Rope,
+    out: &mut W,
+) -> Result<(), WriteFailed>
+    ensures written { W.told ≡ true → Writes (W.written out.old) (W.written out.new)
+        (count_line count ++ (uncertain_line uncertain.now old.now new.now ++ form_lines uncertain.now old.now new.now))
+        result }
+    ensures failures { W.failures out.new ≡ failures_after (W.failures out.old) result }
+{
+    write_all(out, count_line(count).as_slice())?;
+    write_uncertain(uncertain, old, new, out)
+}
+
+/// Writes what is known of the uncertain places.
+fn write_uncertain<W: Write>(
+    uncertain: &UncertainPlaces,
+    old: &Rope,
+    new: &Rope,
+    out: &mut W,
+) -> Result<(), WriteFailed>
+    ensures written { W.told ≡ true → Writes (W.written out.old) (W.written out.new)
+        (uncertain_line uncertain.now old.now new.now ++ form_lines uncertain.now old.now new.now) result }
+    ensures failures { W.failures out.new ≡ failures_after (W.failures out.old) result }
+{
+    write_uncertain_line(uncertain, old, new, out)?;
+    write_form_lines(uncertain, old, new, out)
+}
+
+/// Writes the lines of all places, and answers how many.
+fn write_places<W: Write>(
+    uncertain: &UncertainPlaces,
+    old: &Rope,
+    new: &Rope,
+    out: &mut W,
+) -> Result<u32, WriteFailed>
+    ensures written { W.told ≡ true → Writes (W.written out.old) (W.written out.new)
+        (told_lines uncertain.now old.now new.now (differing Filled old.now new.now)) result }
+    ensures count { IfOk result (λ count. count ≡ length (differing Filled old.now new.now)) }
+    ensures failures { W.failures out.new ≡ failures_after (W.failures out.old) result }
+{
+    let mut count = 0;
+    for bank in 0..FIXED_BANKS {
+        count += write_bank(uncertain, old, new, bank_of(bank), out)?;
+    }
+    Ok(count)
+}
+
+/// Writes the lines of a bank's places, and answers how many.
+fn write_bank<W: Write>(
+    uncertain: &UncertainPlaces,
+    old: &Rope,
+    new: &Rope,
+    bank: Bank,
+    out: &mut W,
+) -> Result<u32, WriteFailed>
+    ensures written { W.told ≡ true → Writes (W.written out.old) (W.written out.new)
+        (told_lines uncertain.now old.now new.now (differing_in Filled old.now new.now bank)) result }
+    ensures count { IfOk result (λ count. count ≡ length (differing_in Filled old.now new.now bank)) }
+    ensures few { IfOk result (λ count. count ≤ 1024) }
+    ensures failures { W.failures out.new ≡ failures_after (W.failures out.old) result }
+{
+    let mut count = 0;
+    let mut extra = (false, false);
+    for number in 0..BANK_WORDS {
+        let offset = offset_of(number);
+        count += write_place(uncertain, old, new, bank, offset, extra, out)?;
+        extra = (
+            extracode_after(old.word(bank, offset), extra.0),
+            extracode_after(new.word(bank, offset), extra.1),
+        );
+    }
+    Ok(count)
+}
+
+/// Writes the line of a place where the words differ, and answers how many lines that is.
+#[tactic(auto, unfolding(crate::specs::Comparison::told_lines, audit::specs::Differences::differing_at))]
+fn write_place<W: Write>(
+    uncertain: &UncertainPlaces,
+    old: &Rope,
+    new: &Rope,
+    bank: Bank,
+    offset: Offset,
+    extra: (bool, bool),
+    out: &mut W,
+) -> Result<u32, WriteFailed>
+    requires old { extra.0 ≡ extracode_at old.now bank offset }
+    requires new { extra.1 ≡ extracode_at new.now bank offset }
+    ensures written { W.told ≡ true → Writes (W.written out.old) (W.written out.new)
+        (told_lines uncertain.now old.now new.now (differing_at Filled old.now new.now bank offset)) result }
+    ensures count { IfOk result (λ count. count ≡ length (differing_at Filled old.now new.now bank offset)) }
+    ensures few { IfOk result (λ count. count ≤ 1) }
+    ensures failures { W.failures out.new ≡ failures_after (W.failures out.old) result }
+{
+    if !old.has(bank, offset) {
+        return Ok(0);
+    }
+    if old.word(bank, offset) == new.word(bank, offset) {
+        return Ok(0);
+    }
+    let line = told_line(uncertain, old, new, bank, offset, extra);
+    write_all(out, line.as_slice())?;
+    Ok(1)
+}
+
+/// The line of a place.
+#[tactic(auto, unfolding(crate::specs::Comparison::told_line))]
+fn told_line(
+    uncertain: &UncertainPlaces,
+    old: &Rope,
+    new: &Rope,
+    bank: Bank,
+    offset: Offset,
+    extra: (bool, bool),
+) -> Line
+    requires old { extra.0 ≡ extracode_at old.now bank offset }
+    requires new { extra.1 ≡ extracode_at new.now bank offset }
+    ensures { result.items ≡ told_line uncertain.now old.now new.now (bank, offset) }
+{
+    let mut line = ArrayVec::new();
+    push_all(
+        &mut line,
+        difference_text(old, new, bank, offset, extra).as_slice(),
+    );
+    push_remark(&mut line, uncertain.form_at(bank, offset));
+    push_all(&mut line, b"\n");
+    line
+}
+
+/// Appends what stands at the end of the line of an uncertain place.
+fn push_remark(line: &mut Line, form: Option<UncertainForm>)
+    requires { array_vec_len line.old ≤ 42 }
+    ensures items { line.new.items ≡ line.old.items ++ remark form }
+    ensures len { array_vec_len line.new ≤ 60 }
+{
+    if let Some(form) = form {
+        push_all(line, b" UNCERTAIN ");
+        push_all(line, form.name());
+    }
+}

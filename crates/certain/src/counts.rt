@@ -1,0 +1,73 @@
+//! How many uncertain places a rope confirms, and how many it denies.
+
+ghost use Rattle.std.specs.Prelude.{◌≡◌, ◌<◌, ◌≤◌};
+ghost use Rattle.rope.specs.Places.{fixed_places};
+ghost use Rattle.certain.specs.Comparison.{count_of, differs, is_asked, is_counted};
+
+use crate::form::UncertainForm;
+use crate::places::UncertainPlaces;
+use audit::{bank_of, offset_of};
+use rope::Rope;
+use space::{BANK_WORDS, FIXED_BANKS};
+
+/// How many places fixed memory has.
+const PLACES: u32 = BANK_WORDS as u32 * FIXED_BANKS as u32;
+
+/// How many places are uncertain by a form, or by any where none is asked for, where the words differ, or do not.
+#[tactic(auto, using(audit::proofs::Folds::count_first, audit::proofs::Folds::count_there, audit::proofs::Folds::count_passed))]
+pub(crate) fn count_of(
+    uncertain: &UncertainPlaces,
+    old: &Rope,
+    new: &Rope,
+    asked: Option<u16>,
+    wrong: bool,
+) -> u32
+    ensures count { result ≡ count_of uncertain.now old.now new.now asked wrong }
+    ensures few { result ≤ fixed_places }
+{
+    let mut count = 0;
+    for place in 0..PLACES {
+        if is_counted(uncertain, old, new, asked, wrong, place) {
+            count += 1;
+        }
+    }
+    count
+}
+
+// Whether a place is one of them.
+fn is_counted(
+    uncertain: &UncertainPlaces,
+    old: &Rope,
+    new: &Rope,
+    asked: Option<u16>,
+    wrong: bool,
+    place: u32,
+) -> bool
+    requires { place < fixed_places }
+    ensures { result ≡ is_counted uncertain.now old.now new.now asked wrong place }
+{
+    match uncertain.form_numbered(place) {
+        Some(form) => is_asked(asked, form) && differs(old, new, place) == wrong,
+        None => false,
+    }
+}
+
+fn is_asked(asked: Option<u16>, form: UncertainForm) -> bool
+    ensures { result ≡ is_asked asked form }
+{
+    match asked {
+        Some(number) => form.number() == number,
+        None => true,
+    }
+}
+
+// Whether the words at a place differ.
+fn differs(old: &Rope, new: &Rope, place: u32) -> bool
+    requires { place < fixed_places }
+    ensures { result ≡ differs old.now new.now place }
+{
+    let words = u32::from(BANK_WORDS);
+    let bank = bank_of((place / words) as u16);
+    let offset = offset_of((place % words) as u16);
+    !(old.word(bank, offset) == new.word(bank, offset))
+}

@@ -1,0 +1,16 @@
+//! The places of a flight source whose words come of forms of which it is not certain what yaYUL makes of them, told
+//! apart where such a source and a rope differ.
+#![tactic(auto)]
+
+mod comparison;
+mod counts;
+mod form;
+mod form_lines;
+pub mod laws;
+mod line_forms;
+mod places;
+mod rows;
+
+pub use comparison::write_comparison;
+pub use form::UncertainForm;
+pub use places::UncertainPlaces;
