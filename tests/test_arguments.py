@@ -64,6 +64,7 @@ delays --image --symbols five.lst OPTIONS IMAGE good.feed 9
 whatif --image OPTIONS IMAGE good.feed 9 good.feed
 whatif --image --symbols five.lst OPTIONS IMAGE good.feed 9 good.feed
 differ --image OPTIONS IMAGE good.feed 9 --with IMAGE good.feed
+differ --image --why 3 OPTIONS IMAGE good.feed 9 --with IMAGE good.feed
 differ --image --symbols five.lst OPTIONS IMAGE good.feed 9 --with IMAGE good.feed
 debug --image OPTIONS IMAGE good.feed
 debug --image --symbols five.lst OPTIONS IMAGE good.feed
