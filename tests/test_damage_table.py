@@ -74,7 +74,8 @@ class DamageTable(Case):
         write(self.path, alone)
         with self.subTest("a module alone"):
             self.assertEqual(self.told("damages", "--form", "module3", self.path), (0, ["COUNT 0"], ""))
-        lines = [f"BANK {bank:02o} HAS THE SUM OF BANK {bank + 12:02o}" for bank in range(6)]
+        # (the sum of bank 0 is that of an empty bank too)
+        lines = ["BANK 00 EXCHANGED WITH BANK 14", *(f"BANK {bank:02o} HAS THE SUM OF BANK {bank + 12:02o}" for bank in range(1, 6))]
         self.row("a module under another number", alone, *lines, "COUNT 6", options=("--form", "module1"))
 
     def test_forms(self):

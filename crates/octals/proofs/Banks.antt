@@ -6,19 +6,17 @@ use Rattle.std.specs.List.{range_with_len, flat_map}
 use Rattle.std.proofs.lemmas.Bool.{cases_eq, cases_lt, ne_eqb}
 use Rattle.std.proofs.lemmas.Bool.Decides.{nat_tests}
 use Rattle.words.specs.Numerals.{octal_text}
-use Rattle.agc_text.specs.Fields.{runs, texts}
 use Rattle.agc_text.specs.Lines.{lines, HasNoFeed}
 use Rattle.agc_text.proofs.LineLaws.{lines-ended, lines-none}
 use Rattle.rope.specs.Places.{banks, bank_words, fixed_places, Words, no_words, slot_at, stands, with_word, word_at}
 use Rattle.rope.proofs.PlaceLaws.{slot_at-no_words, slot_at-with_word_other, slot_at-with_word_same}
 use Rattle.audit.specs.Octals.{bank_head, bank_octals, octal_word, octal_words, octals_text}
 use Rattle.octals.specs.Back.{AreWords, ReadsBack}
-use Rattle.agc_text.specs.Digits.{number_of}
-use Rattle.octals.specs.OctalTexts.{put, put_all, read_lines, said, state, take_fields, take_line}
+use Rattle.octals.specs.OctalTexts.{begin_bank, is_free, put, put_all, put_word, read_lines, state, take_fields, take_line}
 use Rattle.octals.specs.OctalTexts.{octal_words as taken_words}
 use Rattle.octals.proofs.Images.{same_fronts}
-use Rattle.agc_text.proofs.Splits.{texts-none, texts-take}
-use Rattle.octals.proofs.Rows.{five, fives, fields_of_row, no_blank, number_of_two, others, row_has_no_feed, word_of_five}
+use Rattle.octals.proofs.Rows.{five, fives, fields_of_head, fields_of_row, head, head_has_no_feed, number_of_two, others, row_has_no_feed}
+use Rattle.octals.proofs.Rows.{takes_fives, word_of_five}
 use Rattle.octals.proofs.Steps.{puts_next, reads_next, reads_none}
 
 -- ## Words that are put
@@ -63,36 +61,45 @@ there words bank p zero o into inside le from to = absurd (omega (arith, from, t
 there words bank p (suc k) o into inside le from to =
     elim (cases_eq p o) [
       | inl same ↦
-          rw same (kept words bank o o k (o + 1) (with_word into bank o (word_at words bank o)) (omega (arith, le)) (inr (omega arith))
+          rw same (kept words bank bank o k (o + 1) (with_word into bank o (word_at words bank o)) (omega (arith, le)) (inr (omega arith))
           ∙ slot_at-with_word_same into bank o (word_at words bank o) inside (omega (arith, le)))
       | inr differs ↦
-          there words bank p k (o + 1) (with_word into bank o (word_at words bank o)) inside (omega (arith, le)) (omega (arith, from, differs))
-          (omega (arith, to))
+          there words bank p k (o + 1) (with_word into bank o (word_at words bank o)) inside (omega (arith, le))
+          (omega (arith, from, differs)) (omega (arith, to))
     ]
 
 -- ## A row
+-- a word may be put where none stands
+may_put : (into : Words) (bank o : ℕ) → bank < banks → o < bank_words → slot_at into bank o ≡ None → is_free into bank o ≡ true
+may_put into bank o inside lt free =
+    let in_banks : nat_lt bank banks ≡ true = grind (arith, nat_tests, inside) in
+    let in_bank : nat_lt o bank_words ≡ true = grind (arith, nat_tests, lt) in
+    rw (in_banks, in_bank, free) refl
+
+puts_word : (into : Words) (bank o w : ℕ) → is_free into bank o ≡ true
+    → put_word (state into (Some bank) o) (Some w) (Some bank) ≡ Some (state (with_word into bank o w) (Some bank) (o + 1))
+puts_word into bank o w free = rw free refl
+
 put_one : (words into : Words) (bank o : ℕ) → AreWords words → bank < banks → o < bank_words → IsFree into bank o
     → put (state into (Some bank) o) (five (word_at words bank o) [])
     ≡ Some (state (with_word into bank o (word_at words bank o)) (Some bank) (o + 1))
 put_one words into bank o few inside lt free =
-    let in_banks : nat_lt bank banks ≡ true = grind (arith, nat_tests, inside) in
-    let in_bank : nat_lt o bank_words ≡ true = grind (arith, nat_tests, lt) in
-    rw (word_of_five (word_at words bank o) (few bank o), in_banks, in_bank, free o (omega arith)) refl
+    ap (λ word. put_word (state into (Some bank) o) word (Some bank)) (word_of_five (word_at words bank o) (few bank o))
+    ∙ puts_word into bank o (word_at words bank o) (may_put into bank o inside lt (free o (omega arith)))
 
-puts_row : (words : Words) (bank k o : ℕ) (into : Words) → AreWords words → bank < banks → o + k ≤ bank_words → IsFree into bank o
+puts_row : (words : Words) (bank k o last : ℕ) (into : Words) → AreWords words → bank < banks → o + k ≤ bank_words → IsFree into bank o
+    → last ≡ o + k
     → put_all (state into (Some bank) o) (fives (map (word_at words bank) (range_with_len o k)))
-    ≡ Some (state (put_words into words bank o k) (Some bank) (o + k))
+    ≡ Some (state (put_words into words bank o k) (Some bank) last)
 unfolding put_all put_words
-puts_row words bank zero o into few inside le free = let same : o + 0 ≡ o = omega arith in rw same refl
-puts_row words bank (suc k) o into few inside le free =
-    let next : o + suc k ≡ o + 1 + k = omega arith in
+puts_row words bank zero o last into few inside le free e = let same : last ≡ o = omega (arith, e) in rw same refl
+puts_row words bank (suc k) o last into few inside le free e =
     puts_next (state into (Some bank) o) (state (with_word into bank o (word_at words bank o)) (Some bank) (o + 1))
     (fives (map (word_at words bank) (range_with_len o (suc k)))) (fives (map (word_at words bank) (range_with_len (o + 1) k)))
     (five (word_at words bank o) []) refl
     (put_one words into bank o few inside (omega (arith, le)) free)
-    ∙ puts_row words bank k (o + 1) (with_word into bank o (word_at words bank o)) few inside (omega (arith, le))
-    (free_after into bank o (word_at words bank o) (omega (arith, le)) free)
-    ∙ rw next refl
+    ∙ puts_row words bank k (o + 1) last (with_word into bank o (word_at words bank o)) few inside (omega (arith, le))
+    (free_after into bank o (word_at words bank o) (omega (arith, le)) free) (omega (arith, e))
 
 -- the line of eight words
 abbrev pub row : Words → ℕ → ℕ → List ℕ
@@ -102,21 +109,28 @@ takes_row : (words : Words) (bank o : ℕ) (into : Words) → AreWords words →
     → take_line (state into (Some bank) o) (row words bank o) ≡ Some (state (put_words into words bank o 8) (Some bank) (o + 8))
 unfolding take_line
 takes_row words bank o into few inside le free =
-    let head : (48 + word_at words bank o / 8 / 8 / 8 / 8 % 8) == 0o102 ≡ false = ne_eqb _ 0o102 (λ e. omega (arith, e)) in
     ap (take_fields (state into (Some bank) o))
     (fields_of_row (map (word_at words bank) (range_with_len (o + 1) 7)) (word_at words bank o))
-    ∙ rw head (puts_row words bank 8 o into few inside le free)
+    ∙ takes_fives (state into (Some bank) o) (word_at words bank o) (map (word_at words bank) (range_with_len (o + 1) 7))
+    ∙ puts_row words bank 8 o (o + 8) into few inside le free refl
+
+-- eight more
+abbrev pub eight_more : ℕ → ℕ
+eight_more k = suc (suc (suc (suc (suc (suc (suc (suc k)))))))
+
+abbrev pub eighth : ℕ → ℕ
+eighth o = o + 1 + 1 + 1 + 1 + 1 + 1 + 1 + 1
 
 -- eight words of the text are such a line
 row_text : (words : Words) (bank o k : ℕ) (rest : List ℕ) → o % 8 ≡ 0
-    → flat_map (octal_word words bank) (range_with_len o (8 + k)) ++ rest
-    ≡ row words bank o ++ 10 ∷ (flat_map (octal_word words bank) (range_with_len (o + 1 + 1 + 1 + 1 + 1 + 1 + 1 + 1) k) ++ rest)
+    → flat_map (octal_word words bank) (range_with_len o (eight_more k)) ++ rest
+    ≡ row words bank o ++ 10 ∷ (flat_map (octal_word words bank) (range_with_len (eighth o) k) ++ rest)
 unfolding octal_word octal_text
 row_text words bank o k rest first =
-    let a : o % 8 == 7 ≡ false = ne_eqb (o % 8) 7 (λ e. omega (arith, first, e)) in
-    let b : (o + 1) % 8 == 7 ≡ false = ne_eqb ((o + 1) % 8) 7 (λ e. omega (arith, first, e)) in
-    let c : (o + 1 + 1) % 8 == 7 ≡ false = ne_eqb ((o + 1 + 1) % 8) 7 (λ e. omega (arith, first, e)) in
-    let d : (o + 1 + 1 + 1) % 8 == 7 ≡ false = ne_eqb ((o + 1 + 1 + 1) % 8) 7 (λ e. omega (arith, first, e)) in
+    let a : o % 8 == 7 ≡ false = ne_eqb (o % 8) 7 (λ q. omega (arith, first, q)) in
+    let b : (o + 1) % 8 == 7 ≡ false = ne_eqb ((o + 1) % 8) 7 (λ q. omega (arith, first, q)) in
+    let c : (o + 1 + 1) % 8 == 7 ≡ false = ne_eqb ((o + 1 + 1) % 8) 7 (λ q. omega (arith, first, q)) in
+    let d : (o + 1 + 1 + 1) % 8 == 7 ≡ false = ne_eqb ((o + 1 + 1 + 1) % 8) 7 (λ q. omega (arith, first, q)) in
     let e : (o + 1 + 1 + 1 + 1) % 8 == 7 ≡ false = ne_eqb ((o + 1 + 1 + 1 + 1) % 8) 7 (λ q. omega (arith, first, q)) in
     let f : (o + 1 + 1 + 1 + 1 + 1) % 8 == 7 ≡ false = ne_eqb ((o + 1 + 1 + 1 + 1 + 1) % 8) 7 (λ q. omega (arith, first, q)) in
     let g : (o + 1 + 1 + 1 + 1 + 1 + 1) % 8 == 7 ≡ false = ne_eqb ((o + 1 + 1 + 1 + 1 + 1 + 1) % 8) 7 (λ q. omega (arith, first, q)) in
@@ -124,68 +138,59 @@ row_text words bank o k rest first =
     rw (a, b, c, d, e, f, g, h) refl
 
 -- ## A bank
-reads_rows : (words : Words) (bank m o n : ℕ) (into : Words) (rest : List ℕ) → AreWords words → bank < banks → o + 8 * m ≤ bank_words
-    → o % 8 ≡ 0 → IsFree into bank o
-    → read_lines n (state into (Some bank) o) (lines (flat_map (octal_word words bank) (range_with_len o (8 * m)) ++ rest))
-    ≡ read_lines (n + m) (state (put_words into words bank o (8 * m)) (Some bank) (o + 8 * m)) (lines rest)
+put_eight : (words : Words) (bank o k : ℕ) (into : Words)
+    → put_words into words bank o (eight_more k) ≡ put_words (put_words into words bank o 8) words bank (o + 8) k
 unfolding put_words
-reads_rows words bank zero o n into rest few inside le first free =
-    let same : o + 0 ≡ o = omega arith in let lines_same : n + 0 ≡ n = omega arith in rw (same, lines_same) refl
-reads_rows words bank (suc m) o n into rest few inside le first free =
-    let count : 8 * suc m ≡ 8 + 8 * m = omega arith in
-    let eighth : o + 1 + 1 + 1 + 1 + 1 + 1 + 1 + 1 ≡ o + 8 = omega arith in
-    let more : List ℕ = flat_map (octal_word words bank) (range_with_len (o + 8) (8 * m)) ++ rest in
-    let text : flat_map (octal_word words bank) (range_with_len o (8 + 8 * m)) ++ rest ≡ row words bank o ++ 10 ∷ more
-    = rw eighth at (row_text words bank o (8 * m) rest first) in
-    let line : lines (flat_map (octal_word words bank) (range_with_len o (8 + 8 * m)) ++ rest) ≡ row words bank o ∷ lines more
-    = ap lines text ∙ lines-ended (row words bank o) more
-    (row_has_no_feed (map (word_at words bank) (range_with_len (o + 1) 7)) (word_at words bank o)) in
-    let whole : put_words into words bank o (8 + 8 * m) ≡ put_words (put_words into words bank o 8) words bank (o + 8) (8 * m)
-    = rw eighth refl in
-    let end : o + (8 + 8 * m) ≡ o + 8 + 8 * m = omega arith in
-    let lines_end : n + suc m ≡ n + 1 + m = omega arith in
-    rw (count, whole, end, lines_end)
-    (reads_next n (state into (Some bank) o) (state (put_words into words bank o 8) (Some bank) (o + 8)) _ (lines more) (row words bank o) line
-    (takes_row words bank o into few inside (omega (arith, le)) free)
-    ∙ reads_rows words bank m (o + 8) (n + 1) (put_words into words bank o 8) rest few inside (omega (arith, le)) (omega (arith, first))
-    (free_after_all words bank 8 o into (omega (arith, le)) free))
+put_eight words bank o k into =
+    let same : eighth o ≡ o + 8 = omega arith in
+    ap (λ q. put_words (put_words into words bank o 8) words bank q k) same
 
--- the line of a bank
-abbrev pub head : ℕ → List ℕ
-head bank = 66 ∷ 65 ∷ 78 ∷ 75 ∷ 61 ∷ 48 + bank / 8 % 8 ∷ 48 + bank % 8 ∷ []
+reads_rows : (words : Words) (bank m count o n last end : ℕ) (into : Words) (rest : List ℕ) → AreWords words → bank < banks
+    → count ≡ 8 * m → o + count ≤ bank_words → o % 8 ≡ 0 → IsFree into bank o → last ≡ n + m → end ≡ o + count
+    → read_lines n (state into (Some bank) o) (lines (flat_map (octal_word words bank) (range_with_len o count) ++ rest))
+    ≡ read_lines last (state (put_words into words bank o count) (Some bank) end) (lines rest)
+unfolding put_words
+reads_rows words bank zero count o n last end into rest few inside c le first free l e =
+    let none : count ≡ 0 = omega (arith, c) in
+    let same : last ≡ n = omega (arith, l) in
+    let here : end ≡ o = omega (arith, e, c) in
+    rw (none, same, here) refl
+reads_rows words bank (suc m) count o n last end into rest few inside c le first free l e =
+    let more : List ℕ = flat_map (octal_word words bank) (range_with_len (o + 8) (8 * m)) ++ rest in
+    let whole : count ≡ eight_more (8 * m) = omega (arith, c) in
+    let place : eighth o ≡ o + 8 = omega arith in
+    let text : flat_map (octal_word words bank) (range_with_len o (eight_more (8 * m))) ++ rest ≡ row words bank o ++ 10 ∷ more
+    = row_text words bank o (8 * m) rest first
+    ∙ ap (λ q. row words bank o ++ 10 ∷ (flat_map (octal_word words bank) (range_with_len q (8 * m)) ++ rest)) place in
+    let line : lines (flat_map (octal_word words bank) (range_with_len o count) ++ rest) ≡ row words bank o ∷ lines more
+    = ap (λ q. lines (flat_map (octal_word words bank) (range_with_len o q) ++ rest)) whole
+    ∙ ap lines text
+    ∙ lines-ended (row words bank o) more
+    (row_has_no_feed (map (word_at words bank) (range_with_len (o + 1) 7)) (word_at words bank o)) in
+    let put_all_of : put_words into words bank o count ≡ put_words (put_words into words bank o 8) words bank (o + 8) (8 * m)
+    = ap (put_words into words bank o) whole ∙ put_eight words bank o (8 * m) into in
+    reads_next n (state into (Some bank) o) (state (put_words into words bank o 8) (Some bank) (o + 8)) _ (lines more)
+    (row words bank o) line
+    (takes_row words bank o into few inside (omega (arith, le, c)) free)
+    ∙ reads_rows words bank m (8 * m) (o + 8) (n + 1) last end (put_words into words bank o 8) rest few inside refl (omega (arith, le, c))
+    (omega (arith, first)) (free_after_all words bank 8 o into (omega (arith, le, c)) free) (omega (arith, l)) (omega (arith, e, c))
+    ∙ ap (λ ws. read_lines last (state ws (Some bank) end) (lines rest)) (sym put_all_of)
 
 head_is : (bank : ℕ) (rest : List ℕ) → bank_head bank ++ rest ≡ head bank ++ 10 ∷ rest
 unfolding bank_head octal_text
 head_is bank rest = refl
 
-head_has_no_feed : (bank : ℕ) → HasNoFeed (head bank)
-head_has_no_feed bank =
-    (λ e. omega (arith, e)), (λ e. omega (arith, e)), (λ e. omega (arith, e)), (λ e. omega (arith, e)), (λ e. omega (arith, e)),
-    (λ e. omega (arith, e)), (λ e. omega (arith, e)), tt
-
-head_said : (bank : ℕ) → said (head bank) ≡ head bank
-head_said bank =
-    rw (
-      ne_eqb (48 + bank / 8 % 8) 0o73 (λ e. omega (arith, e)),
-      ne_eqb (48 + bank % 8) 0o73 (λ e. omega (arith, e)),
-      ne_eqb (48 + bank % 8) 0o15 (λ e. omega (arith, e)),
-    ) refl
-
-head_field : (bank : ℕ) → texts (runs (head bank)) ≡ head bank ∷ []
-head_field bank =
-    texts-take (head bank) 7 (omega arith) refl (rw (no_blank (bank / 8), no_blank bank) refl)
-    ∙ ap (λ ts. head bank ∷ ts) (texts-none [] refl)
-
-bank_number : (bank : ℕ) → bank < banks → number_of 8 2 (48 + bank / 8 % 8 ∷ 48 + bank % 8 ∷ []) ≡ Some bank
-bank_number bank lt = number_of_two bank (omega (arith, lt))
+begins : (into : Words) (before : Option ℕ) (bank count : ℕ) → is_free into bank 0 ≡ true
+    → begin_bank (state into before count) (Some bank) ≡ Some (state into (Some bank) 0)
+begins into before bank count free = rw free refl
 
 takes_head : (into : Words) (before : Option ℕ) (bank count : ℕ) → bank < banks → IsFree into bank 0
     → take_line (state into before count) (head bank) ≡ Some (state into (Some bank) 0)
 unfolding take_line
 takes_head into before bank count inside free =
-    let in_banks : nat_lt bank banks ≡ true = grind (arith, nat_tests, inside) in
-    ap (take_fields (state into before count)) (ap (λ line. texts (runs line)) (head_said bank) ∙ head_field bank)
-    ∙ rw (bank_number bank inside, in_banks, free 0 (omega arith)) refl
+    ap (take_fields (state into before count)) (fields_of_head bank)
+    ∙ ap (begin_bank (state into before count)) (number_of_two bank (omega (arith, inside)))
+    ∙ begins into before bank count (may_put into bank 0 inside (omega arith) (free 0 (omega arith)))
 
 reads_bank : (words : Words) (bank n count : ℕ) (before : Option ℕ) (into : Words) (rest : List ℕ) → AreWords words → bank < banks
     → IsFree into bank 0
@@ -200,7 +205,8 @@ reads_bank words bank n count before into rest few inside free =
     = ap lines text ∙ lines-ended (head bank) more (head_has_no_feed bank) in
     reads_next n (state into before count) (state into (Some bank) 0) _ (lines more) (head bank) line
     (takes_head into before bank count inside free)
-    ∙ reads_rows words bank 128 0 (n + 1) into rest few inside (omega arith) (omega arith) free
+    ∙ reads_rows words bank 128 bank_words 0 (n + 1) (n + 1 + 128) bank_words into rest few inside (omega arith) (omega arith) (omega arith)
+    free refl (omega arith)
 
 -- ## All banks
 unfoldable pub put_banks : Words → Words → ℕ → ℕ → Words
@@ -218,7 +224,8 @@ reads_banks : (words : Words) (k b n count : ℕ) (before : Option ℕ) (into : 
 unfolding put_banks
 reads_banks words zero b n count before into few le free = reads_none n (state into before count) _ (lines-none [] refl)
 reads_banks words (suc k) b n count before into few le free =
-    reads_bank words b n count before into (flat_map (bank_octals words) (range_with_len (b + 1) k)) few (omega (arith, le)) (free b (omega arith))
+    reads_bank words b n count before into (flat_map (bank_octals words) (range_with_len (b + 1) k)) few (omega (arith, le))
+    (free b (omega arith))
     ∙ reads_banks words k (b + 1) (n + 1 + 128) bank_words (Some b) (put_words into words b 0 bank_words) few (omega (arith, le))
     (free_banks words into b free)
 
@@ -244,7 +251,6 @@ banks_there words (suc k) b c p into le from to lt =
     ]
 
 pub reads_back : (words : Words) → AreWords words → ReadsBack words
-unfolding taken_words
 reads_back words few =
     let same : (bank offset : ℕ) → bank < banks → offset < bank_words
     → slot_at (put_banks no_words words 0 banks) bank offset ≡ Some (word_at words bank offset)

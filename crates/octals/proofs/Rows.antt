@@ -1,5 +1,6 @@
 -- Words as five octal digits each, in a line.
-use Rattle.std.proofs.Common.{◌≡◌, ◌≢◌, ℕ, zero, suc, ◌+◌, ◌-◌, ◌*◌, ◌/◌, ◌%◌, ◌<◌, ◌≤◌, ◌^◌, ◌==◌, ◌&&◌, ◌||◌, Bool, true, false, nat_lt, nat_le}
+use Rattle.std.proofs.Common.{◌≡◌, ◌≢◌, ℕ, zero, suc, ◌+◌, ◌-◌, ◌*◌, ◌/◌, ◌%◌, ◌<◌, ◌≤◌, ◌^◌, ◌==◌, ◌&&◌, ◌||◌, not, Bool, true, false}
+use Rattle.std.proofs.Common.{nat_lt, nat_le}
 use Rattle.std.proofs.Common.{List, [], ◌∷◌, ◌++◌, length, map, take, get_or, Option, Some, None, refl, sym, ◌∙◌, ap, arith, inl, inr}
 use Rattle.std.specs.List.{list_all, position_or_len}
 use Rattle.std.specs.Int.Digits.{number_from_digits}
@@ -16,13 +17,13 @@ use Rattle.agc_text.specs.Digits.{digit_value, is_digit, number_of}
 use Rattle.agc_text.specs.Fields.{is_blank, runs, texts}
 use Rattle.agc_text.specs.Lines.{HasNoFeed}
 use Rattle.agc_text.proofs.Splits.{texts-none, texts-skip, texts-take}
-use Rattle.octals.specs.OctalTexts.{before_comment, before_return, fields, said, word_of}
+use Rattle.octals.specs.OctalTexts.{State, before_comment, before_return, fields, names_bank, put_all, said, take_fields, word_of}
 
 -- ## Digits
 -- five digits, and what follows
 abbrev pub five : ℕ → List ℕ → List ℕ
 five w rest =
-    48 + w / 8 / 8 / 8 / 8 % 8 ∷ 48 + w / 8 / 8 / 8 % 8 ∷ 48 + w / 8 / 8 % 8 ∷ 48 + w / 8 % 8 ∷ 48 + w % 8 ∷ rest
+    (48 + w / 8 / 8 / 8 / 8 % 8) ∷ (48 + w / 8 / 8 / 8 % 8) ∷ (48 + w / 8 / 8 % 8) ∷ (48 + w / 8 % 8) ∷ (48 + w % 8) ∷ rest
 
 pub five_is : (w : ℕ) (rest : List ℕ) → octal_text 5 w ++ rest ≡ five w rest
 unfolding octal_text
@@ -66,14 +67,15 @@ pub word_of_five : (w : ℕ) → w < 2 ^ 15 → word_of (five w []) ≡ Some w
 word_of_five w lt = ap word_of (sym (five_alone w)) ∙ word_of_octal w lt
 
 -- the number of a bank that two digits are
-pub number_of_two : (n : ℕ) → n < 64 → number_of 8 2 (48 + n / 8 % 8 ∷ 48 + n % 8 ∷ []) ≡ Some n
-number_of_two n lt = ap (number_of 8 2) (sym (two_alone n)) ∙ of_octal
-  where
-    two_alone : (m : ℕ) → octal_text 2 m ≡ 48 + m / 8 % 8 ∷ 48 + m % 8 ∷ []
-    unfolding octal_text
-    two_alone m = refl
-    of_octal : number_of 8 2 (octal_text 2 n) ≡ Some n
-    of_octal = rw (length-octal_text 2 n, octal_all (is_digit 8) digit_is 2 n, octal_number 2 n (omega (arith, lt))) refl
+two_alone : (n : ℕ) → octal_text 2 n ≡ (48 + n / 8 % 8) ∷ (48 + n % 8) ∷ []
+unfolding octal_text
+two_alone n = refl
+
+number_of_octal : (n : ℕ) → n < 64 → number_of 8 2 (octal_text 2 n) ≡ Some n
+number_of_octal n lt = rw (length-octal_text 2 n, octal_all (is_digit 8) digit_is 2 n, octal_number 2 n (omega (arith, lt))) refl
+
+pub number_of_two : (n : ℕ) → n < 64 → number_of 8 2 ((48 + n / 8 % 8) ∷ (48 + n % 8) ∷ []) ≡ Some n
+number_of_two n lt = ap (number_of 8 2) (sym (two_alone n)) ∙ number_of_octal n lt
 
 -- ## Bytes
 -- a digit or a space
@@ -84,10 +86,10 @@ plain_digit : (n : ℕ) → is_plain (48 + n % 8) ≡ true
 plain_digit n = let low : n % 8 < 8 = omega arith in grind (arith, nat_tests, low)
 
 pub no_blank : (n : ℕ) → is_blank (48 + n % 8) ≡ false
-no_blank n = rw (ne_eqb (48 + n % 8) 32 (λ e. omega (arith, e)), ne_eqb (48 + n % 8) 9 (λ e. omega (arith, e))) refl
+no_blank n = let low : n % 8 < 8 = omega arith in grind (arith, nat_tests, low)
 
 plain_is : (b other : ℕ) → is_plain b ≡ true → is_plain other ≡ false → b ≢ other
-plain_is b other plain no same = let never : false ≡ true = sym (ap is_plain same ∙ no) ∙ plain in cc
+plain_is b other plain is_not same = let never : false ≡ true = sym (ap is_plain same ∙ is_not) ∙ plain in cc
 
 pub plain_head : (b : ℕ) (bs : List ℕ) → list_all is_plain (b ∷ bs) ≡ true → is_plain b ≡ true
 plain_head b bs all = elim (cases_Bool (is_plain b)) [
@@ -101,12 +103,10 @@ plain_tail b bs all = rw (plain_head b bs all) at all
 -- no byte of such a text is another one
 first_of_none : (other : ℕ) → is_plain other ≡ false → (bs : List ℕ) → list_all is_plain bs ≡ true
     → position_or_len (λ b. b == other) bs ≡ length bs
-first_of_none other no [] all = refl
-first_of_none other no (b ∷ bs) all =
-    rw (
-      ne_eqb b other (plain_is b other (plain_head b bs all) no),
-      first_of_none other no bs (plain_tail b bs all),
-    ) refl
+first_of_none other is_not [] all = refl
+first_of_none other is_not (b ∷ bs) all =
+    let more = first_of_none other is_not bs (plain_tail b bs all) in
+    rw (ne_eqb b other (plain_is b other (plain_head b bs all) is_not)) (omega (arith, more))
 
 take_all : (bs : List ℕ) → take (length bs) bs ≡ bs
 take_all [] = refl
@@ -114,13 +114,13 @@ take_all (b ∷ bs) = ap (λ more. b ∷ more) (take_all bs)
 
 none_at : (other : ℕ) → is_plain other ≡ false → 0 ≢ other → (bs : List ℕ) (k : ℕ) → list_all is_plain bs ≡ true
     → get_or bs k 0 == other ≡ false
-none_at other no some [] k all = ne_eqb 0 other some
-none_at other no some (b ∷ bs) zero all = ne_eqb b other (plain_is b other (plain_head b bs all) no)
-none_at other no some (b ∷ bs) (suc k) all = none_at other no some bs k (plain_tail b bs all)
+none_at other is_not some [] k all = ne_eqb 0 other some
+none_at other is_not some (b ∷ bs) zero all = ne_eqb b other (plain_is b other (plain_head b bs all) is_not)
+none_at other is_not some (b ∷ bs) (suc k) all = none_at other is_not some bs k (plain_tail b bs all)
 
 no_feed : (bs : List ℕ) → list_all is_plain bs ≡ true → HasNoFeed bs
 no_feed [] all = tt
-no_feed (b ∷ bs) all = plain_is b line_feed (plain_head b bs all) refl, no_feed bs (plain_tail b bs all)
+no_feed (b ∷ bs) all = (plain_is b line_feed (plain_head b bs all) refl, no_feed bs (plain_tail b bs all))
 
 -- such a line says all that it has
 said_all : (line : List ℕ) → list_all is_plain line ≡ true → said line ≡ line
@@ -144,31 +144,50 @@ others (w ∷ ws) = 32 ∷ five w (others ws)
 abbrev pub fives : List ℕ → List (List ℕ)
 fives ws = map (λ w. five w []) ws
 
-pub plain_row : (ws : List ℕ) (w : ℕ) → list_all is_plain (five w (others ws)) ≡ true
-plain_row [] w = rw (plain_digit (w / 8 / 8 / 8 / 8), plain_digit (w / 8 / 8 / 8), plain_digit (w / 8 / 8), plain_digit (w / 8), plain_digit w)
-    refl
-plain_row (v ∷ ws) w =
-    rw (plain_digit (w / 8 / 8 / 8 / 8), plain_digit (w / 8 / 8 / 8), plain_digit (w / 8 / 8), plain_digit (w / 8), plain_digit w)
-    (plain_row ws v)
+-- what five bytes pass, and those after them, all do
+all_five : (p : ℕ → Bool) (a b c d e : ℕ) (rest : List ℕ) → p a ≡ true → p b ≡ true → p c ≡ true → p d ≡ true → p e ≡ true
+    → list_all p rest ≡ true → list_all p (a ∷ b ∷ c ∷ d ∷ e ∷ rest) ≡ true
+all_five p a b c d e rest pa pb pc pd pe all = rw (pa, pb, pc, pd, pe, all) refl
 
-five_then : (w : ℕ) (rest : List ℕ) → texts (runs (five w (32 ∷ rest))) ≡ five w [] ∷ texts (runs (32 ∷ rest))
-five_then w rest =
-    texts-take (five w (32 ∷ rest)) 5 (omega arith) (no_blank (w / 8 / 8 / 8 / 8))
-    (rw (no_blank (w / 8 / 8 / 8 / 8), no_blank (w / 8 / 8 / 8), no_blank (w / 8 / 8), no_blank (w / 8), no_blank w) refl)
+five_plain : (w : ℕ) (rest : List ℕ) → list_all is_plain rest ≡ true → list_all is_plain (five w rest) ≡ true
+five_plain w rest all =
+    all_five is_plain (48 + w / 8 / 8 / 8 / 8 % 8) (48 + w / 8 / 8 / 8 % 8) (48 + w / 8 / 8 % 8) (48 + w / 8 % 8) (48 + w % 8) rest
+    (plain_digit (w / 8 / 8 / 8 / 8)) (plain_digit (w / 8 / 8 / 8)) (plain_digit (w / 8 / 8)) (plain_digit (w / 8)) (plain_digit w) all
+
+space_plain : (rest : List ℕ) → list_all is_plain rest ≡ true → list_all is_plain (32 ∷ rest) ≡ true
+space_plain rest all = rw all refl
+
+pub plain_row : (ws : List ℕ) (w : ℕ) → list_all is_plain (five w (others ws)) ≡ true
+plain_row [] w = five_plain w [] refl
+plain_row (v ∷ ws) w = five_plain w (32 ∷ five v (others ws)) (space_plain (five v (others ws)) (plain_row ws v))
+
+-- five bytes that are no blanks, up to the end or a space
+five_long : (a b c d e : ℕ) (rest : List ℕ) → is_blank a ≡ false → is_blank b ≡ false → is_blank c ≡ false → is_blank d ≡ false
+    → is_blank e ≡ false → position_or_len is_blank rest ≡ 0 → 5 ≡ position_or_len is_blank (a ∷ b ∷ c ∷ d ∷ e ∷ rest)
+five_long a b c d e rest na nb nc nd ne none = rw (na, nb, nc, nd, ne, none) refl
+
+five_takes : (w : ℕ) (rest : List ℕ) → position_or_len is_blank rest ≡ 0 → texts (runs (five w rest)) ≡ five w [] ∷ texts (runs rest)
+five_takes w rest none =
+    texts-take (five w rest) 5 (omega arith) (no_blank (w / 8 / 8 / 8 / 8))
+    (five_long (48 + w / 8 / 8 / 8 / 8 % 8) (48 + w / 8 / 8 / 8 % 8) (48 + w / 8 / 8 % 8) (48 + w / 8 % 8) (48 + w % 8) rest
+    (no_blank (w / 8 / 8 / 8 / 8)) (no_blank (w / 8 / 8 / 8)) (no_blank (w / 8 / 8)) (no_blank (w / 8)) (no_blank w) none)
 
 five_last : (w : ℕ) → texts (runs (five w [])) ≡ five w [] ∷ []
-five_last w =
-    texts-take (five w []) 5 (omega arith) (no_blank (w / 8 / 8 / 8 / 8))
-    (rw (no_blank (w / 8 / 8 / 8 / 8), no_blank (w / 8 / 8 / 8), no_blank (w / 8 / 8), no_blank (w / 8), no_blank w) refl)
-    ∙ ap (λ ts. five w [] ∷ ts) (texts-none [] refl)
+five_last w = five_takes w [] refl ∙ ap (λ ts. five w [] ∷ ts) (texts-none [] refl)
+
+one_space : (a : ℕ) (rest : List ℕ) → is_blank a ≡ false → 1 ≡ position_or_len (λ b. not (is_blank b)) (32 ∷ a ∷ rest)
+one_space a rest stands = rw stands refl
 
 space_first : (w : ℕ) (rest : List ℕ) → texts (runs (32 ∷ five w rest)) ≡ texts (runs (five w rest))
-space_first w rest = texts-skip (32 ∷ five w rest) 1 (rw (no_blank (w / 8 / 8 / 8 / 8)) refl)
+space_first w rest =
+    texts-skip (32 ∷ five w rest) 1
+    (one_space (48 + w / 8 / 8 / 8 / 8 % 8) ((48 + w / 8 / 8 / 8 % 8) ∷ (48 + w / 8 / 8 % 8) ∷ (48 + w / 8 % 8) ∷ (48 + w % 8) ∷ rest)
+    (no_blank (w / 8 / 8 / 8 / 8)))
 
 row_fields : (ws : List ℕ) (w : ℕ) → texts (runs (five w (others ws))) ≡ fives (w ∷ ws)
 row_fields [] w = five_last w
 row_fields (v ∷ ws) w =
-    five_then w (five v (others ws)) ∙ ap (λ ts. five w [] ∷ ts) (space_first v (others ws) ∙ row_fields ws v)
+    five_takes w (32 ∷ five v (others ws)) refl ∙ ap (λ ts. five w [] ∷ ts) (space_first v (others ws) ∙ row_fields ws v)
 
 -- the fields of a line of words, and that it is one line
 pub fields_of_row : (ws : List ℕ) (w : ℕ) → fields (five w (others ws)) ≡ fives (w ∷ ws)
@@ -176,3 +195,51 @@ fields_of_row ws w = ap (λ line. texts (runs line)) (said_all (five w (others w
 
 pub row_has_no_feed : (ws : List ℕ) (w : ℕ) → HasNoFeed (five w (others ws))
 row_has_no_feed ws w = no_feed (five w (others ws)) (plain_row ws w)
+
+-- a line of words names no bank
+names_none : (a b c d e : ℕ) → a == 0o102 ≡ false → names_bank (a ∷ b ∷ c ∷ d ∷ e ∷ []) ≡ false
+names_none a b c d e other = rw other refl
+
+pub takes_fives : (s : State) (w : ℕ) (ws : List ℕ) → take_fields s (fives (w ∷ ws)) ≡ put_all s (fives (w ∷ ws))
+takes_fives s w ws =
+    rw (names_none (48 + w / 8 / 8 / 8 / 8 % 8) (48 + w / 8 / 8 / 8 % 8) (48 + w / 8 / 8 % 8) (48 + w / 8 % 8) (48 + w % 8)
+    (ne_eqb (48 + w / 8 / 8 / 8 / 8 % 8) 0o102 (λ e. omega (arith, e)))) refl
+
+-- ## The line of a bank
+abbrev pub head : ℕ → List ℕ
+head bank = 66 ∷ 65 ∷ 78 ∷ 75 ∷ 61 ∷ (48 + bank / 8 % 8) ∷ (48 + bank % 8) ∷ []
+
+title_said : (a b : ℕ) → a == 0o73 ≡ false → b == 0o73 ≡ false → b == 0o15 ≡ false
+    → said (66 ∷ 65 ∷ 78 ∷ 75 ∷ 61 ∷ a ∷ b ∷ []) ≡ 66 ∷ 65 ∷ 78 ∷ 75 ∷ 61 ∷ a ∷ b ∷ []
+title_said a b na nb nr = rw (na, nb, nr) refl
+
+title_long : (a b : ℕ) → is_blank a ≡ false → is_blank b ≡ false
+    → 7 ≡ position_or_len is_blank (66 ∷ 65 ∷ 78 ∷ 75 ∷ 61 ∷ a ∷ b ∷ [])
+title_long a b na nb = rw (na, nb) refl
+
+pub fields_of_head : (bank : ℕ) → fields (head bank) ≡ head bank ∷ []
+fields_of_head bank =
+    ap (λ line. texts (runs line)) (title_said (48 + bank / 8 % 8) (48 + bank % 8)
+    (ne_eqb (48 + bank / 8 % 8) 0o73 (λ e. omega (arith, e))) (ne_eqb (48 + bank % 8) 0o73 (λ e. omega (arith, e)))
+    (ne_eqb (48 + bank % 8) 0o15 (λ e. omega (arith, e))))
+    ∙ texts-take (head bank) 7 (omega arith) refl
+    (title_long (48 + bank / 8 % 8) (48 + bank % 8) (no_blank (bank / 8)) (no_blank bank))
+    ∙ ap (λ ts. head bank ∷ ts) (texts-none [] refl)
+
+no_feed_of : (a b : ℕ) → a ≢ line_feed → b ≢ line_feed → HasNoFeed (66 ∷ 65 ∷ 78 ∷ 75 ∷ 61 ∷ a ∷ b ∷ [])
+no_feed_of a b na nb = (
+  (λ e. omega (arith, e)),
+  (
+    (λ e. omega (arith, e)),
+    (
+      (λ e. omega (arith, e)),
+      (
+        (λ e. omega (arith, e)),
+        ((λ e. omega (arith, e)), (na, (nb, tt))),
+      ),
+    ),
+  ),
+)
+
+pub head_has_no_feed : (bank : ℕ) → HasNoFeed (head bank)
+head_has_no_feed bank = no_feed_of (48 + bank / 8 % 8) (48 + bank % 8) (λ e. omega (arith, e)) (λ e. omega (arith, e))
