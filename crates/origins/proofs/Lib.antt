@@ -1,0 +1,7 @@
+pub mod CellNumbers
+pub mod Followed
+pub mod Seen
+pub mod Halves
+pub mod Steps
+pub mod Places
+mod Rows
