@@ -25,7 +25,7 @@ use Rattle.commands.specs.declared.extended.ExtendedLine.TheVariants.{Plain, Com
 use Rattle.commands.specs.declared.extended.ExtendedLine.TheVariants.{WhyStep, Why, Words, Where, Find, Trace, Inputs, Over, Out, Listed}
 use Rattle.commands.specs.declared.extended.ExtendedLine.TheVariants.{Values, Channels, Differs, WhySince, TailSteps, Survey, Say, WhatIf}
 use Rattle.commands.specs.declared.whatif.Extent.TheVariants.{Here, Each}
-use Rattle.commands.specs.declared.extended.ExtendedLine.TheVariants.{Calls, WhyWay, WhyControl, WhyInputs, WhyInterrupts}
+use Rattle.commands.specs.declared.extended.ExtendedLine.TheVariants.{Calls, WhyWay, WhyControl, WhyInputs, WhyInterrupts, Never}
 use Rattle.commands.specs.declared.extended.LinkLines.{LinkLines}
 
 -- a place in fixed memory, and a number that is no place
@@ -508,3 +508,17 @@ in_progress : asked (codes "calls" ∷ codes "calls # now" ∷ codes "calls 3" �
     ∷ Says (codes "HELP calls takes nothing: the calls that are in progress, innermost first\n") ∷ []
 unfolding extended_line extended_forms usages forms runs parsed counters sequences registers window
 in_progress = refl
+
+-- why the program never came to a place: of a symbol and what moves it on, of a place, of an erasable one
+never_there : asked (codes "never FIVE" ∷ codes "never FIVE +1 # why" ∷ codes "never 4005" ∷ codes "never 12,1777" ∷ codes "never SUM" ∷ [])
+    ≡ Never (Fixed 2 5) ∷ Never (Fixed 2 6) ∷ Never (Fixed 2 5) ∷ Never (Fixed 0o12 0o1777) ∷ Never (Erasable 0o101) ∷ []
+unfolding extended_line extended_forms usages forms runs parsed counters sequences registers window
+never_there = refl
+
+never_nowhere : asked (codes "never" ∷ codes "never FIVE 3" ∷ codes "never FIVEE" ∷ codes "never 4008" ∷ codes "help never" ∷ [])
+    ≡ map (λ text. Says text)
+    (codes "E50 COMMAND never takes a place\n" ∷ codes "E50 COMMAND never takes a place\n" ∷ codes "E50 COMMAND no symbol FIVEE\n"
+    ∷ codes "E50 COMMAND numbers of places, channels and words are octal, and 4008 has a digit 8 or 9\n"
+    ∷ codes "HELP never takes a place: the last choice that led away from there\n" ∷ [])
+unfolding extended_line extended_forms usages forms runs parsed counters sequences registers window
+never_nowhere = refl

@@ -28,7 +28,7 @@ use Rattle.commands.specs.declared.extended.ExtendedLine.{ExtendedLine}
 use Rattle.commands.specs.declared.extended.ExtendedLine.TheVariants.{Plain, Common, Says, Help, Breaks, ClearOne, On, AllRegisters, Until}
 use Rattle.commands.specs.declared.extended.ExtendedLine.TheVariants.{WhyStep, Why, Words, Where, Find, Trace, Inputs, Over, Out, Listed}
 use Rattle.commands.specs.declared.extended.ExtendedLine.TheVariants.{Values, Channels, Differs, WhySince, TailSteps, Survey, Say, Calls}
-use Rattle.commands.specs.declared.extended.ExtendedLine.TheVariants.{WhyWay, WhyControl, WhyInputs, WhyInterrupts}
+use Rattle.commands.specs.declared.extended.ExtendedLine.TheVariants.{WhyWay, WhyControl, WhyInputs, WhyInterrupts, Never}
 
 -- the most steps that a command can name
 abbrev pub most_count : ℕ
@@ -289,6 +289,7 @@ extended_forms symbols =
     ∷ (codes "say", with_field count_in (λ k. Say k))
     ∷ (codes "whatif", whatif_form)
     ∷ (codes "calls", with_none Calls)
+    ∷ (codes "never", λ fields. option_map (λ place. Never place) (place_alone symbols fields))
     ∷ []
 
 -- what any session is asked for, with words for what is no command

@@ -32,6 +32,7 @@ usages =
     ∷ (codes "chans", usage (codes "nothing") (codes "the channels whose words are not zero"))
     ∷ (codes "last", usage (codes "an erasable place") (codes "the step that changed the word there last"))
     ∷ (codes "why", usage (codes "[step|PLACE [k|control|inputs|interrupts|since]]") (codes "what made it so"))
+    ∷ (codes "never", usage (codes "a place") (codes "the last choice that led away from there"))
     ∷ (codes "trace", usage (codes "a number of steps") (codes "the last so many steps, a line each"))
     ∷ (codes "say", usage (codes "a number of steps") (codes "the last so many steps, each in a sentence"))
     ∷ (codes "where", usage (codes "nothing") (codes "the next instruction's place, and the interrupt"))

@@ -132,6 +132,8 @@ pub enum ExtendedLine {
     WhatIf(Input, Extent),
     /// The calls of routines that are in progress.
     Calls,
+    /// Why the program never came to a place.
+    Never(Linear),
 }
 
 /// What a line of an extended session asks for, where the symbols of a program stand.
@@ -282,6 +284,8 @@ fn state_command_in(symbols: &Symbols, name: &[u8], rest: &[u8]) -> Option<Exten
         whatif_form(rest)
     } else if is_word(name, "calls") {
         with_none(ExtendedLine::Calls, rest)
+    } else if is_word(name, "never") {
+        place_alone(symbols, rest).map(ExtendedLine::Never)
     } else {
         None
     }
@@ -519,9 +523,17 @@ fn why_of(subject: Option<Subject>, rest: &[u8]) -> Option<ExtendedLine>
     ensures { result ≡ why_of subject (texts (runs rest.now)) }
 {
     let subject = subject?;
-    if let Some(request) = word_asked(subject, rest) {
-        return Some(request);
+    match word_asked(subject, rest) {
+        Some(request) => Some(request),
+        None => linked(subject, rest),
     }
+}
+
+// `why` of a subject, followed by a number of links or none and by what is told besides.
+fn linked(subject: Subject, rest: &[u8]) -> Option<ExtendedLine>
+    requires { All (λ field. length field ≤ 80) (texts (runs rest.now)) }
+    ensures { result ≡ option_map (λ r. asked.Why subject r.0 r.1) (links_in (texts (runs rest.now))) }
+{
     let (links, lines) = links_in(rest)?;
     Some(ExtendedLine::Why(subject, links, lines))
 }
