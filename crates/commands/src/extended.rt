@@ -14,7 +14,7 @@ ghost use Rattle.commands.specs.Extended.{with_counted_place, usual_links, if_no
 ghost use Rattle.commands.specs.Extended.{watches, bits_of, watches_bits, subject_alone, break_form, in_words};
 ghost use Rattle.commands.specs.Extended.{behind_blank, echoed, extended_in, extended_line, steps_in, telling};
 ghost use Rattle.commands.specs.Extended.{places_in, lines_in, word_alone, stepped_in, word_then, links_then, since_in};
-ghost use Rattle.commands.specs.Extended.{index_told, since_of, why_since, word_asked};
+ghost use Rattle.commands.specs.Extended.{index_told, since_of, why_since};
 
 use crate::command::{Breakpoint, Command, ParsedLine};
 use crate::fields::{channel_in, count_in, is_word};
@@ -523,35 +523,17 @@ fn why_of(subject: Option<Subject>, rest: &[u8]) -> Option<ExtendedLine>
     ensures { result ≡ why_of subject (texts (runs rest.now)) }
 {
     let subject = subject?;
-    match word_asked(subject, rest) {
-        Some(request) => Some(request),
-        None => linked(subject, rest),
+    if is_sole(rest, "control") {
+        return Some(ExtendedLine::WhyControl(subject));
     }
-}
-
-// `why` of a subject, followed by a number of links or none and by what is told besides.
-fn linked(subject: Subject, rest: &[u8]) -> Option<ExtendedLine>
-    requires { All (λ field. length field ≤ 80) (texts (runs rest.now)) }
-    ensures { result ≡ option_map (λ r. asked.Why subject r.0 r.1) (links_in (texts (runs rest.now))) }
-{
+    if is_sole(rest, "inputs") {
+        return Some(ExtendedLine::WhyInputs(subject));
+    }
+    if is_sole(rest, "interrupts") {
+        return Some(ExtendedLine::WhyInterrupts(subject));
+    }
     let (links, lines) = links_in(rest)?;
     Some(ExtendedLine::Why(subject, links, lines))
-}
-
-// What a word that stands alone asks of a subject.
-fn word_asked(subject: Subject, rest: &[u8]) -> Option<ExtendedLine>
-    requires { All (λ field. length field ≤ 80) (texts (runs rest.now)) }
-    ensures { result ≡ word_asked subject (texts (runs rest.now)) }
-{
-    if is_sole(rest, "control") {
-        Some(ExtendedLine::WhyControl(subject))
-    } else if is_sole(rest, "inputs") {
-        Some(ExtendedLine::WhyInputs(subject))
-    } else if is_sole(rest, "interrupts") {
-        Some(ExtendedLine::WhyInterrupts(subject))
-    } else {
-        None
-    }
 }
 
 // A number of links or none, and what is told besides.
