@@ -1,12 +1,13 @@
 -- What a walk back by halves executes and holds.
-use Rattle.std.proofs.Common.{◌≡◌, ℕ, zero, suc, ◌+◌, ◌-◌, ◌*◌, ◌^◌, ◌<◌, ◌≤◌, refl, sym, ap, ◌∙◌, arith}
+use Rattle.std.proofs.Common.{◌≡◌, ℕ, zero, suc, ◌+◌, ◌*◌, ◌^◌, ◌≤◌, sym, ap, ◌∙◌, arith}
+use Rattle.std.proofs.Math.Nat.{pow-succ'}
 use Rattle.origins.specs.Walks.{AreFew, IsCheap}
 
 doubled : (level : ℕ) → 2 ^ suc level ≡ 2 * 2 ^ level
-doubled level = refl
+doubled level = pow-succ' 2 level
 
 spread : (left right level : ℕ) → (left + right) * suc level ≡ (left * level + right * level) + (left + right)
-spread left right level = arith
+spread left right level = omega arith
 
 -- no step is made for none, and for one that is seen where it stands
 pub costs_nothing : (count old : ℕ) → IsCheap count old old

@@ -3,5 +3,4 @@ pub mod Followed
 pub mod Seen
 pub mod Halves
 pub mod Steps
-pub mod Places
 mod Rows

@@ -1,5 +1,5 @@
 -- A run, step by step.
-use Rattle.std.proofs.Common.{◌≡◌, ℕ, zero, suc, ◌+◌, ◌^◌, ◌<◌, ◌≤◌, Bool, true, false, Option, None, refl, sym, ap, ◌∙◌, add-one, arith}
+use Rattle.std.proofs.Common.{◌≡◌, ℕ, ◌+◌, ◌^◌, ◌<◌, ◌≤◌, Option, None, refl, sym, ap, ◌∙◌, add-one, arith}
 use Rattle.cpu.specs.Next.{next}
 use Rattle.cpu.specs.Run.{run}
 use Rattle.cpu.specs.State.{FitsRun, Scenario, State, start}

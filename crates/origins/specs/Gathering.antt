@@ -1,5 +1,5 @@
 -- What a chain comes from, gathered over its steps, the last first.
-use Rattle.std.specs.Prelude.{◌≡◌, ℕ, zero, suc, ◌+◌, List, [], ◌∷◌, replicate, Bool, true, false, Option, Some, None, get_or, set}
+use Rattle.std.specs.Prelude.{ℕ, zero, suc, ◌+◌, List, [], ◌∷◌, replicate, Option, Some, None, get_or, set}
 use Rattle.std.specs.Prelude.{if◌then◌else◌}
 use Rattle.cpu.specs.Chains.{cells_among, link_at, writes_some}
 use Rattle.cpu.specs.Links.{Link, link, targets}

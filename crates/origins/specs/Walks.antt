@@ -1,5 +1,5 @@
 -- What a walk back executes and holds.
-use Rattle.std.specs.Prelude.{◌≡◌, ℕ, ◌+◌, ◌-◌, ◌*◌, ◌^◌, ◌≤◌, Option}
+use Rattle.std.specs.Prelude.{◌≡◌, ℕ, ◌+◌, ◌*◌, ◌^◌, ◌≤◌}
 use Rattle.cpu.specs.Run.{run}
 use Rattle.cpu.specs.State.{Scenario}
 use Rattle.origins.specs.Served.{served}

@@ -2,7 +2,7 @@
 
 ghost use Rattle.std.specs.Prelude.{◌≡◌, ◌+◌, ◌^◌, ◌<◌, ◌≤◌};
 ghost use Rattle.cpu.specs.State.{FitsRun, Scenario};
-ghost use Rattle.origins.specs.Served.{served_then};
+ghost use Rattle.origins.specs.Served.{served_after, served_then};
 ghost use Rattle.origins.specs.Walks.{IsOfRun};
 
 use cpu::{Machine, NextStep, Processor, make_step};
@@ -72,9 +72,16 @@ impl Image {
     {
         let served = served_then(processor, &self.machine, self.served);
         make_step(processor, &mut self.machine);
-        self.served = if self.machine.inside() { served } else { None };
+        self.served = served_after(self.machine.inside(), served);
         self.step += 1;
     }
+}
+
+/// The interrupt that is served after a step, where one is in service.
+fn served_after(inside: bool, served: Option<Interrupt>) -> Option<Interrupt>
+    ensures { result ≡ served_after inside served }
+{
+    if inside { served } else { None }
 }
 
 /// The interrupt that is served if the next step leaves one in service.

@@ -4,7 +4,7 @@ ghost use Rattle.std.specs.Prelude.{◌≡◌};
 ghost use Rattle.origins.specs.Lines.{same_input, same_origin};
 
 use crate::tally::Tally;
-use feed::Input;
+use feed::{Input, Interrupt};
 use space::{Bank, Offset};
 
 /// What a step brings into a chain that no step before it wrote.
@@ -23,6 +23,21 @@ pub struct OriginLine {
     pub origin: Origin,
     /// The steps.
     pub tally: Tally,
+}
+
+impl Default for Origin {
+    fn default() -> Origin {
+        Origin::Taken(Input::Interrupt(Interrupt::new(1)))
+    }
+}
+
+impl Default for OriginLine {
+    fn default() -> OriginLine {
+        OriginLine {
+            origin: Origin::default(),
+            tally: Tally::none(),
+        }
+    }
 }
 
 /// Whether two inputs are one, at whatever cycles they come.
