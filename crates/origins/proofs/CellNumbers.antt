@@ -4,7 +4,7 @@ use Rattle.std.proofs.Common.{filter, refl, ap, ◌∙◌, sym, append_assoc, ap
 use Rattle.std.proofs.lemmas.Bool.Decides.{nat_tests}
 use Rattle.std.specs.List.{range_with_len}
 use Rattle.std.specs.FinSet as set
-use Rattle.debugger.specs.Whys.{CellSet, cell_count, cells_of}
+use Rattle.origins.specs.Following.{CellSet, cell_count, cells_of}
 
 -- the cell of a number
 pub cell_is : (n c : ℕ) → n < cell_count → Some c ≡ cond (nat_lt n 0o5000) (Some n) None → c ≡ n

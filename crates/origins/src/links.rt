@@ -7,8 +7,8 @@ ghost use Rattle.cpu.specs.State.{FitsRun};
 ghost use Rattle.cpu.specs.Chains.{cells_among};
 ghost use Rattle.cpu.specs.Links.{link, targets, sources};
 ghost use Rattle.cpu.specs.declared.spot.Spot.TheVariants as spot;
-ghost use Rattle.debugger.specs.Whys.{those_in, left_in, same_spot, has_spot, with_spots, reads, with_cells};
-ghost use Rattle.debugger.specs.Whys.{cells_before, cells_of};
+ghost use Rattle.origins.specs.Following.{those_in, left_in, same_spot, has_spot, with_spots, reads, with_cells};
+ghost use Rattle.origins.specs.Following.{cells_before, cells_of};
 
 use arrayvec::ArrayVec;
 use cpu::{Cell, CellSet, Machine, Processor, Spot};
@@ -23,26 +23,26 @@ const MOST_SPOTS: usize = 60;
 const CELL_COUNT: u16 = 0o5000;
 
 /// Cells that a step writes.
-pub(crate) type Targets = ArrayVec<Cell, MOST_TARGETS>;
+pub type Targets = ArrayVec<Cell, MOST_TARGETS>;
 
 /// Spots that a step reads.
-pub(crate) type Spots = ArrayVec<Spot, MOST_SPOTS>;
+pub type Spots = ArrayVec<Spot, MOST_SPOTS>;
 
 /// Cells, each once.
-pub(crate) type Cells = ArrayVec<Cell, 0o5000>;
+pub type Cells = ArrayVec<Cell, 0o5000>;
 
 /// A step of a chain.
 #[derive(Drop)]
-pub(crate) struct Link {
+pub struct Link {
     /// The cells that it writes, of those that were followed.
-    pub(crate) cells: Targets,
+    pub cells: Targets,
     /// What it reads for them.
-    pub(crate) spots: Spots,
+    pub spots: Spots,
 }
 
 /// What the next step of a machine writes of some cells, and what it reads for them. Those from which these come are
 /// followed on.
-pub(crate) fn link_of(processor: &Processor, machine: &Machine, pending: &mut CellSet) -> Link
+pub fn link_of(processor: &Processor, machine: &Machine, pending: &mut CellSet) -> Link
     requires { FitsRun processor.now.scenario machine.now }
     ensures cells { result.cells.items ≡ those_in (targets (link processor.now.scenario machine.now)) pending.old }
     ensures spots { result.spots.items ≡ reads (link processor.now.scenario machine.now) result.cells.items }
@@ -137,7 +137,7 @@ fn follow(pending: &mut CellSet, spots: &[Spot])
 }
 
 /// Cells as a set.
-pub(crate) fn all_among(cells: &[Cell]) -> CellSet
+pub fn all_among(cells: &[Cell]) -> CellSet
     ensures { result ≡ cells_among (map (λ c. spot.Cell c) cells.now) }
 {
     let mut among = CellSet::new();
@@ -150,7 +150,7 @@ pub(crate) fn all_among(cells: &[Cell]) -> CellSet
 }
 
 /// The cells among some spots.
-pub(crate) fn cells_among(spots: &[Spot]) -> CellSet
+pub fn cells_among(spots: &[Spot]) -> CellSet
     ensures { result ≡ cells_among spots.now }
 {
     let mut among = CellSet::new();
@@ -166,7 +166,7 @@ pub(crate) fn cells_among(spots: &[Spot]) -> CellSet
 }
 
 /// The cells of a set, in their order.
-pub(crate) fn cells_of(pending: &CellSet) -> Cells
+pub fn cells_of(pending: &CellSet) -> Cells
     ensures { result.items ≡ cells_of pending.now }
 {
     let mut cells = ArrayVec::new();

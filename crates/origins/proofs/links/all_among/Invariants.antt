@@ -1,7 +1,7 @@
 use Rattle.std.proofs.Common.{◌≡◌, ◌≤◌, drop, map, length}
 use Rattle.cpu.specs.Chains.{cells_among}
 use Rattle.cpu.specs.declared.spot.Spot.TheVariants.{Cell}
-use Rattle.debugger.proofs.links.all_among.Given as goal
+use Rattle.origins.proofs.links.all_among.Given as goal
 
 abbrev pub invariant-loop-left : goal.invariant-loop-left
 invariant-loop-left l = record {

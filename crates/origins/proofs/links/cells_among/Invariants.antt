@@ -1,6 +1,6 @@
 use Rattle.std.proofs.Common.{◌≡◌, ◌≤◌, drop, length}
 use Rattle.cpu.specs.Chains.{cells_among}
-use Rattle.debugger.proofs.links.cells_among.Given as goal
+use Rattle.origins.proofs.links.cells_among.Given as goal
 
 abbrev pub invariant-loop-left : goal.invariant-loop-left
 invariant-loop-left l = record {

@@ -1,9 +1,9 @@
 use Rattle.std.proofs.Common.{◌∙◌, ◌+◌, ◌++◌, ◌∷◌, [], ℕ, List, ap, sym, arith, rules}
 use Rattle.std.specs.FinSet.{contains}
-use Rattle.debugger.specs.Whys.{cells_of}
-use Rattle.debugger.proofs.CellNumbers.{counted, cells_start, cell_passed, cell_taken, cells_end, cell_is, has_cell_at}
-use Rattle.debugger.proofs.links.cells_of.Goals.{in-Some+then-contains, in-Some+else-contains, in_default}
-use Rattle.debugger.proofs.links.cells_of.Goals as goal
+use Rattle.origins.specs.Following.{cells_of}
+use Rattle.origins.proofs.CellNumbers.{counted, cells_start, cell_passed, cell_taken, cells_end, cell_is, has_cell_at}
+use Rattle.origins.proofs.links.cells_of.Goals.{in-Some+then-contains, in-Some+else-contains, in_default}
+use Rattle.origins.proofs.links.cells_of.Goals as goal
 
 pub loop-number-init : goal.loop-number-init
 loop-number-init c = record {

@@ -1,9 +1,9 @@
 use Rattle.std.proofs.Common.{◌≡◌, ◌≤◌, ◌++◌}
 use Rattle.std.specs.FinSet.{contains}
 use Rattle.arrayvec.specs.ArrayVec.{array_vec_len}
-use Rattle.debugger.specs.Whys.{cells_of}
-use Rattle.debugger.proofs.CellNumbers.{counted}
-use Rattle.debugger.proofs.links.cells_of.Given as goal
+use Rattle.origins.specs.Following.{cells_of}
+use Rattle.origins.proofs.CellNumbers.{counted}
+use Rattle.origins.proofs.links.cells_of.Given as goal
 
 abbrev pub invariant-loop-number : goal.invariant-loop-number
 invariant-loop-number l = record {

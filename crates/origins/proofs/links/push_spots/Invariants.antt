@@ -1,7 +1,7 @@
 use Rattle.std.proofs.Common.{◌≡◌, ◌≤◌, ◌+◌, drop}
 use Rattle.arrayvec.specs.ArrayVec.{array_vec_len}
-use Rattle.debugger.specs.Whys.{with_spots}
-use Rattle.debugger.proofs.links.push_spots.Given as goal
+use Rattle.origins.specs.Following.{with_spots}
+use Rattle.origins.proofs.links.push_spots.Given as goal
 
 abbrev pub invariant-loop-spot : goal.invariant-loop-spot
 invariant-loop-spot l = record {

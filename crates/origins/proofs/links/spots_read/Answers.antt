@@ -1,10 +1,10 @@
 use Rattle.std.proofs.Common.{arith, ◌∙◌, ap}
 use Rattle.cpu.specs.Links.{link}
 use Rattle.cpu.specs.declared.spot.Spot.{Spot}
-use Rattle.debugger.specs.Whys.{with_spots}
+use Rattle.origins.specs.Following.{with_spots}
 use Rattle.std.proofs.Common.{List}
-use Rattle.debugger.proofs.ChainText.{read_more}
-use Rattle.debugger.proofs.links.spots_read.Goals as goal
+use Rattle.origins.proofs.Followed.{read_more}
+use Rattle.origins.proofs.links.spots_read.Goals as goal
 
 pub loop-cell-preserved : goal.loop-cell-preserved
 loop-cell-preserved c = record {

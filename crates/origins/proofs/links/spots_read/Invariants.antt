@@ -3,8 +3,8 @@ use Rattle.std.specs.List.{flat_map}
 use Rattle.arrayvec.specs.ArrayVec.{array_vec_len}
 use Rattle.cpu.specs.Links.{link, sources}
 use Rattle.cpu.specs.declared.spot.Spot.TheVariants.{Cell}
-use Rattle.debugger.specs.Whys.{with_spots, reads}
-use Rattle.debugger.proofs.links.spots_read.Given as goal
+use Rattle.origins.specs.Following.{with_spots, reads}
+use Rattle.origins.proofs.links.spots_read.Given as goal
 
 abbrev pub invariant-loop-cell : goal.invariant-loop-cell
 invariant-loop-cell l = record {

@@ -1,7 +1,7 @@
 use Rattle.std.proofs.Common.{◌≡◌, ◌≤◌, ◌++◌, drop}
 use Rattle.arrayvec.specs.ArrayVec.{array_vec_len}
-use Rattle.debugger.specs.Whys.{those_in, left_in}
-use Rattle.debugger.proofs.links.take_out.Given as goal
+use Rattle.origins.specs.Following.{those_in, left_in}
+use Rattle.origins.proofs.links.take_out.Given as goal
 
 abbrev pub invariant-loop-cell : goal.invariant-loop-cell
 invariant-loop-cell l = record {
