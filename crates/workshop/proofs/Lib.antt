@@ -15,4 +15,3 @@ mod RunReached
 mod NotedSteps
 mod NotesWritten
 mod AccessCounts
-mod JudgedRuns

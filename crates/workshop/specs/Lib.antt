@@ -7,7 +7,6 @@ pub mod DifferRuns
 pub mod Checks
 pub mod Crossing
 pub mod Debugging
-pub mod Executed
 pub mod Expectations
 pub mod Failures
 pub mod Faults

@@ -13,7 +13,6 @@ mod delaying;
 mod differing;
 mod ending;
 mod engine;
-mod executed;
 mod expecting;
 mod fault;
 mod inputs;
