@@ -30,6 +30,7 @@ mod ClockRows
 mod ExtendedRows
 mod WhyRows
 mod WayRows
+mod NeverRows
 mod TailRows
 mod SurveyRows
 pub mod RequestNumbers
@@ -48,6 +49,7 @@ pub mod OutputsOnce
 pub mod Serving
 pub mod WhyEnds
 pub mod WayFound
+pub mod NeverFound
 pub mod Calling
 pub mod CallingInside
 pub mod LastFirst

@@ -24,6 +24,7 @@ mod link_texts;
 mod links;
 mod manner;
 mod marks;
+mod never;
 mod noted;
 mod retracing;
 mod routines;
