@@ -17,6 +17,21 @@ NAMED = {
     "34": ("why CH011 control", "WAY 6 BZF OFF TO 02,4007 OFF FROM A 000000"),
     "37": ("why TIME3", "BY 499 TIME3 PINC : TIME3 00012 FROM TIME3 00011"),
 }
+# Of places that the program never comes to, or not once more: what `never` tells of them, its first lines.
+NEVER = {
+    "05": ("HANDLER", "CAME 25\nINTERRUPT 5 INSIDE\n"),
+    "09": ("SHOW", "INTERRUPT 5 INHIBITED\n"),
+    "16": ("MINUS", "WAY 3 CCS 0100 TO 02,4005 FROM E0,0100 77766\nBY 2 TS 0100 : E0,0100 77766 FROM A 177766\n"),
+    "21": ("SAME", "WAY 3 CCS A TO 02,4006 FROM A 177777\n"),
+    "25": ("SHOW", "INTERRUPT 5 INHIBITED\n"),
+    "26": ("SHOW", "INTERRUPT 4 NOT ASKED\n"),
+    "28": ("SHOW", "INTERRUPT 5 NOT ASKED\n"),
+    "30": ("DONE", "WAY 1 TC WAITED TO 02,4005 WAITED FROM NOTHING\nALL\n"),
+    "31": ("DONE", "WAY 3000 CCS 0100 TO 02,4003 AGAIN +1 FROM E0,0100 00005\n"),
+    "33": ("LOOP", "CAME 3\nWAY 9 BZMF LOOP TO 02,4011 DONE FROM A 000003\n"),
+    "34": ("4005", "WAY 6 BZF OFF TO 02,4007 OFF FROM A 000000\n"),
+    "37": ("SHOW", "INTERRUPT 3 NOT ASKED\n"),
+}
 
 
 def part(text, sign):
@@ -76,6 +91,11 @@ class Planted(Case):
                     replies = subprocess.run([PROGRAM, "debug", "--extended", "my.agc", "my.feed"], input=f"run {STEPS}\n{asked}\n", capture_output=True, text=True, timeout=60, cwd=room).stdout
                     with self.subTest(f"{name}: is named by {asked}"):
                         self.assertIn(line, replies.splitlines())
+                if name[:2] in NEVER:
+                    place, told = NEVER[name[:2]]
+                    replies = subprocess.run([PROGRAM, "debug", "--extended", "my.agc", "my.feed"], input=f"run {STEPS}\necho .\nnever {place}\n", capture_output=True, text=True, timeout=60, cwd=room).stdout
+                    with self.subTest(f"{name}: never {place}"):
+                        self.assertTrue(replies.split("\n.\n", 1)[1].startswith(told), replies)
                 for way, tells_so in (("check", checked), ("notes", kinds), ("expect", fails), ("any", got)):
                     found[way] += bool(tells_so)
         with self.subTest("how many of 37 mistakes are told"):

@@ -435,6 +435,9 @@ With --extended there are these besides, and after E50 COMMAND stands why:
   why PLACE .. since T by steps from T on alone, and then MORE how many BEFORE T
   why step             WAY, the last choice before P and what it was made by;
   why PLACE control    the same of the step that wrote there last
+  never PLACE          CAME, the last step that executed the word there, then
+                       WAY, the last choice since that led away from there;
+                       or else what INTERRUPT leads there; or ON THE WAY
   trace K              a line for each of the last K steps up to P, as agcws
                        trace has it
   say K                the same in sentences, as agcws trace --say has it

@@ -42,7 +42,7 @@ use Rattle.commands.specs.declared.extended.ExtendedLine.{ExtendedLine}
 use Rattle.commands.specs.declared.extended.ExtendedLine.TheVariants.{Plain, Common, Says, Help, Breaks, ClearOne, On, AllRegisters, Until}
 use Rattle.commands.specs.declared.extended.ExtendedLine.TheVariants.{WhyStep, Why, Words, Where, Find, Trace, Inputs, Over, Out, Listed}
 use Rattle.commands.specs.declared.extended.ExtendedLine.TheVariants.{Values, Channels, Differs, WhySince, TailSteps, Survey, Say, WhatIf}
-use Rattle.commands.specs.declared.extended.ExtendedLine.TheVariants.{Calls, WhyWay, WhyControl, WhyInputs, WhyInterrupts}
+use Rattle.commands.specs.declared.extended.ExtendedLine.TheVariants.{Calls, WhyWay, WhyControl, WhyInputs, WhyInterrupts, Never}
 
 -- what is asked for adds nothing, or an input that a line can give
 abbrev pub AddsGivable : Command → Type 0
@@ -356,7 +356,14 @@ asked_adds symbols name = All-lookup AskedAdds (same_name name) (extended_forms 
                                                   (λ fs. mapped AskedGivable (λ k. Say k) (λ k. tt) (option_and_then count_in (sole fs))),
                                                   (
                                                     whatif_adds,
-                                                    (with_none_adds Calls tt, tt),
+                                                    (
+                                                      with_none_adds Calls tt,
+                                                      (
+                                                        (λ fs. mapped AskedGivable (λ place. Never place) (λ place. tt)
+                                                            (place_alone symbols fs)),
+                                                        tt,
+                                                      ),
+                                                    ),
                                                   ),
                                                 ),
                                               ),

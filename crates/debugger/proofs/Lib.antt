@@ -32,6 +32,7 @@ mod OriginRows
 pub mod LevelLines
 pub mod LevelsTold
 mod WayRows
+mod NeverRows
 mod TailRows
 mod SurveyRows
 pub mod RequestNumbers
@@ -50,6 +51,7 @@ pub mod OutputsOnce
 pub mod Serving
 pub mod WhyEnds
 pub mod WayFound
+pub mod NeverFound
 pub mod Calling
 pub mod CallingInside
 pub mod LastFirst

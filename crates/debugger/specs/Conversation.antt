@@ -14,7 +14,7 @@ use Rattle.commands.specs.declared.extended.ExtendedLine.{ExtendedLine}
 use Rattle.commands.specs.declared.extended.ExtendedLine.TheVariants.{Plain, Common, Says, Help, Breaks, ClearOne, On, AllRegisters, Until}
 use Rattle.commands.specs.declared.extended.ExtendedLine.TheVariants.{WhyStep, Why, Words, Where, Find, Trace, Inputs, Over, Out, Listed}
 use Rattle.commands.specs.declared.extended.ExtendedLine.TheVariants.{Values, Channels, Differs, WhySince, TailSteps, Survey, Say, WhatIf}
-use Rattle.commands.specs.declared.extended.ExtendedLine.TheVariants.{Calls, WhyWay, WhyControl, WhyInputs, WhyInterrupts}
+use Rattle.commands.specs.declared.extended.ExtendedLine.TheVariants.{Calls, WhyWay, WhyControl, WhyInputs, WhyInterrupts, Never}
 use Rattle.commands.specs.declared.command.ParsedLine.TheVariants.{Known}
 use Rattle.debugger.specs.declared.manner.Manner.{Manner}
 use Rattle.debugger.specs.declared.manner.Manner.TheVariants as manner
@@ -83,6 +83,7 @@ is_end WhyWay = false
 is_end (WhyControl subject) = false
 is_end (WhyInputs subject) = false
 is_end (WhyInterrupts subject) = false
+is_end (Never place) = false
 
 -- what a request brings, in terms and over the reference run of what runs now
 abbrev pub to_asked : Terms → ExtendedLine → Desk → Reply
@@ -121,7 +122,8 @@ abbrev pub link_effort : LinkLines → ℕ
 link_effort lines = index_effort lines.index
 
 -- how many times a request does, besides new ones: of `why` each link, and its last search once, or twice where it ends at a step; of the
--- last outputs each, and all steps twice; of `where` and `out` four times, of `calls` five; of a choice its search and its links
+-- last outputs each, and all steps twice; of `where` and `out` four times, of `calls` five; of a choice its search and its links, of `never` two
+-- searches and these
 abbrev pub effort : ExtendedLine → ℕ
 effort (WhyStep lines) = link_effort lines
 effort (Why subject k lines) = link_effort lines * k + 1
@@ -132,6 +134,7 @@ effort (Out k) = 4
 effort Calls = 5
 effort WhyWay = 105
 effort (WhyControl subject) = 107
+effort (Never place) = 107
 effort request = 3
 
 abbrev pub efforts : Reading → List (List ℕ) → ℕ

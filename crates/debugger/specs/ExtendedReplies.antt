@@ -14,7 +14,7 @@ use Rattle.commands.specs.declared.extended.ExtendedLine.{ExtendedLine}
 use Rattle.commands.specs.declared.extended.ExtendedLine.TheVariants.{Plain, Common, Says, Help, Breaks, ClearOne, On, AllRegisters, Until}
 use Rattle.commands.specs.declared.extended.ExtendedLine.TheVariants.{WhyStep, Why, Words, Where, Find, Trace, Inputs, Over, Out, Listed}
 use Rattle.commands.specs.declared.extended.ExtendedLine.TheVariants.{Values, Channels, Differs, WhySince, TailSteps, Survey, Say, WhatIf}
-use Rattle.commands.specs.declared.extended.ExtendedLine.TheVariants.{Calls, WhyWay, WhyControl, WhyInputs, WhyInterrupts}
+use Rattle.commands.specs.declared.extended.ExtendedLine.TheVariants.{Calls, WhyWay, WhyControl, WhyInputs, WhyInterrupts, Never}
 use Rattle.cpu.specs.Run.{run}
 use Rattle.debugger.specs.History.{History, in_manner}
 use Rattle.debugger.specs.declared.manner.Manner.TheVariants as manner
@@ -25,6 +25,7 @@ use Rattle.debugger.specs.Differs.{differs_text}
 use Rattle.debugger.specs.Whys.{subject_spots, why_text, last_text}
 use Rattle.debugger.specs.WhysSince.{since_text}
 use Rattle.debugger.specs.Ways.{control_text, way_text}
+use Rattle.debugger.specs.Nevers.{never_text}
 use Rattle.debugger.specs.Standing.{where_text, found_text, words_text, rows_text}
 use Rattle.debugger.specs.declared.rows.RowKind.TheVariants.{Instruction, Number}
 use Rattle.debugger.specs.Retracing.{traced_text}
@@ -145,4 +146,5 @@ extended_reply terms h d WhyWay = says (way_text terms.symbols d.scenario d.posi
 extended_reply terms h d (WhyControl subject) = says (control_text terms.symbols d.scenario d.position (subject_spots subject)) d
 extended_reply terms h d (WhyInputs subject) = tells_inputs terms.symbols subject d
 extended_reply terms h d (WhyInterrupts subject) = tells_interrupts subject d
+extended_reply terms h d (Never place) = says (never_text terms.symbols d.scenario place d.position) d
 extended_reply terms h d Calls = says (calls_text terms.symbols d.scenario d.position) d

@@ -24,6 +24,7 @@ pub mod WhyEnds
 pub mod Calling
 pub mod CallsTold
 pub mod Ways
+pub mod Nevers
 pub mod Followed
 pub mod ValueTold
 pub mod Routines

@@ -128,6 +128,7 @@ impl Desk {
             ExtendedLine::WhatIf(input, extent) => {
                 self.what_if(alloc, session, *input, *extent, out)
             }
+            ExtendedLine::Never(place) => self.never(session, symbols, place, out),
             ExtendedLine::Calls => write_all(out, self.calls(session, symbols).as_slice()),
         }
     }

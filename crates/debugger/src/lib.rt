@@ -23,6 +23,7 @@ mod laws;
 mod link_texts;
 mod manner;
 mod marks;
+mod never;
 mod noted;
 mod origins_told;
 mod retracing;

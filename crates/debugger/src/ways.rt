@@ -113,7 +113,7 @@ fn is_inside<K: Keeper>(session: &mut Session<K>, position: u64) -> bool
 }
 
 /// The choice that the step after so many was, and how what it was made by came to be what it was.
-fn tell_choice<K: Keeper, W: Write>(
+pub(crate) fn tell_choice<K: Keeper, W: Write>(
     session: &mut Session<K>,
     symbols: &Symbols,
     step: u64,

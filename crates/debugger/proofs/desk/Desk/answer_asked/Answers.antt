@@ -6,7 +6,7 @@ use Rattle.debugger.specs.Inputs.{inputs_text}
 use Rattle.debugger.specs.ExtendedReplies.{extended_reply}
 use Rattle.commands.specs.declared.extended.ExtendedLine.TheVariants.{Plain, Common, WhyStep, Why, Words, Where, Find, Trace, Inputs}
 use Rattle.commands.specs.declared.extended.ExtendedLine.TheVariants.{Listed, Values, Channels, Differs, WhySince, TailSteps, Survey, Say}
-use Rattle.commands.specs.declared.extended.ExtendedLine.TheVariants.{WhatIf, Calls, WhyWay, WhyControl, WhyInputs, WhyInterrupts}
+use Rattle.commands.specs.declared.extended.ExtendedLine.TheVariants.{WhatIf, Calls, WhyWay, WhyControl, WhyInputs, WhyInterrupts, Never}
 use Rattle.debugger.specs.Conversation.{to_asked, link_effort}
 use Rattle.debugger.specs.History.{history}
 use Rattle.debugger.specs.CallsTold.{calls_text}
@@ -24,6 +24,7 @@ use Rattle.debugger.specs.WhatIfs.{tries}
 use Rattle.debugger.specs.Whys.{why_text, last_text, subject_spots}
 use Rattle.debugger.specs.WhysSince.{since_text}
 use Rattle.debugger.specs.Ways.{control_text, way_text}
+use Rattle.debugger.specs.Nevers.{never_text}
 use Rattle.commands.specs.declared.command.ParsedLine.TheVariants.{Known}
 use Rattle.debugger.specs.declared.manner.Manner.TheVariants as manner
 use Rattle.debugger.specs.Executions.{to_request}
@@ -122,6 +123,15 @@ returns-in-WhyControl-clause-executes g c = λ told.
     (to_asked (terms c.args.symbols.now c.args.rows.now c.args.first_added) (WhyControl c.in-WhyControl.subject)) _ _ _ _
     (control_text c.args.symbols.now c.args.session.now.scenario c.args.self.now.position (subject_spots c.in-WhyControl.subject)) _ _
     (λ answers additions. rw (looked.scenario, looked.steps) refl) refl (c.why_control.ensures.writes told))
+
+pub returns-in-Never-clause-executes : goal.returns-in-Never-clause-executes
+unfolding extended_reply
+returns-in-Never-clause-executes g c = λ told.
+    let looked = c.never.ensures.looked in
+    rw c.in-Never.is (replies-text g.K.Keeper.may_refuse
+    (to_asked (terms c.args.symbols.now c.args.rows.now c.args.first_added) (Never c.in-Never.place)) _ _ _ _
+    (never_text c.args.symbols.now c.args.session.now.scenario c.in-Never.place c.args.self.now.position) _ _
+    (λ answers additions. rw (looked.scenario, looked.steps) refl) refl (c.never.ensures.writes told))
 
 pub returns-in-WhySince-clause-executes : goal.returns-in-WhySince-clause-executes
 unfolding extended_reply

@@ -1,0 +1,58 @@
+-- What kept a program from a place, worked out by hand.
+use Rattle.std.proofs.Common.{◌≡◌, ℕ, true, false, List, [], ◌∷◌, ◌++◌, None, Some, map, refl}
+use Rattle.std.specs.Prelude.{codes}
+use Rattle.std.specs.Fmt.{digits}
+use Rattle.std.specs.FinSet as set
+use Rattle.std.specs.Ordering.{nat_cmp}
+use Rattle.space.specs.declared.place.Linear.TheVariants.{Erasable, Fixed}
+use Rattle.cpu.specs.State.{State, start}
+use Rattle.debugger.specs.Nevers.{barred_text, came_text, kept_away, later}
+
+-- the second step, where it is later
+chosen : later None None ≡ None
+chosen = refl
+
+first_alone : later (Some 5) None ≡ None
+first_alone = refl
+
+after : later (Some 5) (Some 6) ≡ Some 6
+after = refl
+
+before : later (Some 5) (Some 4) ≡ None
+before = refl
+
+second_alone : later None (Some 4) ≡ Some 4
+second_alone = refl
+
+-- the step that came there last is told by its number
+comings : came_text (Some 6) ++ came_text None ≡ codes "CAME 7\n"
+unfolding digits
+comings = refl
+
+-- at the start interrupts are inhibited, and none is asked for; and where interrupt 3 is
+abbrev asked : State
+asked = record start { requests = set.insert set.empty 3 }
+
+none_asked : kept_away None start (Some 3) ≡ codes "INTERRUPT 3 NOT ASKED\n"
+unfolding start digits
+none_asked = refl
+
+inhibited : kept_away None asked (Some 3) ++ kept_away (Some 6) asked (Some 3) ≡ codes "INTERRUPT 3 INHIBITED\nINTERRUPT 3 INHIBITED\n"
+unfolding start digits
+inhibited = refl
+
+another : kept_away None asked (Some 10) ≡ codes "INTERRUPT 10 NOT ASKED\n"
+unfolding start digits
+another = refl
+
+served : kept_away None (record asked { inside = true }) (Some 3) ≡ codes "INTERRUPT 3 INSIDE\n"
+unfolding start digits
+served = refl
+
+free : kept_away None (record asked { inhibit = false }) (Some 3) ≡ codes "INTERRUPT 3 ASKED\n"
+unfolding start digits
+free = refl
+
+-- no entry leads there: that no choice led away is told where no step came there
+nothing : kept_away None start None ++ kept_away (Some 6) start None ≡ codes "NO CHOICE LED AWAY\n"
+nothing = refl
