@@ -13,8 +13,8 @@ returns-in_err-write_all-clause-writes g c = λ told.
     let within : c.loop-line.line-index < length c.args.lines.now = omega arith in
     let tell = origin_lines c.args.symbols.now c.args.processor.now.scenario.rope c.args.kind in
     let more = drop (c.loop-line.line-index + 1) c.args.lines.now in
-    let split : drop c.loop-line.line-index c.args.lines.now ≡ c.line-item.result.now ∷ more =
-    drop_more c.args.lines.now c.loop-line.line-index c.line-item.result.now within ∙ ap (λ w. w ∷ more) (sym c.line-item.is) in
+    let split : drop c.loop-line.line-index c.args.lines.now ≡ c.line-item.result ∷ more =
+    drop_more c.args.lines.now c.loop-line.line-index c.line-item.result within ∙ ap (λ w. w ∷ more) (sym c.line-item.is) in
     let p = err_from_is_err_and c.from_residual.result c.from_residual.ensures.1 in
     rw p.1 (left_broken _ _ _ _ c.as_slice.result.now (tell more) _ (c.loop-line.invariant.written told)
     (ap tell split ∙ ap (λ (y : List ℕ). y ++ tell more) (sym (c.as_slice.ensures.value ∙ c.origin_text.ensures)))
@@ -25,8 +25,8 @@ loop-line-preserved g c =
     let within : c.loop-line.line-index < length c.args.lines.now = omega arith in
     let tell = origin_lines c.args.symbols.now c.args.processor.now.scenario.rope c.args.kind in
     let more = drop (c.loop-line.line-index + 1) c.args.lines.now in
-    let split : drop c.loop-line.line-index c.args.lines.now ≡ c.line-item.result.now ∷ more =
-    drop_more c.args.lines.now c.loop-line.line-index c.line-item.result.now within ∙ ap (λ w. w ∷ more) (sym c.line-item.is) in
+    let split : drop c.loop-line.line-index c.args.lines.now ≡ c.line-item.result ∷ more =
+    drop_more c.args.lines.now c.loop-line.line-index c.line-item.result within ∙ ap (λ w. w ∷ more) (sym c.line-item.is) in
     record {
       failures = c.in_ok-write_all.ensures.failures ∙ c.loop-line.invariant.failures;
       written = λ told. left_less _ _ _ _ c.as_slice.result.now (tell more) _ (c.loop-line.invariant.written told)
