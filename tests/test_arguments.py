@@ -64,6 +64,7 @@ delays --image --symbols five.lst OPTIONS IMAGE good.feed 9
 whatif --image OPTIONS IMAGE good.feed 9 good.feed
 whatif --image --symbols five.lst OPTIONS IMAGE good.feed 9 good.feed
 differ --image OPTIONS IMAGE good.feed 9 --with IMAGE good.feed
+differ --image --why 3 OPTIONS IMAGE good.feed 9 --with IMAGE good.feed
 differ --image --symbols five.lst OPTIONS IMAGE good.feed 9 --with IMAGE good.feed
 debug --image OPTIONS IMAGE good.feed
 debug --image --symbols five.lst OPTIONS IMAGE good.feed
@@ -110,6 +111,9 @@ LAYOUTS = [
     ("all.rope", f"--form {ALL_PARTS}"),
     ("all_one.rope", f"--rope 1 --form {ALL_PARTS}"),
     ("all_wrong.rope", f"--parity ignore --form {ALL_PARTS}"),
+    ("module.rope", "--form module1"),
+    ("module.rope", "--parity ignore --form module1"),
+    ("module_all.rope", "--rope 1 --form hardware,swapped,complemented,module1"),
     ("octals.txt", ""),
     ("octals.txt", "--rope 1"),
     ("octals.txt", "--parity ignore"),
@@ -223,6 +227,9 @@ class Arguments(Case):
             write(f"{folder}/{turn.__name__}.rope", turn(five))
         for name, image in (("all", five), ("all_one", one), ("all_wrong", turned(five, 3, 1))):
             write(f"{folder}/{name}.rope", numbered(complemented(swapped(hardware(image)))))
+        # its words stand in the first of six modules
+        write(f"{folder}/module.rope", numbered(five)[:12288])
+        write(f"{folder}/module_all.rope", numbered(complemented(swapped(hardware(one))))[:12288])
         write(f"{folder}/octals.txt", self.call("words --octal five.rope")[1])
 
     def call(self, words):

@@ -57,10 +57,15 @@ def image_of(pairs):
     return b"".join(pair.to_bytes(2, "big") for entry in range(BANKS) for pair in pairs[ENTRY.get(entry, entry)])
 
 
+def turned_by(names, pair):
+    """Two bytes as they stand in a form."""
+    turns = [turn for name, turn in (("hardware", of_hardware), ("swapped", bytes_exchanged), ("complemented", lambda it: it ^ 0o177777)) if name in names]
+    return functools.reduce(lambda it, turn: turn(it), turns, pair)
+
+
 def in_form(names, pairs):
     """The bytes of an image in a form: its parts by their names."""
-    turns = [turn for name, turn in (("hardware", of_hardware), ("swapped", bytes_exchanged), ("complemented", lambda pair: pair ^ 0o177777)) if name in names]
-    banks = [[functools.reduce(lambda pair, turn: turn(pair), turns, pair) for pair in bank] for bank in pairs]
+    banks = [[turned_by(names, pair) for pair in bank] for bank in pairs]
     return image_of(banks[2:4] + banks[:2] + banks[4:] if "numbered" in names else banks)
 
 
@@ -75,14 +80,35 @@ def place(bank, offset):
 
 def told_of(pairs):
     """What is damaged in an image, by its banks of pairs of bytes."""
-    order = order_of(pairs)
-    if order:
-        return [order, "COUNT 1"]
-    even = sum(bin(pair).count("1") % 2 == 0 for bank in pairs for pair in bank)
-    right = 0 if even > BANKS * WORDS // 2 else 1
+    ways = standing(pairs)
+    if ways:
+        return [*ways, f"COUNT {len(ways)}"]
+    right = parity_of(pairs)
     lines = ["PARITY THE OTHER WAY ROUND"] if right == 0 else []
     rows = [told_of_bank(pairs, bank, right) for bank in range(BANKS)]
-    return lines + [line for row in rows for line in row] + [f"COUNT {sum(map(bool, rows)) + (right == 0)}"]
+    for module in range(0, BANKS, 6):
+        lines += told_of_module(pairs, module, right) or [line for row in rows[module : module + 6] for line in row]
+    return [*lines, f"COUNT {sum(map(bool, rows)) + (right == 0)}"]
+
+
+def is_one_word(bank):
+    return len({pair >> 1 for pair in bank}) == 1
+
+
+def parity_of(pairs):
+    """The number of one bits of two bytes that is right: odd, or even where most words that stand in banks of more than one word have it."""
+    counted = [pair for bank in pairs if not is_one_word(bank) for pair in bank]
+    return 0 if 2 * sum(bin(pair).count("1") % 2 == 0 for pair in counted) > len(counted) else 1
+
+
+def told_of_module(pairs, first, right):
+    """The line of six banks that hold one word alone, or nothing."""
+    banks = pairs[first : first + 6]
+    wrong = [sum(bin(pair).count("1") % 2 != right for pair in bank) for bank in banks]
+    word = banks[0][0] >> 1
+    if any(pair >> 1 != word for bank in banks for pair in bank) or (word == 0 and 0 in wrong):
+        return []
+    return [f"BANKS {first:02o} TO {first + 5:02o} ALL {word:05o}" + (f", {sum(wrong)} OF WRONG PARITY" if any(wrong) else "")]
 
 
 def bytes_exchanged(pair):
@@ -105,18 +131,20 @@ ORDERS = [
 ]
 
 
-def order_of(pairs):
-    """The line of the order in which an image stands, or nothing."""
-    alike = [bank[0] >> 1 for bank in pairs if len({pair >> 1 for pair in bank}) == 1]
-    if 0o77777 in alike and 0 not in alike:
-        return "ALL BITS COMPLEMENTED"
-    held = [sum(len({pair >> 1 for pair in bank}) > 1 and holds(number, [order(pair) >> 1 for pair in bank]) for number, bank in enumerate(pairs)) for order in (lambda pair: pair, *(it for _, it in ORDERS))]
-    best = max(held)
-    if held[0] < best:
-        return ORDERS[held.index(best) - 1][0]
-    first = [[pair >> 1 for pair in bank] for bank in pairs[:4]]
-    sums = [len(set(words)) == 1 or holds((bank + 2) % 4, words) for bank, words in enumerate(first)]
-    return "BANKS BY THEIR NUMBERS" if all(sums) and any(len(set(words)) > 1 for words in first) else ""
+def standing(pairs):
+    """The lines that tell how an image stands otherwise than as written."""
+    orders = [lambda pair: pair, *(it for _, it in ORDERS)]
+    held = [sum(not is_one_word(bank) and holds(number, [order(pair) >> 1 for pair in bank]) for number, bank in enumerate(pairs)) for order in orders]
+    best = 0 if held[0] == max(held) else held.index(max(held))
+    words = [[orders[best](pair) >> 1 for pair in bank] for bank in pairs]
+    lines = [ORDERS[best - 1][0]] if best else []
+    extends, others = (sum(bank.count(word) for bank in words) for word in (0o6, 0o77771))
+    right = parity_of(pairs)
+    alike = [bank[0] for bank, bytes_of in zip(words, pairs) if len(set(bank)) == 1 and all(bin(pair).count("1") % 2 == right for pair in bytes_of)]
+    if others > extends + 32 or (extends <= others + 32 and 0o77777 in alike and 0 not in alike):
+        lines.append("ALL BITS COMPLEMENTED")
+    first = [is_one_word(pairs[bank]) or holds((bank + 2) % 4, words[bank]) for bank in range(4)]
+    return lines + (["BANKS BY THEIR NUMBERS"] if all(first) and not all(map(is_one_word, pairs[:4])) else [])
 
 
 def told_of_bank(pairs, bank, right):
@@ -128,7 +156,11 @@ def told_of_bank(pairs, bank, right):
         return [] if not wrong and not words[0] else [f"{name} ALL {words[0]:05o}" + (f", {len(wrong)} OF WRONG PARITY" if wrong else "")]
     dead = [bit for bit in range(10) if all(word == words[offset & ~(1 << bit)] for offset, word in enumerate(words))]
     if dead:
-        return [f"{name} ADDRESS BIT {dead[-1] + 1} MAKES NO DIFFERENCE"]
+        bit = 1 << dead[-1]
+        loops = [offset & bit for offset in range(WORDS - 1) if offset & bit == offset + 1 & bit and all(words[it] == (PLACE.get(bank, 0o2000) + it) for it in (offset, offset + 1))]
+        is_known = len(set(loops)) == 1 and not wrong
+        way = f"ALWAYS {int(loops[0] > 0)}" if is_known else "MAKES NO DIFFERENCE"
+        return [f"{name} ADDRESS BIT {dead[-1] + 1} {way}" + (f", {len(wrong)} OF WRONG PARITY" if wrong else "")]
     if not wrong:
         return [] if holds(bank, words) else [f"{name} {by_sum(pairs, bank, words)}"]
     is_blank = not any(word for offset, word in enumerate(words) if offset not in set(wrong))
@@ -258,6 +290,8 @@ class Damages(Case):
         for bit in (1, 7, 10):
             dead = [whole[bank][it & ~(1 << bit - 1)] for it in range(WORDS)]
             self.names(f"address bit {bit}", changed(whole, bank, dead), [f"{name} ADDRESS BIT {bit} MAKES NO DIFFERENCE", "COUNT 1"])
+        self.address_bits(whole, bank)
+        self.modules(whole)
         self.names("a bank of ones", changed(whole, bank, [0o177777 - 1] * WORDS), [f"{name} ALL 77777", "COUNT 1"])
         self.names("a bank without bytes", changed(whole, bank, [0] * WORDS), [f"{name} ALL 00000, 1024 OF WRONG PARITY", "COUNT 1"])
         self.names("all bits the other way round", [[pair ^ 0o177777 for pair in pairs] for pairs in whole], ["ALL BITS COMPLEMENTED", "COUNT 1"])
@@ -268,8 +302,46 @@ class Damages(Case):
         blank[offset] ^= 8
         self.names("a bit in an empty bank", changed(whole, 30, blank), [f"{place(30, offset)} 00004 HAS WRONG PARITY", "COUNT 1"])
 
+    def address_bits(self, whole, bank):
+        """A broken address line in a bank that ends with two TC to themselves: which half of it is there is told if that half has both."""
+        name, first = f"BANK {bank:02o}", [pair >> 1 for pair in whole[bank][:700]]
+        words = first + [0o2000 + 700, 0o2000 + 701]
+        (checked,) = pairs_of([words + [with_number(bank, total(words))] + [0] * (WORDS - 703)])
+        self.names("a bank with check words", changed(whole, bank, checked), ["COUNT 0"])
+        # 700 is 01274 and 701 is 01275: both have bits 3, 4, 5, 6, 8 and 10, neither 2, 7 and 9, and they differ in bit 1
+        for bit in range(1, 11):
+            for value in (0, 1):
+                dead = [checked[it & ~(1 << bit - 1) | value << bit - 1] for it in range(WORDS)]
+                is_there = bit > 1 and (700 >> bit - 1 & 1) == value
+                way = f"ALWAYS {value}" if is_there else "MAKES NO DIFFERENCE"
+                self.names(f"address bit {bit} always {value}", changed(whole, bank, dead), [f"{name} ADDRESS BIT {bit} {way}", "COUNT 1"])
+        both = [checked[it & ~0o100] | checked[it | 0o100] for it in range(WORDS)]
+        wrong = sum(bin(pair).count("1") % 2 == 0 for pair in both)
+        self.names("two words read as one", changed(whole, bank, both), [f"{name} ADDRESS BIT 7 MAKES NO DIFFERENCE, {wrong} OF WRONG PARITY", "COUNT 1"])
+
+    def modules(self, whole):
+        """A module that is lost is told in one line, and turns no parity; nor is a rope without empty banks taken for complemented by it."""
+        full = pairs_of(rope(65, 36))
+        for pair, word in ((0, 0), (0o177777, 0o77777), (0o177776, 0o77777), (0o125252, 0o52525)):
+            wrong = ", 6144 OF WRONG PARITY" if bin(pair).count("1") % 2 == 0 else ""
+            for module in range(6):
+                lost = full[: 6 * module] + [[pair] * WORDS] * 6 + full[6 * module + 6 :]
+                self.names(f"module {module + 1} of {pair:06o}", lost, [f"BANKS {6 * module:02o} TO {6 * module + 5:02o} ALL {word:05o}{wrong}", "COUNT 6"])
+            if pair == 0o177776:
+                continue
+            alone = [[pair] * WORDS] * 6 + full[6:12] + [[pair] * WORDS] * 24
+            lines = [f"BANKS {first:02o} TO {first + 5:02o} ALL {word:05o}{wrong}" for first in (0, 12, 18, 24, 30)]
+            self.names(f"all modules but one of {pair:06o}", alone, [*lines, "COUNT 30"])
+        nothing = [f"BANKS {first:02o} TO {first + 5:02o} ALL 00000, 6144 OF WRONG PARITY" for first in range(0, 36, 6)]
+        self.names("bytes of zeros alone", [[0] * WORDS] * BANKS, [*nothing, "COUNT 36"])
+        self.names("a rope without a word", [[1] * WORDS] * BANKS, ["COUNT 0"])
+        self.names("all bits of a full rope", [[pair ^ 0o177777 for pair in bank] for bank in full], ["ALL BITS COMPLEMENTED", "COUNT 1"])
+        mixed = whole[:30] + [[0] * WORDS, [1] * WORDS, [0] * WORDS, [0o177777] * WORDS, [0] * WORDS, [0] * WORDS]
+        lines = [f"BANK {bank:02o} ALL {word}, 1024 OF WRONG PARITY" for bank, word in ((30, "00000"), (32, "00000"), (33, "77777"), (34, "00000"), (35, "00000"))]
+        self.names("a module of empty and lost banks", mixed, [*lines, "COUNT 5"])
+
     def other_forms(self, banks):
-        """An image in each form has the words that it has as written, and its damages."""
+        """An image in each form has the words that it has as written, and its damages; which form it has is told."""
         pairs = pairs_of(banks)
         pairs[12][0o137] ^= 8
         wanted = told_of(pairs)
@@ -282,23 +354,54 @@ class Damages(Case):
         ran = self.ran("words", "--octal", "--form", ",".join(PARTS), self.path)
         with self.subTest("octal words of an image in another form"):
             self.assertEqual((ran.returncode, ran.stdout, ran.stderr), (0, octals_of(banks), ""), ran.stdout[:80] + ran.stderr)
-        for names in ("", "numbered,swapped", "hardware,hardware", "written", "module"):
+        for names in itertools.chain.from_iterable(itertools.combinations(PARTS, count) for count in range(1, 5)):
+            wanted = ["BYTES EXCHANGED"] if "swapped" in names else []
+            wanted = [", ".join(wanted + ["BITS IN THE ORDER OF THE HARDWARE"])] if "hardware" in names else wanted
+            wanted += ["ALL BITS COMPLEMENTED"] if "complemented" in names else []
+            wanted += ["BANKS BY THEIR NUMBERS"] if "numbered" in names else []
+            got = self.lines_of(in_form(names, pairs))
+            with self.subTest(f"damages: told of the form {names}"):
+                self.assertEqual(got, [*wanted, f"COUNT {len(wanted)}"])
+        with open(self.path, "wb") as file:
+            file.write(in_form(PARTS, pairs_of(banks)))
+        for names in ("", "numbered,swapped", "hardware,hardware", "written", "module", "module0", "module7", "numbered,module1", "module1,module2"):
             with self.subTest(f"the form {names}"):
                 self.assertEqual(self.ran("words", "--form", names, self.path).returncode, 2)
 
     def one_module(self, banks):
-        """One module of six banks alone, with zeros before and behind it, as the manual has it, has the words of its banks, and no others."""
+        """A module of six banks alone, in each form, has the words of its banks, and no others; under another number it has the sums of its own."""
         pairs = pairs_of(banks)
         for number in range(6):
-            bytes_of = b"".join(pair.to_bytes(2, "big") for bank in pairs[6 * number : 6 * number + 6] for pair in bank)
-            with open(f"{self.path}.module", "wb") as file:
-                file.write(bytes_of)
-            joined = f"{{ head -c $((12288 * {number})) /dev/zero; cat {self.path}.module; head -c $((12288 * (5 - {number}))) /dev/zero; }} > {self.path}"
-            subprocess.run(["bash", "-c", joined], check=True, timeout=60)
-            ran = self.ran("words", "--octal", "--parity", "ignore", "--form", "numbered", self.path)
+            module = pairs[6 * number : 6 * number + 6]
             wanted = octals_of([words if bank // 6 == number else [0] * WORDS for bank, words in enumerate(banks)])
-            with self.subTest(f"module {number} alone"):
-                self.assertEqual((ran.returncode, ran.stdout, ran.stderr), (0, wanted, ""), ran.stdout[:80] + ran.stderr)
+            for names in itertools.chain.from_iterable(itertools.combinations(PARTS[:3], count) for count in range(4)):
+                form = ",".join([*names, f"module{number + 1}"])
+                with open(self.path, "wb") as file:
+                    file.write(b"".join(turned_by(names, pair).to_bytes(2, "big") for bank in module for pair in bank))
+                ran = self.ran("words", "--octal", "--form", form, self.path)
+                with self.subTest(f"the form {form}"):
+                    self.assertEqual((ran.returncode, ran.stdout, ran.stderr), (0, wanted, ""), ran.stdout[:80] + ran.stderr)
+                ran = self.ran("damages", "--form", form, self.path)
+                with self.subTest(f"damages: the form {form}"):
+                    self.assertEqual((ran.returncode, ran.stdout, ran.stderr), (0, "COUNT 0\n", ""))
+            with open(self.path, "wb") as file:
+                file.write(b"".join((pair & 0xFFFE).to_bytes(2, "big") for bank in module for pair in bank))
+            for options in (("--parity", "ignore"), ("--rope", "1")):
+                ran = self.ran("words", "--octal", *options, "--form", f"module{number + 1}", self.path)
+                with self.subTest(f"module {number + 1} alone without parity by {options}"):
+                    self.assertEqual((ran.returncode, ran.stdout, ran.stderr), (0, wanted, ""), ran.stdout[:80] + ran.stderr)
+            ran = self.ran("sums", "--rope", "1", "--form", "module6", self.path)
+            with self.subTest(f"the sums of module {number + 1} under another number"):
+                lines = ran.stdout.splitlines()[30:]
+                wanted_sums = [f"{bank + 30:02o} {total(banks[6 * number + bank]):05o}" for bank in range(6)]
+                self.assertEqual((ran.returncode, lines), (0, wanted_sums))
+        whole = image_of(pairs)
+        for length, error in ((0, "E3"), (12_287, "E3"), (12_289, "E4"), (len(whole), "E4")):
+            with open(self.path, "wb") as file:
+                file.write(whole[:length])
+            ran = self.ran("words", "--form", "module3", self.path)
+            with self.subTest(f"a module of {length} bytes"):
+                self.assertEqual((ran.returncode, ran.stdout, ran.stderr), (1, "", f"agcws: {error}\n"))
 
     def octal_texts(self, banks):
         """A text of octal words is taken for the image of its words; a line of another form is told."""

@@ -60,11 +60,88 @@ REST    DXCH    ARUPT
         RESUME
 ONE     OCT     1
 """
+# Tests what its interrupt sets: CCS leaves 0 in A of 1 and of 0. TCF NEXT is step 3, at cycle 3. A key then is step 4, its interrupt steps 5 to 11, of which 8 is
+# TS FLAG, so that CCS is step 12 and TCF SET 13; without it CCS is step 4, and TCF CLEAR 5.
+TESTS = """\
+ARUPT   EQUALS  10
+        SETLOC  100
+FLAG    ERASE
+KEPT    ERASE
+        SETLOC  4000
+        TCF     START
+        SETLOC  4024
+        DXCH    ARUPT
+        CA      ONE
+        TS      FLAG
+        TCF     REST
+        SETLOC  4100
+START   RELINT
+        TCF     NEXT
+NEXT    CCS     FLAG
+        TCF     SET
+        TCF     CLEAR
+SET     CA      ONE
+        TS      KEPT
+DONE    TCF     DONE
+CLEAR   CS      ONE
+        TS      KEPT
+        TCF     DONE
+REST    DXCH    ARUPT
+        RESUME
+ONE     OCT     1
+"""
 KEY = "CHAN 15 22\n"
+
+
+def number(text):
+    """The number of a step, or None."""
+    return int(text) if text.isdigit() else None
 
 
 class Differ(Case):
     """Pairs of runs, and calls that are refused."""
+
+    def whys(self, words, wanted):
+        """Compares what `differ --why` tells below each of the three: cells with the steps that wrote them, and at last where the runs part, or MORE."""
+        ran = subprocess.run([PROGRAM, "differ", "--why", *words], capture_output=True, timeout=300)
+        told, lines = [], iter(it.split() for it in ran.stdout.decode().splitlines())
+        for line in lines:
+            if line[0] in ("FIRST", "NO"):
+                told.append([])
+            elif line[0] == "WHY":
+                told[-1].append((line[1], number(next(lines)[0]), number(next(lines)[0])))
+            elif line[0] == "PART":
+                told[-1].append((number(line[2]), number(line[4])))
+            elif line[0] == "MORE":
+                told[-1].append("MORE")
+        with self.subTest(f"differ --why {words}"):
+            self.assertEqual((ran.returncode, ran.stderr, told), (0, b"", wanted))
+        # (without --why the rest is told alone)
+        plain = subprocess.run([PROGRAM, "differ", *words[1:]], capture_output=True, timeout=300).stdout.decode().splitlines()
+        left = [it for it in ran.stdout.decode().splitlines() if it in plain]
+        with self.subTest(f"differ without --why {words}"):
+            self.assertEqual([it for it in left if "READS" not in it], plain)
+
+    def try_whys(self, lost, tick, mended, empty):
+        """Back from the wrong sum to A, which the interrupt has written: each round is TS SUM, AD TABLE, CA SUM."""
+        cells = ["CH012", "A", *["SUM", "A", "A"] * 3, "SUM", "A"]
+        one = [47, 45, 43, 42, 40, 36, 35, 33, 29, 28, 26, 22, 20]
+        # without a tick each is five steps earlier; the mended one has a step less in its interrupt. The last is AD TABLE +3, before the interrupt
+        for other, feed, steps, state in ((lost, empty, [*(it - 5 for it in one[:-1]), 16], ("A", 14, 16)), (mended, tick, [*(it - 1 for it in one[:-1]), 17], ("A", 19, 17))):
+            output = list(zip(cells, one, steps))
+            part = (one[-1], steps[-1])
+            self.whys(["16", lost, tick, "60", "--with", other, feed], [[*output, part], [state, state[1:]], [*output[-2:], part]])
+            self.whys(["13", lost, tick, "60", "--with", other, feed], [[*output, part], [state, state[1:]], [*output[-2:], part]])
+            self.whys(["12", lost, tick, "60", "--with", other, feed], [[*output[:12], "MORE"], [state, state[1:]], [*output[-2:], part]])
+            self.whys(["1", lost, tick, "60", "--with", other, feed], [[output[0], "MORE"], [state, state[1:]], [output[-2], "MORE"]])
+        self.whys(["999", lost, tick, "46", "--with", mended, tick], [[], [("A", 19, 17), (19, 17)], [*list(zip(cells, one, [it - 1 for it in one]))[-2:-1], ("A", 20, 17), (20, 17)]])
+        self.whys(["16", lost, tick, "60", "--with", lost, tick], [[], [], []])
+
+    def try_branch(self, empty):
+        """Back from a branch to what it has tested."""
+        source, key = write(f"{self.room}/tests.agc", TESTS.encode()), write(f"{self.room}/tests.feed", f"3 {KEY}".encode())
+        self.whys(["16", source, key, "40", "--with", source, empty], [[], [("Z", 3, 4), (3, 4)], [("Z", 12, 4), ("FLAG", 8, None), (8, None)]])
+        self.whys(["16", source, empty, "40", "--with", source, key], [[], [("Z", 4, 3), (4, 3)], [("Z", 4, 12), ("FLAG", None, 8), (None, 8)]])
 
     def test_pairs(self):
         """The three pairs of runs of which one part or none differs, what one run has alone, and what is refused."""
@@ -101,6 +178,7 @@ class Differ(Case):
         with self.subTest("a word that the other has not"):
             self.assertEqual([it[:1] for it in lines[:3]], [["FIRST"], ["46"], ["NONE"]])
 
+        self.try_whys(lost, tick, mended, empty)
         source = write(f"{self.room}/keeps_not.agc", KEEPS_NOT.encode())
         early, late = (write(f"{self.room}/key_at_{it}.feed", f"{it} {KEY}".encode()) for it in (3, 8))
         lines = differ(source, early, 40, source, empty)
@@ -111,6 +189,8 @@ class Differ(Case):
         kept = ("02,4104", "22100", "QXCH", "RTRN")
         with self.subTest("the step that keeps the lost Q"):
             self.assertEqual([[*it[:1], *it[2:6], it[-1]] for it in lines[5:]], [["15", *kept, "RTRN=00003"], ["5", *kept, "RTRN=04102"]])
+        # (the word at Q is that of 4110; the other's Q is of TC SUB)
+        self.whys(["16", source, early, "40", "--with", source, empty], [[], [("Z", 3, 4), (3, 4)], [("RTRN", 15, 5), ("Q", 11, 3), (11, 3)]])
         with self.subTest("a key that spoils nothing"):
             self.assertEqual(differ(source, late, 40, source, empty)[-1], "NO STEP DIFFERS IN 40 STEPS".split())
         none = [f"NO {it} DIFFERS IN 40 STEPS".split() for it in ("OUTPUT", "STATE", "STEP")]
@@ -124,7 +204,9 @@ class Differ(Case):
             with self.subTest("rounds of waiting"):
                 self.assertEqual([lines[0], lines[-1]], ["NO OUTPUT DIFFERS IN 90 STEPS".split(), "NO STEP DIFFERS IN 90 STEPS".split()])
 
-        for words, error in (((lost, "none.feed", "9", "--with", lost, tick), (3, b"agcws: E6\n")), ((lost, tick, "9", "--with", "none.agc", tick), (3, b"agcws: E6\n")), ((lost, tick, "9", "--with", lost, f"{EXAMPLES}/five_plus_five.agc"), (1, b"agcws: E30 LINE 2\n"))):
+        self.try_branch(empty)
+        wrong = write(f"{self.room}/frob.agc", b" FROB 1\n")
+        for words, error in (((lost, "none.feed", "9", "--with", lost, tick), (3, b"agcws: E6\n")), ((lost, tick, "9", "--with", "none.agc", tick), (3, f"none.agc or {tick}: E6\n".encode())), ((lost, tick, "9", "--with", lost, f"{EXAMPLES}/five_plus_five.agc"), (1, f"{EXAMPLES}/five_plus_five.agc: E30 LINE 2\n".encode())), ((lost, tick, "9", "--with", wrong, tick), (1, f"{wrong}: E15 LINE 1\n".encode())), ((wrong, tick, "9", "--with", lost, tick), (1, b"agcws: E15 LINE 1\n")), ((lost, tick, "9", "--with", lost, self.room), (3, f"{lost} or {self.room}: E6\n".encode()))):
             ran = subprocess.run([PROGRAM, "differ", *words], capture_output=True, timeout=300)
             with self.subTest(f"differ of {words} is refused"):
                 self.assertEqual((ran.returncode, ran.stderr, ran.stdout), (*error, b""), f"{ran.returncode} {ran.stderr} {ran.stdout}")

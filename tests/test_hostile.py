@@ -338,6 +338,7 @@ class Memory(HostileCase):
             agcws(*words)
         names = ("--symbols", write(f"{self.room}/names", agcws("asm", source, new)[1]))
         octals = write(f"{self.room}/octals", agcws("words", "--octal", new)[1])
+        module = write(f"{self.room}/module", b"\xfd\xff" * 6144)
         trials = write(f"{self.room}/trials", b"3 RUPT 2\n3 CHAN 15 21\n60 TIME3 PINC\n")
         sessions_of = {"debug": ("debug", source, feed), "debug --image": ("debug", "--image", new, feed), "debug --extended": ("debug", "--extended", source, feed), "debug --flight": ("debug", "--extended", "--flight", DOWNLIST, feed), "debug with names": ("debug", "--image", *names, new, feed)}
         calls = {
@@ -373,6 +374,7 @@ class Memory(HostileCase):
             "words as a source with names": ("words", "--source", *names, new, "02"),
             "words in octal": ("words", "--octal", new),
             "words of octal words": ("words", octals, "02"),
+            "words of a module": ("words", "--rope", "1", "--form", "hardware,swapped,complemented,module3", module, "14"),
             "words of all forms": ("words", "--rope", "1", "--form", "hardware,swapped,complemented,numbered", old, "02"),
             "words with names": ("words", *names, new, "02"),
             "trace with names": ("trace", "--image", *names, new, feed, "300"),
@@ -841,6 +843,12 @@ class Sizes(HostileCase):
                 error = b"E3" if length < IMAGE_BYTES else b"E4"
                 with self.subTest(f"sizes: {words[0]} of an image of {length} bytes"):
                     self.assertEqual(in_bounds(words), (1, b"", refused(words, image, error)))
+            for form in ("module1", "hardware,swapped,complemented,module6"):
+                error = b"E3" if length < 12_288 else b"E4"
+                wanted = (1, b"", b"agcws: " + error + b"\n")
+                with self.subTest(f"sizes: {form} of {length} bytes"):
+                    answer = in_bounds(("damages", "--form", form, image))
+                    self.assertTrue(answer == wanted or (length == 12_288 and answer[0] == 1 and answer[1].endswith(b"COUNT 6\n")), f"{answer}")
         periods = [bytes([byte]) for byte in (0, 255, 1, 254)] + [chance.randbytes(length) for length in (2, 3, 4, 6, 16, 512, 1024, 2048, 4096, 12_288, 24_576, IMAGE_BYTES)]
         for period in [*periods, b"\0\1", b"\xff\xfe"]:
             write(image, (period * (IMAGE_BYTES // len(period) + 1))[:IMAGE_BYTES])

@@ -1,4 +1,6 @@
 """Images of ropes: upgraded, run, compared, summed, with parities, with names, and as sources."""
+import functools
+import itertools
 import os
 import random
 import re
@@ -47,6 +49,38 @@ def ones_sum(total, word):
     value = (total - 32767 if total >= 16384 else total) + (word - 32767 if word >= 16384 else word)
     value += -16383 if value > 16383 else 16383 if value < -16383 else 0
     return value if value > 0 or total == word == 0 else value + 32767
+
+
+# The parts of the name of a form.
+PARTS = ("hardware", "swapped", "complemented", "numbered")
+
+
+def exchanged(pair):
+    return pair >> 8 | pair % 256 << 8
+
+
+def of_hardware(pair):
+    """Two bytes with the parity bit below the highest one, as they are written else: the highest bit, the 14 lowest, and the one between."""
+    return pair >> 15 << 15 | pair % 0x4000 << 1 | pair >> 14 & 1
+
+
+def standing(parts, image):
+    """The bytes of an image in a form."""
+    if "hardware" in parts:
+        image = b"".join((pair & 0x8000 | (pair & 1) << 14 | pair >> 1 & 0x3FFF).to_bytes(2, "big") for pair in words_of_image(image)[0])
+    if "swapped" in parts:
+        image = b"".join(bytes((low, high)) for high, low in zip(image[::2], image[1::2]))
+    if "complemented" in parts:
+        image = bytes(255 - byte for byte in image)
+    return image[4096:8192] + image[:4096] + image[8192:] if "numbered" in parts else image
+
+
+def is_complemented(banks):
+    """Whether words are complemented: by 33 words more that are 77771 than 00006, or fewer; else by banks of 77777 where none is of 00000."""
+    all_words = [word for bank in banks for word in bank]
+    extends, others = all_words.count(0o6), all_words.count(0o77771)
+    alike = [bank[0] for bank in banks if len(set(bank)) == 1]
+    return others > extends + 32 or (extends <= others + 32 and 0o77777 in alike and 0 not in alike)
 
 
 class Images(Case):
@@ -178,7 +212,7 @@ class Images(Case):
 
     def test_form_sums(self):
         """The sums of images in all forms, of programs with check words and of random words."""
-        path, hardware, old, swapped, numbered = (f"{self.room}/summed.{name}" for name in ("rope", "hardware", "old", "swapped", "numbered"))
+        path, old = f"{self.room}/summed.rope", f"{self.room}/summed.old"
         for name in ("bank_sum", "bank_call", 1, 2, 3):
             if isinstance(name, str):
                 agcws("asm", "--sums", f"{EXAMPLES}/{name}.agc", path)
@@ -186,24 +220,31 @@ class Images(Case):
                 chance = random.Random(name)
                 words = [chance.randrange(32768) for _ in range(IMAGE_BYTES // 2)]
                 write(path, b"".join((2 * word + (bin(word).count("1") + 1) % 2).to_bytes(2, "big") for word in words))
-            pairs, _ = words_of_image(read(path))
-            write(hardware, b"".join((pair & 0x8000 | (pair & 1) << 14 | pair >> 1 & 0x3FFF).to_bytes(2, "big") for pair in pairs))
+            whole = read(path)
+            pairs, _ = words_of_image(whole)
             write(old, b"".join((pair & 0xFFFE).to_bytes(2, "big") for pair in pairs))
-            write(swapped, b"".join(pair.to_bytes(2, "little") for pair in pairs))
-            write(numbered, read(path)[4096:8192] + read(path)[:4096] + read(path)[8192:])
-            for file, *options in ((path,), (hardware,), (swapped,), (numbered,), (old, "--rope", "1")):
-                lines = []
-                for bank, words in enumerate(words_of_image(read(file))[1]):
-                    sums = [0, 0, 0, 0]
-                    for pair in words:
-                        other = pair >> 8 | pair % 256 << 8
-                        parts = pair >> 1, pair >> 15 << 14 | pair & 0x3FFF, other >> 1, other >> 15 << 14 | other & 0x3FFF
-                        sums = [ones_sum(total, part) for total, part in zip(sums, parts)]
-                    held = [form for form, total in zip(("written", "hardware", "swapped", "hardware,swapped"), sums) if total in (bank, 32767 - bank)]
-                    held += ["numbered"] if bank < 4 and sums[0] in ((bank + 2) % 4, 32767 - (bank + 2) % 4) else []
-                    lines.append(f"{bank:02o} {sums[0]:05o} {sums[1]:05o} {' '.join(held) or '-'}\n")
-                with self.subTest(f"both sums of {name} in {os.path.basename(file)}"):
-                    self.assertAnswer(agcws("sums", "--forms", *options, file), 0, "".join(lines).encode())
+            self.sums_in_forms(name, old, "--rope", "1")
+            for parts in itertools.chain.from_iterable(itertools.combinations(PARTS, count) for count in range(5)):
+                write(path, standing(parts, whole))
+                self.sums_in_forms(f"{name} {parts}", path)
+        write(path, whole)
+
+    def sums_in_forms(self, label, file, *options):
+        """The lines of an image, told here anew."""
+        banks = words_of_image(read(file))[1]
+        turns = (lambda pair: pair >> 1, lambda pair: of_hardware(pair) >> 1, lambda pair: exchanged(pair) >> 1, lambda pair: of_hardware(exchanged(pair)) >> 1)
+        words = [[[turn(pair) for pair in bank] for bank in banks] for turn in turns]
+        lines = []
+        for bank in range(36):
+            sums = [functools.reduce(ones_sum, it[bank], 0) for it in words]
+            held = []
+            for form, it, total in zip(("", "hardware", "swapped", "hardware,swapped"), words, sums):
+                parts = ([form] if form else []) + (["complemented"] if is_complemented(it) else [])
+                held += [",".join(parts) or "written"] if total in (bank, 32767 - bank) else []
+                held += [",".join([*parts, "numbered"])] if bank < 4 and total in ((bank + 2) % 4, 32767 - (bank + 2) % 4) else []
+            lines.append(f"{bank:02o} {sums[0]:05o} {sums[1]:05o} {' '.join(held) or '-'}\n")
+        with self.subTest(f"sums of {label} in all forms"):
+            self.assertAnswer(agcws("sums", "--forms", *options, file), 0, "".join(lines).encode())
 
     def test_names_of_images(self):
         """Images with names: traces, profiles and sessions as those of their sources; and the words of random images with random names."""

@@ -431,6 +431,27 @@ class Views(ViewCase):
         with self.subTest("no inputs"):
             self.assertEqual(self.talk(["run 60"], LOST[0], "/dev/null")[1][0], "77 CH 012 00062")
 
+    def test_other_run(self):
+        """Another run beside the session's: each stands where its own commands have led."""
+        shown = self.talk(["run 60", "other run 60", "value SUM", "other value SUM", "other goto 38", "other", "s 1", "other other regs", "other save x", "other mem SUMM"], *LOST, "--with", LOST[0], EMPTY)
+        # (by hand: with the tick 61, without it 50; step 38 of that is the last TS SUM, at cycle 69)
+        with self.subTest("the words put out"):
+            self.assertEqual([it[0] for it in shown[1:3]], ["87 CH 012 00075", "77 CH 012 00062"])
+        with self.subTest("a place of either run"):
+            self.assertEqual([[it.split()[2:4] for it in part if it.startswith("VALUE")] for part in shown[3:5]], [[["00075", "61"]], [["00062", "50"]]], f"{shown[3:5]}")
+        for at in (5, 6):
+            with self.subTest("where the other stands"):
+                self.assertEqual(shown[at][0][:7], "step 38", f"{shown[at]}")
+        with self.subTest("and this one as before"):
+            self.assertEqual(shown[7][0][:7], "step 61", f"{shown[7]}")
+        with self.subTest("commands that are refused"):
+            self.assertEqual(shown[8:11], [["other is no command of the other run"], ["save is no command of the other run"], ["no symbol SUMM; did you mean SUM?"]])
+        with self.subTest("where there is none"):
+            self.assertIn("other", " ".join(self.talk(["other regs"], *LOST)[1]))
+        with self.subTest("another run that is refused"):
+            status, out, err = call("talk", *LOST, "--with", LOST[0], "/dev/none")
+            self.assertEqual((status, out, err.splitlines()[0]), (3, "", "agcws: E6"))
+
     def try_whatif_in_talk(self):
         """lost_sum.agc tells by hand why a pulse at 27 leaves 75; without one the sum is 62. The session stays as it is."""
         shown = self.talk(["until 26", "whatif TIME3 PINC for 100 to 30", "add 60 TIME3 PINC", "inputs", "whatif TIME3 MINC", "whatif RUPT", "whatif RUPT 3 to 5"], LOST[0], EMPTY)

@@ -5,24 +5,22 @@ ghost use Rattle.std.specs.Option.{option_map};
 ghost use Rattle.agc_text.specs.Fields.{runs, texts};
 ghost use Rattle.agc_text.specs.Tables.{same_name};
 ghost use Rattle.commands.specs.Commands.{channel_in, erasable_number};
-ghost use Rattle.commands.specs.NamedPlaces.{begins_with_plus};
-ghost use Rattle.commands.specs.Subjects.{channel_by};
 ghost use Rattle.trace.specs.TraceLines.{cell_name};
 ghost use Rattle.access.specs.Asked.{cell_asked, cell_in_fields, cell_moved, cell_of, cell_of_field, cell_shown};
 ghost use Rattle.access.specs.Asked.{channel_asked, erasable_named, first_shown, further, view_asked};
 
 use crate::view::View;
 use agc_text::{octal, split_field};
-use commands::named_place;
+use commands::{begins_with_plus, channel_named, named_place};
 use cpu::Cell;
-use space::{Chan, Eras, Linear};
+use space::{Eras, Linear};
 use symbols::{Symbols, Value};
 use trace::cell_name;
 
 /// How many cells there are.
 const CELLS: u16 = 0o5000;
 
-/// The most digits of a channel, and of how many words behind a place.
+/// The most digits of how many words behind a place.
 const OCTAL_DIGITS: usize = 5;
 
 /// All cells where none is asked for, or the one that is; `None` where no cell is shown so.
@@ -109,33 +107,8 @@ fn erasable_number(place: Linear) -> Option<Eras>
 fn channel_asked(symbols: &Symbols, field: &[u8]) -> Option<Cell>
     ensures { result ≡ channel_asked symbols.now field.now }
 {
-    if symbols.symbol(field).is_some() {
-        return None;
-    }
-    match channel_by(field) {
+    match channel_named(symbols, field) {
         Some(channel) => Some(Cell::of_channel(channel)),
-        None => None,
-    }
-}
-
-/// The channel that is named by two letters and its number.
-fn channel_by(field: &[u8]) -> Option<Chan>
-    ensures { result ≡ channel_by field.now }
-{
-    if field.len() > 2 && &field[..2] == "CH".as_bytes() {
-        channel_in(&field[2..])
-    } else {
-        None
-    }
-}
-
-/// The channel of a number.
-fn channel_in(field: &[u8]) -> Option<Chan>
-    ensures { result ≡ channel_in field.now }
-{
-    match octal(field, OCTAL_DIGITS) {
-        Some(number) if number <= 0o777 => Chan::try_new(number as u16),
-        Some(_) => None,
         None => None,
     }
 }
@@ -152,13 +125,6 @@ fn cell_moved(symbols: &Symbols, field: &[u8], moved: &[u8]) -> Option<Cell>
         Some(place) => further(words, place),
         None => None,
     }
-}
-
-/// Whether a field begins with a plus sign.
-fn begins_with_plus(field: &[u8]) -> bool
-    ensures { result ≡ begins_with_plus field.now }
-{
-    !field.is_empty() && &field[..1] == "+".as_bytes()
 }
 
 /// The cell so many words behind an erasable place, where there is one.

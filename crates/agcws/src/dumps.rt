@@ -9,10 +9,13 @@ use std::alloc::{AllocError, Global};
 use std::io::Read;
 use std::{fs, io};
 use words::{MOST_BYTES, ReadAhead, ReadFault, Std, read_text, write_all};
-use workshop::{Layout, Version, WorkshopFault, arranged};
+use workshop::{Form, Layout, Version, WorkshopFault, arranged, module_image};
 
 /// How many bytes an image has.
 const IMAGE_BYTES: usize = 73_728;
+
+/// How many bytes a module of six banks has.
+const MODULE_BYTES: usize = 12_288;
 
 /// How many bytes are looked at, to tell a text from an image.
 const LOOKED_AT: usize = 4096;
@@ -22,6 +25,7 @@ pub const AS_WRITTEN: ImageLayout = ImageLayout {
     is_swapped: false,
     is_complemented: false,
     is_numbered: false,
+    one_module: 0,
 };
 
 /// The bytes of an image.
@@ -67,10 +71,6 @@ impl Read for Made {
 /// A text of octal words that is not taken is told with its line, and then its bytes are those of an image, which is
 /// refused.
 pub fn opened_bytes(rt: &HostRuntime, image: &Image<'_>) -> Result<ImageBytes, WorkshopFault> {
-    let has_parity = match image.version {
-        Version::One => false,
-        Version::Two => true,
-    };
     if is_octal_text(rt, image.path)? {
         let text = text_of(rt, image.path)?;
         match octal_image(rt.alloc(), text.as_slice(), image.version)? {
@@ -82,27 +82,71 @@ pub fn opened_bytes(rt: &HostRuntime, image: &Image<'_>) -> Result<ImageBytes, W
     if is_as_written(image.layout) {
         return Ok(ImageBytes::File(file));
     }
-    let Some(bytes) = bytes_of(rt, file)? else {
-        let bytes = too_many(rt.alloc(), has_parity).map_err(no_memory)?;
-        return Ok(ImageBytes::Made(Made { bytes, read: 0 }));
-    };
+    let bytes = made_bytes(rt, image, file)?;
+    Ok(ImageBytes::Made(Made { bytes, read: 0 }))
+}
+
+fn is_as_written(layout: ImageLayout) -> bool {
+    !layout.is_swapped && !layout.is_complemented && !layout.is_numbered && layout.one_module == 0
+}
+
+/// The bytes of an image that stands otherwise than as written: none where a module has fewer than one has, and more
+/// than an image has where the file has more.
+fn made_bytes(
+    rt: &HostRuntime,
+    image: &Image<'_>,
+    file: fs::File,
+) -> Result<Vec<u8>, WorkshopFault> {
+    let is_module = image.layout.one_module > 0;
+    let most = if is_module { MODULE_BYTES } else { IMAGE_BYTES };
     let layout = Layout {
         is_swapped: image.layout.is_swapped,
         is_complemented: image.layout.is_complemented,
         is_numbered: image.layout.is_numbered,
     };
+    let Some(bytes) = bytes_of(rt, file, most)? else {
+        return too_many(rt.alloc(), image.version).map_err(no_memory);
+    };
+    if is_module && bytes.len() < MODULE_BYTES {
+        return Ok(Vec::new(rt.alloc()));
+    }
     let bytes = arranged(rt.alloc(), layout, bytes.as_slice()).map_err(no_memory)?;
-    Ok(ImageBytes::Made(Made { bytes, read: 0 }))
+    if is_module {
+        whole_image(rt.alloc(), image, bytes.as_slice()).map_err(no_memory)
+    } else {
+        Ok(bytes)
+    }
 }
 
-fn is_as_written(layout: ImageLayout) -> bool {
-    !layout.is_swapped && !layout.is_complemented && !layout.is_numbered
+/// The bytes of an image of which one module alone is there.
+fn whole_image(alloc: Global, image: &Image<'_>, bytes: &[u8]) -> Result<Vec<u8>, AllocError> {
+    let (high, low) = empty_place(image);
+    let numbered = module_image(alloc, image.layout.one_module, high, low, bytes)?;
+    let layout = Layout {
+        is_swapped: false,
+        is_complemented: false,
+        is_numbered: true,
+    };
+    arranged(alloc, layout, numbered.as_slice())
 }
 
-/// The bytes of a file that is an image, or nothing where it has more than one has.
-fn bytes_of(rt: &HostRuntime, file: fs::File) -> Result<Option<Vec<u8>>, WorkshopFault> {
+/// The two bytes of a place without a word: with a parity bit where the image has such bits, as it is taken.
+fn empty_place(image: &Image<'_>) -> (u8, u8) {
+    match (image.version, image.form) {
+        (Version::One, _) => (0, 0),
+        (Version::Two, Form::Hardware | Form::HardwareParityIgnored) => (0o100, 0),
+        (Version::Two, Form::AsWritten | Form::ParityIgnored) => (0, 1),
+    }
+}
+
+/// The bytes of a file, or nothing where it has more than so many.
+fn bytes_of(
+    rt: &HostRuntime,
+    file: fs::File,
+    most: usize,
+) -> Result<Option<Vec<u8>>, WorkshopFault> {
     let mut reader = ReadAhead::new(Std::new(file));
-    match read_text(rt.alloc(), &mut reader, IMAGE_BYTES) {
+    match read_text(rt.alloc(), &mut reader, most) {
         Ok(bytes) => Ok(Some(bytes)),
         Err(ReadFault::TooLong) => Ok(None),
         Err(ReadFault::NoMemory) => Err(WorkshopFault::NoMemory),
@@ -111,7 +155,11 @@ fn bytes_of(rt: &HostRuntime, file: fs::File) -> Result<Option<Vec<u8>>, Worksho
 }
 
 /// More bytes than an image has, which spell words 0.
-fn too_many(alloc: Global, has_parity: bool) -> Result<Vec<u8>, AllocError> {
+fn too_many(alloc: Global, version: Version) -> Result<Vec<u8>, AllocError> {
+    let has_parity = match version {
+        Version::One => false,
+        Version::Two => true,
+    };
     let mut bytes = Vec::new(alloc);
     for _ in 0..IMAGE_BYTES / 2 + 1 {
         bytes.extend_from_slice(&[0, u8::from(has_parity)])?;

@@ -13,7 +13,7 @@ use agc_text::{next_field, next_line};
 use plans::{Accesses, Listed, Pair, Profile, Program, Reaching, Run, Timed, Tracing, Trials};
 use words::{ReadAhead, Std, Write, read_text, write_all};
 use workshop::{
-    Counted, LineForm, Summary, WorkshopFault, access_program, cover_program, debug_program,
+    Counted, LineForm, Side, Summary, WorkshopFault, access_program, cover_program, debug_program,
     delays_program, differ_program, reach_program, reach_run, read_trials, run_and_tell,
     run_with_notes, tell_commands_end, trace_program, try_program, write_end,
 };
@@ -224,15 +224,29 @@ pub fn delays(rt: &HostRuntime, asked: &Timed<'_>) -> Result<u8, WorkshopFault> 
     Ok(DONE)
 }
 
-/// `agcws differ .. SRC FEED N --with SRC2 FEED2`. All files are opened before anything is read, but the table of
-/// names.
+/// `agcws differ [--why K] .. SRC FEED N --with SRC2 FEED2`. A fault of a file of the other run is told by the file's
+/// name.
 pub fn differ(rt: &HostRuntime, asked: &Pair<'_>) -> Result<u8, WorkshopFault> {
+    let mut last = Side::One;
+    match differ_runs(rt, asked, &mut last) {
+        Ok(()) => Ok(DONE),
+        Err(fault) => match last {
+            Side::One => Err(fault),
+            Side::Other => refuse_other(rt, &asked.other, fault),
+        },
+    }
+}
+
+/// Tells where two runs part. It is told of which the files were opened or read last. All files are opened before
+/// anything is read, but the table of names.
+fn differ_runs(rt: &HostRuntime, asked: &Pair<'_>, last: &mut Side) -> Result<(), WorkshopFault> {
     let OpenProgram {
         origin,
         file,
         form,
         mut feed,
     } = opened_program(rt, &asked.program)?;
+    *last = Side::Other;
     let OpenProgram {
         origin: other_origin,
         file: other,
@@ -251,10 +265,36 @@ pub fn differ(rt: &HostRuntime, asked: &Pair<'_>) -> Result<u8, WorkshopFault> {
             &mut other,
             &mut other_feed,
             asked.steps.count(),
+            asked.why,
+            last,
             out,
         )
-    })?;
-    Ok(DONE)
+    })
+}
+
+/// Tells a fault of the other run of two by the name of its file. Of one that can't be read, or is too long, both names
+/// stand.
+fn refuse_other(
+    rt: &HostRuntime,
+    other: &Program<'_>,
+    fault: WorkshopFault,
+) -> Result<u8, WorkshopFault> {
+    let (path, feed) = (other.path, other.feed);
+    let told = match fault {
+        WorkshopFault::Source(_) | WorkshopFault::Rope(_) => {
+            format!(in rt.alloc(); "{path}: {fault}\n")
+        }
+        WorkshopFault::Feed(_) => format!(in rt.alloc(); "{feed}: {fault}\n"),
+        WorkshopFault::ReadFailed | WorkshopFault::TooLong => {
+            format!(in rt.alloc(); "{path} or {feed}: {fault}\n")
+        }
+        fault => return Err(fault),
+    };
+    write_all(
+        &mut Std::new(rt.stderr()),
+        told.map_err(no_memory)?.as_bytes(),
+    )?;
+    Ok(fault.status())
 }
 
 /// The most bytes of a feed, and of trials.

@@ -81,6 +81,8 @@ pub struct ImageLayout {
     pub is_complemented: bool,
     /// `--form numbered`: whether the banks stand by their numbers.
     pub is_numbered: bool,
+    /// `--form module1` to `module6`: which module of six banks stands alone, or 0.
+    pub one_module: usize,
 }
 
 /// A program to be run, with its feed.
@@ -223,7 +225,7 @@ pub struct WhatIfArguments<'a> {
     pub trials: &'a str,
 }
 
-/// `agcws differ .. SRC FEED N --with SRC2 FEED2`.
+/// `agcws differ [--why K] .. SRC FEED N --with SRC2 FEED2`.
 #[derive(Clone, Copy)]
 pub struct DifferArguments<'a> {
     /// What is run.
@@ -232,6 +234,8 @@ pub struct DifferArguments<'a> {
     pub other: ProgramArguments<'a>,
     /// How many steps of each.
     pub steps: u64,
+    /// `--why`: in how many steps it is told how what differs came about, where it is.
+    pub why: Option<u64>,
 }
 
 /// `agcws debug [--extended] .. SRC FEED`.

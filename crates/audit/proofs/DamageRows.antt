@@ -6,16 +6,18 @@ use lib.Count.{ones}
 use Rattle.words.specs.BitSums.{xor_sum}
 use Rattle.words.specs.Numerals.{octal_text}
 use Rattle.space.specs.Places.{window}
+use Rattle.rope.specs.Dumps.{word_of}
 use Rattle.rope.specs.Places.{bank_words}
 use Rattle.audit.specs.declared.damages.Finding.TheVariants.{Sound, WrongSum, CopyOf, SumOf, ExchangedWith, ParityBits, WrongWords}
 use Rattle.audit.specs.BankFacts.{all_before, bit_of, count_before, is_blank, is_copy, is_uniform, is_wrong, mended_sum_before, mended_word}
-use Rattle.audit.specs.BankFacts.{mends, with_bit_cleared, with_bit_turned}
-use Rattle.audit.specs.declared.orders.Order.TheVariants.{Written, Exchanged, Hardware, ExchangedHardware, ByNumber}
-use Rattle.audit.specs.Orders.{by_banks, bytes_at, is_by_number, most_of, stands_by_number, sum_in_before}
-use Rattle.audit.specs.WordOrders.{partner, word_in}
+use Rattle.audit.specs.BankFacts.{has_loops, is_loop, mends, with_bit_cleared, with_bit_turned, wrong_words}
+use Rattle.audit.specs.declared.orders.Order.TheVariants.{Written, Exchanged, Hardware, ExchangedHardware}
+use Rattle.audit.specs.Orders.{bytes_at, most_of, stands_by_number, sum_in_before}
+use Rattle.audit.specs.WordOrders.{by_extends, partner, word_in}
 use Rattle.audit.specs.WordLines.{place_text}
-use Rattle.audit.specs.Damages.{bank_name, bank_of_sum, by_count, by_its_sum, by_sum, candidate, copy_line, dead_line, exchanged_line}
-use Rattle.audit.specs.Damages.{of_wrong_parity, parity_bits_line, sum_of_line, wrong_head, wrong_sum_line}
+use Rattle.audit.specs.Damages.{arrangement_text, bank_name, bank_of_sum, by_count, by_its_sum, by_sum, candidate, copy_line, dead_line}
+use Rattle.audit.specs.Damages.{dead_text, exchanged_line, first_bank, module_line, of_wrong_parity, parity_bits_line, sum_of_line}
+use Rattle.audit.specs.Damages.{ways_of, wrong_head, wrong_in_module, wrong_sum_line}
 
 -- ## Bits
 -- 00006 without the bit of 4 is 00002; the parity bit leaves it; the highest bit is the sign
@@ -158,17 +160,31 @@ for_three : partner 3 ≡ 1
 for_three = refl
 
 -- where bank 0 is read, bank 2 stands
-second_bank : (bytes : List ℕ) → is_uniform bytes 0 ≡ false → sum_in_before Written bytes 0 bank_words ≡ 2 → stands_by_number bytes 0 ≡ true
+second_bank : (bytes : List ℕ) → is_uniform bytes 0 ≡ false → sum_in_before Written bytes 0 bank_words ≡ 2
+    → stands_by_number Written bytes 0 ≡ true
 second_bank bytes some sum = rw (some, sum) refl
 
-own_bank : (bytes : List ℕ) → is_uniform bytes 0 ≡ false → sum_in_before Written bytes 0 bank_words ≡ 0 → stands_by_number bytes 0 ≡ false
+own_bank : (bytes : List ℕ) → is_uniform bytes 0 ≡ false → sum_in_before Hardware bytes 0 bank_words ≡ 0
+    → stands_by_number Hardware bytes 0 ≡ false
 own_bank bytes some sum = rw (some, sum) refl
 
-by_number : (bytes : List ℕ) → is_by_number bytes ≡ true → by_banks bytes Written ≡ ByNumber
-by_number bytes is = rw is refl
+-- 1,400 EXTEND and 5 times its complement; the other way round; and few of both, where the empty banks tell
+many_extends : by_extends 1400 5 true ≡ false
+many_extends = refl
 
-other_order : (bytes : List ℕ) → by_banks bytes Hardware ≡ Hardware
-other_order bytes = refl
+many_others : by_extends 5 1400 false ≡ true
+many_others = refl
+
+few_of_both : by_extends 3 35 true ≡ true
+few_of_both = refl
+
+-- three ways
+ways : ways_of (record { order = ExchangedHardware; is_complemented = true; is_numbered = true }) ≡ 3
+ways = refl
+
+two_lines : arrangement_text (record { order = Exchanged; is_complemented = true; is_numbered = false })
+    ≡ codes "BYTES EXCHANGED\nALL BITS COMPLEMENTED\n"
+two_lines = refl
 
 -- ## Counts of wrong parities
 one_word : (bytes : List ℕ) (way : Bool) → by_count bytes way 5 1 ≡ WrongWords
@@ -215,9 +231,42 @@ bits_text : parity_bits_line 0o11 12 ≡ codes "BANK 11 RIGHT BY THE SUM, 12 PAR
 unfolding octal_text digits bank_name
 bits_text = refl
 
-dead_text : dead_line 0o12 7 ≡ codes "BANK 12 ADDRESS BIT 7 MAKES NO DIFFERENCE\n"
-unfolding octal_text digits bank_name
-dead_text = refl
+dead_bank : (bytes : List ℕ) → wrong_words bytes false 0o12 ≡ 0 → has_loops bytes 0o12 7 0 ≡ false → has_loops bytes 0o12 7 1 ≡ false
+    → dead_line bytes false 0o12 7 ≡ codes "BANK 12 ADDRESS BIT 7 MAKES NO DIFFERENCE\n"
+unfolding octal_text digits bank_name of_wrong_parity
+dead_bank bytes right never none = rw (right, never, none) refl
+
+lost_half : (bytes : List ℕ) → wrong_words bytes false 0o12 ≡ 0 → has_loops bytes 0o12 7 0 ≡ false → has_loops bytes 0o12 7 1 ≡ true
+    → dead_line bytes false 0o12 7 ≡ codes "BANK 12 ADDRESS BIT 7 ALWAYS 1\n"
+unfolding octal_text digits bank_name of_wrong_parity
+lost_half bytes right never some = rw (right, never, some) refl
+
+-- two words were read as one, and 212 parities are wrong
+two_as_one : (bytes : List ℕ) → wrong_words bytes false 0o12 ≡ 212
+    → dead_line bytes false 0o12 7 ≡ codes "BANK 12 ADDRESS BIT 7 MAKES NO DIFFERENCE, 212 OF WRONG PARITY\n"
+unfolding octal_text digits bank_name of_wrong_parity
+two_as_one bytes wrong = rw wrong refl
+
+by_both : dead_text true true ≡ codes " MAKES NO DIFFERENCE"
+by_both = refl
+
+-- module 3, from 0 on, is banks 22 to 27
+fourth : first_bank 3 ≡ 0o22
+fourth = refl
+
+ones_text : (bytes : List ℕ) → wrong_in_module bytes false 3 ≡ 6144 → word_of bytes 0o22 0 ≡ 0o77777
+    → module_line bytes false 3 ≡ codes "BANKS 22 TO 27 ALL 77777, 6144 OF WRONG PARITY\n"
+unfolding octal_text digits of_wrong_parity
+ones_text bytes wrong ones = rw (wrong, ones) refl
+
+-- a TC to itself: the word at 12,2100 is 02100, which is no TC to itself at 12,2000
+loop : (bytes : List ℕ) → word_of bytes 0o12 0o100 ≡ 0o2100 → is_loop bytes 0o12 0o100 ≡ true
+unfolding window
+loop bytes word = rw word refl
+
+no_loop : (bytes : List ℕ) → word_of bytes 0o12 0 ≡ 0o2100 → is_loop bytes 0o12 0 ≡ false
+unfolding window
+no_loop bytes word = rw word refl
 
 some_wrong : of_wrong_parity true 1024 ≡ codes ", 1024 OF WRONG PARITY\n"
 unfolding digits of_wrong_parity

@@ -1,8 +1,8 @@
 -- Counts and sums over the words of a bank, one number after another.
 use Rattle.std.proofs.Common.{◌≡◌, ℕ, zero, suc, ◌+◌, ◌≤◌, Bool, true, false, List, refl, arith, add-one, inl, inr}
 use Rattle.std.proofs.lemmas.Bool.{cases_Bool}
-use Rattle.audit.specs.BankFacts.{all_before, count_before, dead_bit_before, even_words_before, is_dead, mended_sum_before, mended_word}
-use Rattle.audit.specs.BankFacts.{wrong_words}
+use Rattle.audit.specs.BankFacts.{all_before, count_before, counted_before, counted_words, dead_bit_before, even_words, even_words_before}
+use Rattle.audit.specs.BankFacts.{is_dead, mended_sum_before, mended_word}
 use Rattle.audit.specs.Mended.{last_before}
 use Rattle.audit.specs.Sums.{added}
 
@@ -43,9 +43,17 @@ pub even_first : (image : List ℕ) → even_words_before image 0 ≡ 0
 unfolding even_words_before
 even_first image = refl
 
-pub even_more : (image : List ℕ) (n : ℕ) → even_words_before image (n + 1) ≡ even_words_before image n + wrong_words image false n
+pub even_more : (image : List ℕ) (n : ℕ) → even_words_before image (n + 1) ≡ even_words_before image n + even_words image n
 unfolding even_words_before
 even_more image n = rw (add-one n) refl
+
+pub counted_first : (image : List ℕ) → counted_before image 0 ≡ 0
+unfolding counted_before
+counted_first image = refl
+
+pub counted_more : (image : List ℕ) (n : ℕ) → counted_before image (n + 1) ≡ counted_before image n + counted_words image n
+unfolding counted_before
+counted_more image n = rw (add-one n) refl
 
 pub mended_first : (image : List ℕ) (turned : Bool) (bank bit : ℕ) → mended_sum_before image turned bank bit 0 ≡ 0
 unfolding mended_sum_before

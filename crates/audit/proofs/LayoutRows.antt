@@ -2,7 +2,7 @@
 use Rattle.std.proofs.Common.{◌≡◌, List, [], ◌∷◌, ℕ, true, false, refl}
 use Rattle.std.specs.Prelude.{codes}
 use Rattle.words.specs.Numerals.{octal_text}
-use Rattle.audit.specs.Layouts.{arranged, by_number, complemented, swapped}
+use Rattle.audit.specs.Layouts.{arranged, by_number, complemented, module_byte, swapped}
 use Rattle.audit.specs.Octals.{bank_head, behind}
 
 -- bank 2 stands behind 4,096 bytes of banks 0 and 1, and bank 0 at the first byte; bank 4 where it stands else
@@ -38,6 +38,17 @@ turned = refl
 both : arranged (record { is_swapped = true; is_complemented = true; is_numbered = false }) four ≡ 0o57 ∷ 0o364 ∷ 0o377 ∷ 0o362 ∷ []
 unfolding four arranged
 both = refl
+
+-- module 2 is banks 6 to 013: 12,288 bytes from byte 12,288 on; elsewhere stand 000 and 001, as in an empty bank of version 2
+first_of_module : module_byte 2 0 1 four 12288 ≡ 0o13
+unfolding four
+first_of_module = refl
+
+before_module : module_byte 2 0 1 four 12287 ≡ 1
+before_module = refl
+
+behind_module : module_byte 2 0 1 four 24576 ≡ 0
+behind_module = refl
 
 head : bank_head 2 ≡ codes "BANK=02\n"
 unfolding bank_head octal_text

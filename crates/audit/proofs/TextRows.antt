@@ -11,7 +11,9 @@ use Rattle.cpu.specs.Texts.{instruction_text}
 use Rattle.audit.specs.CheckWords.{check_word}
 use Rattle.audit.specs.Differences.{differing_at}
 use Rattle.audit.specs.declared.orders.Order.TheVariants.{Exchanged, Hardware}
-use Rattle.audit.specs.FormSums.{form_word, line_of_sums}
+use Rattle.audit.specs.declared.form_names.Complements.{Complements}
+use Rattle.audit.specs.FormNames.{line_of_sums}
+use Rattle.audit.specs.FormSums.{form_word}
 use Rattle.rope.specs.declared.spelling.Version.TheVariants.{One, Two}
 use Rattle.audit.specs.declared.differences.Extent.TheVariants.{All, Filled}
 use Rattle.audit.specs.Parities.{wrong_at, parity_line}
@@ -113,28 +115,39 @@ second_first : form_word Exchanged Two 6 ≡ 0o3200
 unfolding ones
 second_first = refl
 
+none : Complements
+none = record { written = false; hardware = false; swapped = false; both = false }
+
+all : Complements
+all = record { written = true; hardware = true; swapped = true; both = true }
+
 -- the sum of bank 02 is 2 or 77775
-holds_written : line_of_sums 2 2 0o16010 7 7 ≡ codes "02 00002 16010 written\n"
-unfolding octal_text
+holds_written : line_of_sums 2 2 0o16010 7 7 none ≡ codes "02 00002 16010 written\n"
+unfolding octal_text none
 holds_written = refl
 
-holds_hardware : line_of_sums 2 0o16010 0o77775 7 7 ≡ codes "02 16010 77775 hardware\n"
-unfolding octal_text
+holds_hardware : line_of_sums 2 0o16010 0o77775 7 7 none ≡ codes "02 16010 77775 hardware\n"
+unfolding octal_text none
 holds_hardware = refl
 
-holds_both : line_of_sums 0 0 0o77777 7 7 ≡ codes "00 00000 77777 written hardware\n"
-unfolding octal_text
+holds_both : line_of_sums 0 0 0o77777 7 7 none ≡ codes "00 00000 77777 written hardware\n"
+unfolding octal_text none
 holds_both = refl
 
-holds_none : line_of_sums 3 0 2 7 7 ≡ codes "03 00000 00002 -\n"
-unfolding octal_text
+holds_none : line_of_sums 3 0 2 7 7 none ≡ codes "03 00000 00002 -\n"
+unfolding octal_text none
 holds_none = refl
 
-holds_swapped : line_of_sums 5 7 2 0o77772 5 ≡ codes "05 00007 00002 swapped hardware,swapped\n"
-unfolding octal_text
+holds_swapped : line_of_sums 5 7 2 0o77772 5 none ≡ codes "05 00007 00002 swapped hardware,swapped\n"
+unfolding octal_text none
 holds_swapped = refl
 
 -- bank 0 has the sum of bank 2
-holds_by_number : line_of_sums 0 0o77775 0o100 7 7 ≡ codes "00 77775 00100 numbered\n"
-unfolding octal_text
+holds_by_number : line_of_sums 0 0o77775 0o100 7 7 none ≡ codes "00 77775 00100 numbered\n"
+unfolding octal_text none
 holds_by_number = refl
+
+-- bank 3 has the sum of bank 1 where the second byte stands first and the words are complemented
+holds_three_ways : line_of_sums 3 7 7 1 7 all ≡ codes "03 00007 00007 swapped,complemented,numbered\n"
+unfolding octal_text all
+holds_three_ways = refl

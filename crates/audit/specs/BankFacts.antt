@@ -2,7 +2,9 @@
 use Rattle.std.specs.Prelude.{ℕ, zero, suc, ◌+◌, ◌-◌, ◌*◌, ◌/◌, ◌%◌, ◌^◌, ◌==◌, ◌&&◌, ◌||◌, not, Bool, true, false, nat_lt, nat_le, List}
 use Rattle.std.specs.Prelude.{if◌then◌else◌}
 use Rattle.words.specs.BitSums.{xor_sum}
-use Rattle.rope.specs.Places.{banks, bank_words, fixed_places}
+use Rattle.space.specs.Places.{window}
+use Rattle.space.specs.declared.place.Linear.TheVariants.{Fixed}
+use Rattle.rope.specs.Places.{banks, bank_words}
 use Rattle.rope.specs.Dumps.{has_parity, word_of}
 use Rattle.audit.specs.FormSums.{holds_sum}
 use Rattle.audit.specs.Sums.{added}
@@ -28,14 +30,30 @@ is_wrong image false bank offset = not (has_parity image bank offset)
 abbrev pub wrong_words : List ℕ → Bool → ℕ → ℕ
 wrong_words image turned bank = count_before (is_wrong image turned bank) bank_words
 
--- how many words of the banks before one have two bytes with an even number of one bits
+-- all words of a bank are its first one
+abbrev pub is_uniform : List ℕ → ℕ → Bool
+is_uniform image bank = all_before (λ offset. word_of image bank offset == word_of image bank 0) bank_words
+
+-- of how many words of a bank the parities count: of none where all are one, as in a bank that is lost
+abbrev pub counted_words : List ℕ → ℕ → ℕ
+counted_words image bank = if is_uniform image bank then 0 else bank_words
+
+-- of these how many have two bytes with an even number of one bits
+abbrev pub even_words : List ℕ → ℕ → ℕ
+even_words image bank = if is_uniform image bank then 0 else wrong_words image false bank
+
+-- those of the banks before one
+unfoldable pub counted_before : List ℕ → ℕ → ℕ
+counted_before image zero = 0
+counted_before image (suc bank) = counted_before image bank + counted_words image bank
+
 unfoldable pub even_words_before : List ℕ → ℕ → ℕ
 even_words_before image zero = 0
-even_words_before image (suc bank) = even_words_before image bank + wrong_words image false bank
+even_words_before image (suc bank) = even_words_before image bank + even_words image bank
 
--- most words of the image have: all parities are the other way round
+-- most words that count have: all parities are the other way round
 abbrev pub is_turned : List ℕ → Bool
-is_turned image = nat_lt fixed_places (2 * even_words_before image banks)
+is_turned image = nat_lt (counted_before image banks) (2 * even_words_before image banks)
 
 -- ## Sums
 -- a word with one of its bits turned, of which 1 is the lowest; by 0, the parity bit, it stays
@@ -65,10 +83,6 @@ mends image turned bank bit = holds_sum bank (mended_sum image turned bank bit)
 -- a bank has the words of another
 abbrev pub is_copy : List ℕ → ℕ → ℕ → Bool
 is_copy image bank other = all_before (λ offset. word_of image bank offset == word_of image other offset) bank_words
-
--- all words of a bank are its first one
-abbrev pub is_uniform : List ℕ → ℕ → Bool
-is_uniform image bank = all_before (λ offset. word_of image bank offset == word_of image bank 0) bank_words
 
 -- all words of a bank that have the right parity are 00000
 abbrev pub is_blank : List ℕ → Bool → ℕ → Bool
@@ -108,3 +122,16 @@ dead_bit_before image bank (suc n) = if is_dead image bank (n + 1) then n + 1 el
 -- of all ten
 abbrev pub dead_bit : List ℕ → ℕ → ℕ
 dead_bit image bank = dead_bit_before image bank 10
+
+-- a word of a bank is a TC to its own place, as the two before a check word are
+abbrev pub is_loop : List ℕ → ℕ → ℕ → Bool
+is_loop image bank offset = word_of image bank offset == window (Fixed bank offset)
+
+-- one such word and the next one stand where a bit of the offset has a value
+abbrev pub has_loops_at : List ℕ → ℕ → ℕ → ℕ → ℕ → Bool
+has_loops_at image bank bit value offset =
+    (bit_of offset bit == value && bit_of (offset + 1) bit == value) && (is_loop image bank offset && is_loop image bank (offset + 1))
+
+-- two such words stand there: the words are those of the places where the bit has this value
+abbrev pub has_loops : List ℕ → ℕ → ℕ → ℕ → Bool
+has_loops image bank bit value = not (count_before (has_loops_at image bank bit value) (bank_words - 1) == 0)

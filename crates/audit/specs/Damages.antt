@@ -1,5 +1,6 @@
 -- What is damaged in the banks of an image, and its text.
-use Rattle.std.specs.Prelude.{ℕ, ◌+◌, ◌==◌, ◌&&◌, ◌||◌, not, Bool, true, false, nat_lt, List, [], ◌++◌, codes, decimal, if◌then◌else◌}
+use Rattle.std.specs.Prelude.{ℕ, ◌+◌, ◌*◌, ◌/◌, ◌%◌, ◌==◌, ◌&&◌, ◌||◌, not, Bool, true, false, nat_lt, List, [], ◌++◌, codes, decimal}
+use Rattle.std.specs.Prelude.{if◌then◌else◌}
 use Rattle.std.specs.List.{range_with_len, flat_map}
 use Rattle.words.specs.Numbers.{neg}
 use Rattle.words.specs.Numerals.{octal_text}
@@ -8,13 +9,14 @@ use Rattle.rope.specs.Dumps.{word_of}
 use Rattle.audit.specs.declared.damages.Finding.{Finding}
 use Rattle.audit.specs.declared.damages.Finding.TheVariants.{Sound, Uniform, DeadBit, WrongSum, CopyOf, SumOf, ExchangedWith, ParityBits}
 use Rattle.audit.specs.declared.damages.Finding.TheVariants.{LostBits, WrongWords}
-use Rattle.audit.specs.BankFacts.{count_before, is_turned, is_wrong, wrong_words, with_bit_turned, mended_sum, mends, is_uniform, is_blank}
-use Rattle.audit.specs.BankFacts.{is_copy, is_always, is_lost, dead_bit}
+use Rattle.audit.specs.BankFacts.{all_before, count_before, is_turned, is_wrong, wrong_words, with_bit_turned, mended_sum, mends}
+use Rattle.audit.specs.BankFacts.{is_uniform, is_blank, is_copy, is_always, is_lost, dead_bit, has_loops}
 use Rattle.audit.specs.Differences.{count_line}
 use Rattle.audit.specs.FormSums.{holds_sum}
-use Rattle.audit.specs.Orders.{order_of}
+use Rattle.audit.specs.Orders.{arrangement_of}
+use Rattle.audit.specs.declared.orders.Arrangement.{Arrangement}
 use Rattle.audit.specs.declared.orders.Order.{Order}
-use Rattle.audit.specs.declared.orders.Order.TheVariants.{Written, Exchanged, Hardware, ExchangedHardware, Complemented, ByNumber}
+use Rattle.audit.specs.declared.orders.Order.TheVariants.{Written, Exchanged, Hardware, ExchangedHardware}
 use Rattle.audit.specs.WordLines.{place_text}
 
 -- ## Findings
@@ -87,9 +89,22 @@ abbrev pub uniform_line : List ℕ → Bool → ℕ → List ℕ
 uniform_line image turned bank = bank_name bank ++ codes " ALL " ++ octal_text 5 (word_of image bank 0)
     ++ of_wrong_parity (nat_lt 0 (wrong_words image turned bank)) (wrong_words image turned bank)
 
+-- what a bit of the offset is by the words, if they are those where it is 0, or those where it is 1: nothing by neither or both
+abbrev pub dead_text : Bool → Bool → List ℕ
+dead_text true false = codes " ALWAYS 0"
+dead_text false true = codes " ALWAYS 1"
+dead_text true true = codes " MAKES NO DIFFERENCE"
+dead_text false false = codes " MAKES NO DIFFERENCE"
+
+-- the words of a bank are those of the places where a bit of the offset has a value, and not two words read as one: all parities are right
+abbrev pub is_half : List ℕ → Bool → ℕ → ℕ → ℕ → Bool
+is_half image turned bank bit value = wrong_words image turned bank == 0 && has_loops image bank bit value
+
 -- a bit of the offset leads to the same words
-abbrev pub dead_line : ℕ → ℕ → List ℕ
-dead_line bank bit = bank_name bank ++ codes " ADDRESS BIT " ++ decimal bit ++ codes " MAKES NO DIFFERENCE\n"
+abbrev pub dead_line : List ℕ → Bool → ℕ → ℕ → List ℕ
+dead_line image turned bank bit =
+    bank_name bank ++ codes " ADDRESS BIT " ++ decimal bit ++ dead_text (is_half image turned bank bit 0) (is_half image turned bank bit 1)
+    ++ of_wrong_parity (nat_lt 0 (wrong_words image turned bank)) (wrong_words image turned bank)
 
 -- a sum is wrong
 abbrev pub wrong_sum_line : ℕ → ℕ → List ℕ
@@ -180,7 +195,7 @@ wrong_lines image turned bank = flat_map (wrong_text image turned bank) (range_w
 abbrev pub finding_text : List ℕ → Bool → ℕ → Finding → List ℕ
 finding_text image turned bank Sound = []
 finding_text image turned bank Uniform = uniform_line image turned bank
-finding_text image turned bank DeadBit = dead_line bank (dead_bit image bank)
+finding_text image turned bank DeadBit = dead_line image turned bank (dead_bit image bank)
 finding_text image turned bank WrongSum = wrong_sum_line bank (mended_sum image turned bank 0)
 finding_text image turned bank (CopyOf other) = copy_line bank other
 finding_text image turned bank (SumOf other) = sum_of_line bank other
@@ -193,6 +208,53 @@ finding_text image turned bank WrongWords = wrong_lines image turned bank
 unfoldable pub bank_text : List ℕ → Bool → ℕ → List ℕ
 bank_text image turned bank = finding_text image turned bank (finding_of image turned bank)
 
+-- ## Modules
+-- how many banks a module has, and how many modules there are
+abbrev pub module_banks : ℕ
+module_banks = 6
+
+abbrev pub modules : ℕ
+modules = 6
+
+-- the first bank of a module
+abbrev pub first_bank : ℕ → ℕ
+first_bank nth = module_banks * nth
+
+-- all words of a bank are this one, though it is not empty
+abbrev pub is_lost_bank : List ℕ → Bool → ℕ → ℕ → Bool
+is_lost_bank image turned word bank =
+    is_uniform image bank && (word_of image bank 0 == word && is_damaged (of_uniform image turned bank))
+
+-- all words of a module are one, though none of its banks is empty
+abbrev pub is_lost_module : List ℕ → Bool → ℕ → Bool
+is_lost_module image turned nth =
+    all_before (λ n. is_lost_bank image turned (word_of image (first_bank nth) 0) (first_bank nth + n)) module_banks
+
+-- how many words of a module have a wrong parity
+abbrev pub wrong_in_module : List ℕ → Bool → ℕ → ℕ
+wrong_in_module image turned nth =
+    count_before (λ n. is_wrong image turned (first_bank nth + n / bank_words) (n % bank_words)) (module_banks * bank_words)
+
+-- the line of a module whose words are all one
+abbrev pub module_line : List ℕ → Bool → ℕ → List ℕ
+module_line image turned nth =
+    codes "BANKS " ++ octal_text 2 (first_bank nth) ++ codes " TO " ++ octal_text 2 (first_bank nth + 5)
+    ++ codes " ALL " ++ octal_text 5 (word_of image (first_bank nth) 0)
+    ++ of_wrong_parity (nat_lt 0 (wrong_in_module image turned nth)) (wrong_in_module image turned nth)
+
+-- the texts of its banks
+abbrev pub bank_in_module : List ℕ → Bool → ℕ → ℕ → List ℕ
+bank_in_module image turned nth n = bank_text image turned (first_bank nth + n)
+
+abbrev pub bank_texts : List ℕ → Bool → ℕ → List ℕ
+bank_texts image turned nth = flat_map (bank_in_module image turned nth) (range_with_len 0 module_banks)
+
+-- the text of a module
+unfoldable pub module_text : List ℕ → Bool → ℕ → List ℕ
+module_text image turned nth =
+    if is_lost_module image turned nth then module_line image turned nth else bank_texts image turned nth
+
+-- ## All
 -- that all parities are the other way round
 abbrev pub turned_text : Bool → List ℕ
 turned_text true = codes "PARITY THE OTHER WAY ROUND\n"
@@ -202,37 +264,50 @@ turned_text false = []
 abbrev pub findings : List ℕ → Bool → ℕ
 findings image turned = count_before (λ bank. is_damaged (finding_of image turned bank)) banks + (if turned then 1 else 0)
 
--- what is damaged, bank by bank
+-- what is damaged, module by module
 abbrev pub report : List ℕ → Bool → List ℕ
-report image turned = turned_text turned ++ flat_map (bank_text image turned) (range_with_len 0 banks)
+report image turned = turned_text turned ++ flat_map (module_text image turned) (range_with_len 0 modules)
 
--- the line of an order
+-- how an image stands otherwise than as written: the order of its bits and bytes
 abbrev pub order_line : Order → List ℕ
 order_line Written = []
 order_line Exchanged = codes "BYTES EXCHANGED\n"
 order_line Hardware = codes "BITS IN THE ORDER OF THE HARDWARE\n"
 order_line ExchangedHardware = codes "BYTES EXCHANGED, BITS IN THE ORDER OF THE HARDWARE\n"
-order_line Complemented = codes "ALL BITS COMPLEMENTED\n"
-order_line ByNumber = codes "BANKS BY THEIR NUMBERS\n"
 
--- what is told of an image that stands in an order: where it is another than as written that alone
-abbrev pub report_in : Order → List ℕ → List ℕ
-report_in Written image = report image (is_turned image)
-report_in Exchanged image = order_line Exchanged
-report_in Hardware image = order_line Hardware
-report_in ExchangedHardware image = order_line ExchangedHardware
-report_in Complemented image = order_line Complemented
-report_in ByNumber image = order_line ByNumber
+abbrev pub in_order : Order → ℕ
+in_order Written = 0
+in_order Exchanged = 1
+in_order Hardware = 1
+in_order ExchangedHardware = 1
+
+-- what each bit is, and where the banks stand
+abbrev pub complemented_line : Bool → List ℕ
+complemented_line true = codes "ALL BITS COMPLEMENTED\n"
+complemented_line false = []
+
+abbrev pub numbered_line : Bool → List ℕ
+numbered_line true = codes "BANKS BY THEIR NUMBERS\n"
+numbered_line false = []
+
+abbrev pub arrangement_text : Arrangement → List ℕ
+arrangement_text a = order_line a.order ++ complemented_line a.is_complemented ++ numbered_line a.is_numbered
+
+-- of how many ways the text tells
+abbrev pub ways_of : Arrangement → ℕ
+ways_of a = in_order a.order + (if a.is_complemented then 1 else 0) + (if a.is_numbered then 1 else 0)
+
+-- what is told of an image that stands so: where it stands otherwise than as written that alone
+abbrev pub report_in : Arrangement → List ℕ → List ℕ
+report_in a image = if ways_of a == 0 then report image (is_turned image) else arrangement_text a
 
 -- of how many
-abbrev pub count_in : Order → List ℕ → ℕ
-count_in Written image = findings image (is_turned image)
-count_in Exchanged image = 1
-count_in Hardware image = 1
-count_in ExchangedHardware image = 1
-count_in Complemented image = 1
-count_in ByNumber image = 1
+abbrev pub count_in : Arrangement → List ℕ → ℕ
+count_in a image = if ways_of a == 0 then findings image (is_turned image) else ways_of a
+
+abbrev pub count_of : List ℕ → ℕ
+count_of image = count_in (arrangement_of image) image
 
 -- what is told of an image, and then of how many
 abbrev pub damages : List ℕ → List ℕ
-damages image = report_in (order_of image) image ++ count_line (count_in (order_of image) image)
+damages image = report_in (arrangement_of image) image ++ count_line (count_of image)

@@ -1,6 +1,8 @@
 -- The bytes of an image that stand otherwise than as written.
-use Rattle.std.specs.Prelude.{ℕ, ◌+◌, ◌-◌, ◌*◌, ◌%◌, ◌==◌, nat_lt, Bool, true, false, List, [], ◌∷◌, length, if◌then◌else◌, slice_index_or}
+use Rattle.std.specs.Prelude.{ℕ, ◌+◌, ◌-◌, ◌*◌, ◌/◌, ◌%◌, ◌==◌, nat_lt, Bool, true, false, List, [], ◌∷◌, length, slice_index_or}
+use Rattle.std.specs.Prelude.{if◌then◌else◌}
 use Rattle.std.specs.List.{range_with_len, flat_map}
+use Rattle.rope.specs.Reading.{image_length}
 use Rattle.audit.specs.declared.layout.Layout.{Layout}
 
 -- how many bytes two banks have
@@ -33,3 +35,24 @@ part_in layout bytes byte = byte_in layout bytes byte ∷ []
 -- the bytes of the image, as many as there are
 unfoldable pub arranged : Layout → List ℕ → List ℕ
 arranged layout bytes = flat_map (part_in layout bytes) (range_with_len 0 (length bytes))
+
+-- ## A module of six banks alone
+-- how many bytes it has
+abbrev pub module_bytes : ℕ
+module_bytes = 0o30000
+
+-- a byte of the two of an empty place
+abbrev pub empty_byte : ℕ → ℕ → ℕ → ℕ
+empty_byte high low byte = if byte % 2 == 0 then high else low
+
+-- a byte of an image whose banks stand by their numbers: the module of a number, from 1 on, is these bytes, and the others are empty
+abbrev pub module_byte : ℕ → ℕ → ℕ → List ℕ → ℕ → ℕ
+module_byte number high low bytes byte =
+    if byte / module_bytes + 1 == number then slice_index_or bytes (byte % module_bytes) 0 else empty_byte high low byte
+
+abbrev pub module_part : ℕ → ℕ → ℕ → List ℕ → ℕ → List ℕ
+module_part number high low bytes byte = module_byte number high low bytes byte ∷ []
+
+-- the bytes of such an image
+unfoldable pub module_image : ℕ → ℕ → ℕ → List ℕ → List ℕ
+module_image number high low bytes = flat_map (module_part number high low bytes) (range_with_len 0 image_length)

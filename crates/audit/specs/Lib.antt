@@ -2,6 +2,7 @@ pub mod BankFacts
 pub mod CheckWords
 pub mod Damages
 pub mod Differences
+pub mod FormNames
 pub mod FormSums
 pub mod Layouts
 pub mod Mended

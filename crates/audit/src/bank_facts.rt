@@ -2,8 +2,9 @@
 
 ghost use Rattle.std.specs.Prelude.{◌≡◌, ◌+◌, ◌-◌, ◌*◌, ◌^◌, ◌==◌, ◌<◌, ◌≤◌, ◌||◌, true};
 ghost use Rattle.rope.specs.Places.{banks, bank_words};
-ghost use Rattle.audit.specs.BankFacts.{all_before, bit_of, count_before, dead_bit, dead_bit_before, even_words_before};
-ghost use Rattle.audit.specs.BankFacts.{is_always, is_blank, is_copy, is_dead, is_lost, is_turned, is_uniform};
+ghost use Rattle.audit.specs.BankFacts.{all_before, bit_of, count_before, counted_before, counted_words, dead_bit};
+ghost use Rattle.audit.specs.BankFacts.{dead_bit_before, even_words, even_words_before, has_loops, has_loops_at};
+ghost use Rattle.audit.specs.BankFacts.{is_always, is_blank, is_copy, is_dead, is_loop, is_lost, is_turned, is_uniform};
 ghost use Rattle.audit.specs.BankFacts.{is_wrong, mended_sum, mended_word, mends, with_bit_cleared, with_bit_turned};
 ghost use Rattle.audit.specs.BankFacts.{wrong_words};
 
@@ -11,11 +12,8 @@ use crate::form_sums::holds_sum;
 use crate::lines::{bank_of, offset_of};
 use crate::sums::added;
 use rope::Dump;
-use space::{BANK_WORDS, Bank, FIXED_BANKS, Offset};
+use space::{BANK_WORDS, Bank, FIXED_BANKS, Linear, Offset, window};
 use words::Word;
-
-/// How many words fixed memory has.
-const PLACES: u32 = 36 * 1024;
 
 /// From so many words of wrong parity on a bit that is the same in all words is told whatever the sum.
 const MANY_WORDS: u16 = 32;
@@ -23,16 +21,64 @@ const MANY_WORDS: u16 = 32;
 /// The bits of an offset.
 const OFFSET_BITS: u32 = 10;
 
-/// Whether most words of an image have two bytes with an even number of one bits.
-#[tactic(auto, using(crate::proofs::Folds::even_first, crate::proofs::Folds::even_more))]
+/// Whether most words of an image have two bytes with an even number of one bits. Banks of one word alone, which are
+/// empty or lost, do not count.
 pub(crate) fn is_turned(image: &Dump) -> bool
     ensures { result ≡ is_turned image.now }
 {
+    counted_in_all(image) < 2 * even_in_all(image)
+}
+
+/// Of how many words of an image the parities count.
+#[tactic(auto, using(crate::proofs::Folds::counted_first, crate::proofs::Folds::counted_more))]
+fn counted_in_all(image: &Dump) -> u32
+    ensures count { result ≡ counted_before image.now banks }
+    ensures few { result ≤ 1024 * banks }
+{
     let mut count: u32 = 0;
     for number in 0..FIXED_BANKS {
-        count += u32::from(wrong_words(image, false, bank_of(number)));
+        count += counted_words(image, bank_of(number));
     }
-    PLACES < 2 * count
+    count
+}
+
+/// How many of these have two bytes with an even number of one bits.
+#[tactic(auto, using(crate::proofs::Folds::even_first, crate::proofs::Folds::even_more))]
+fn even_in_all(image: &Dump) -> u32
+    ensures count { result ≡ even_words_before image.now banks }
+    ensures few { result ≤ 1024 * banks }
+{
+    let mut count: u32 = 0;
+    for number in 0..FIXED_BANKS {
+        count += even_words(image, bank_of(number));
+    }
+    count
+}
+
+/// Of how many words of a bank the parities count: of none where all are one.
+fn counted_words(image: &Dump, bank: Bank) -> u32
+    requires { bank < banks }
+    ensures count { result ≡ counted_words image.now bank }
+    ensures few { result ≤ 1024 }
+{
+    if is_uniform(image, bank) {
+        0
+    } else {
+        u32::from(BANK_WORDS)
+    }
+}
+
+/// How many of these have two bytes with an even number of one bits.
+fn even_words(image: &Dump, bank: Bank) -> u32
+    requires { bank < banks }
+    ensures count { result ≡ even_words image.now bank }
+    ensures few { result ≤ 1024 }
+{
+    if is_uniform(image, bank) {
+        0
+    } else {
+        u32::from(wrong_words(image, false, bank))
+    }
 }
 
 /// Whether the parity at a place is wrong.
@@ -176,12 +222,11 @@ pub(crate) fn is_blank(image: &Dump, turned: bool, bank: Bank) -> bool
 
 /// A bit of a word, of which 1 is the lowest.
 fn bit_of(word: u16, bit: u32) -> u16
-    requires some { 1 ≤ bit }
-    requires few { bit ≤ 15 }
+    requires { bit ≤ 15 }
     ensures bit { result ≡ bit_of word bit }
     ensures range { result ≤ 1 }
 {
-    word / power_of_two(bit - 1) % 2
+    word / power_of_two(bit.saturating_sub(1)) % 2
 }
 
 /// Whether a bit is the same in all words of a bank.
@@ -286,4 +331,50 @@ pub(crate) fn dead_bit(image: &Dump, bank: Bank) -> u32
         }
     }
     dead
+}
+
+/// Whether the words of a bank are those of the places where a bit of the offset has a value: two of them, one after
+/// another, are TC to their own places there.
+pub(crate) fn has_loops(image: &Dump, bank: Bank, bit: u32, value: u16) -> bool
+    requires bank { bank < banks }
+    requires few { bit ≤ 10 }
+    ensures { result ≡ has_loops image.now bank bit value }
+{
+    !(loops(image, bank, bit, value) == 0)
+}
+
+/// At how many places two of them begin.
+#[tactic(auto, using(crate::proofs::Folds::count_first, crate::proofs::Folds::count_there, crate::proofs::Folds::count_passed))]
+fn loops(image: &Dump, bank: Bank, bit: u32, value: u16) -> u16
+    requires bank { bank < banks }
+    requires few { bit ≤ 10 }
+    ensures count { result ≡ count_before (has_loops_at image.now bank bit value) (bank_words - 1) }
+    ensures few { result ≤ bank_words }
+{
+    let mut count = 0;
+    for number in 0..BANK_WORDS - 1 {
+        if has_loops_at(image, bank, bit, value, number) {
+            count += 1;
+        }
+    }
+    count
+}
+
+/// Whether the word of an offset and the next one are, and stand there.
+fn has_loops_at(image: &Dump, bank: Bank, bit: u32, value: u16, number: u16) -> bool
+    requires bank { bank < banks }
+    requires few { bit ≤ 10 }
+    requires offset { number < bank_words - 1 }
+    ensures { result ≡ has_loops_at image.now bank bit value number }
+{
+    (bit_of(number, bit) == value && bit_of(number + 1, bit) == value)
+        && (is_loop(image, bank, offset_of(number)) && is_loop(image, bank, offset_of(number + 1)))
+}
+
+/// Whether a word of a bank is a TC to its own place.
+fn is_loop(image: &Dump, bank: Bank, offset: Offset) -> bool
+    requires { bank < banks }
+    ensures { result ≡ is_loop image.now bank offset }
+{
+    image.word(bank, offset).to_u16() == window(Linear::Fixed(bank, offset)).number()
 }

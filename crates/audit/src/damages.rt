@@ -6,21 +6,24 @@ ghost use Rattle.std.specs.List.{flat_map, range_with_len};
 ghost use Rattle.words.specs.Devices.{Writes, failures_after};
 ghost use Rattle.rope.specs.Places.{banks};
 ghost use Rattle.audit.specs.BankFacts.{count_before, dead_bit, is_always, is_turned, mended_sum, mends, wrong_words};
-ghost use Rattle.audit.specs.Orders.{order_of};
-ghost use Rattle.audit.specs.Damages.{always_text, bank_name, bank_of_sum, bank_text, by_count, by_its_sum, by_other};
-ghost use Rattle.audit.specs.Damages.{by_parities, by_sum, copy_line, count_in, damages, dead_line, exchanged_line};
-ghost use Rattle.audit.specs.Damages.{finding_of, finding_text, findings, is_damaged, lost_line, lost_lines, lost_text};
-ghost use Rattle.audit.specs.Damages.{of_sum, of_uniform, of_wrong_parity, parity_bits_line, report, report_in};
-ghost use Rattle.audit.specs.Damages.{sum_of_line, turned_text, uniform_line, wrong_lines, wrong_sum_line};
+ghost use Rattle.audit.specs.Orders.{arrangement_of};
+ghost use Rattle.audit.specs.Damages.{always_text, arrangement_text, bank_name, bank_of_sum, bank_text, by_count};
+ghost use Rattle.audit.specs.Damages.{by_its_sum, by_other, by_parities, by_sum, complemented_line, copy_line};
+ghost use Rattle.audit.specs.Damages.{count_in, count_of, damages, dead_line, dead_text, exchanged_line, finding_of};
+ghost use Rattle.audit.specs.Damages.{finding_text, findings, in_order, is_damaged, lost_line, lost_lines, lost_text};
+ghost use Rattle.audit.specs.Damages.{module_text, modules, numbered_line, of_sum, of_uniform, of_wrong_parity};
+ghost use Rattle.audit.specs.Damages.{order_line, parity_bits_line, report, report_in, sum_of_line, turned_text};
+ghost use Rattle.audit.specs.Damages.{uniform_line, ways_of, wrong_lines, wrong_sum_line};
 
 use crate::bank_facts::{
-    dead_bit, is_always, is_blank, is_copy, is_lost, is_turned, is_uniform, lost_bits, mended_sum,
-    mends, wrong_words,
+    dead_bit, has_loops, is_always, is_blank, is_copy, is_lost, is_turned, is_uniform, lost_bits,
+    mended_sum, mends, wrong_words,
 };
 use crate::differences::count_line;
 use crate::form_sums::holds_sum;
 use crate::lines::{bank_of, offset_of};
-use crate::orders::{Order, order_of};
+use crate::lost_modules::write_module;
+use crate::orders::{Arrangement, Order, arrangement_of};
 use crate::wrong_words::write_wrong_words;
 use arrayvec::ArrayVec;
 use rope::Dump;
@@ -28,12 +31,18 @@ use space::{Bank, FIXED_BANKS};
 use words::{Word, Write, WriteFailed, push_all, push_decimal, push_octal, write_all};
 
 /// The most bytes of a line of a bank.
-const BANK_LINE: usize = 96;
+const BANK_LINE: usize = 128;
+
+/// The most bytes of the lines that tell how an image stands.
+const STANDING: usize = 128;
 
 /// The bits of a word.
 const WORD_BITS: u32 = 15;
 
-type BankLine = ArrayVec<u8, BANK_LINE>;
+/// How many modules there are.
+const MODULES: u16 = 6;
+
+pub(crate) type BankLine = ArrayVec<u8, BANK_LINE>;
 
 /// What the words of a bank, their parities and its sum tell of it.
 #[derive(Clone, Copy, Drop)]
@@ -61,62 +70,118 @@ pub enum Finding {
 }
 
 /// Writes what is damaged in an image, bank by bank, as `10,2137 00006 IS 00002 BY THE SUM`: what the words, their
-/// parities and the sum of the bank tell together. Then it writes of how many banks it told, the parity of the whole
-/// image counted as one, as `COUNT 1`, and answers that.
+/// parities and the sum of the bank tell together. Where the image stands in another form that alone is told. Then it
+/// writes of how many banks it told, or in how many ways the image stands otherwise, the parity of the whole image
+/// counted as one, as `COUNT 1`, and answers that.
 ///
 /// After a failure a beginning of it was written.
 pub fn write_damages<W: Write>(image: &Dump, out: &mut W) -> Result<u32, WriteFailed>
     ensures written { W.told ≡ true → Writes (W.written out.old) (W.written out.new) (damages image.now) result }
-    ensures count { IfOk result (λ count. count ≡ count_in (order_of image.now) image.now) }
+    ensures count { IfOk result (λ count. count ≡ count_of image.now) }
     ensures failures { W.failures out.new ≡ failures_after (W.failures out.old) result }
 {
-    let order = order_of(image);
-    write_report_in(order, image, out)?;
-    let count = count_in(order, image);
+    let standing = arrangement_of(image);
+    write_report_in(standing, image, out)?;
+    let count = count_in(standing, image);
     write_all(out, count_line(count).as_slice())?;
     Ok(count)
 }
 
-/// Writes what is told of an image that stands in an order.
-fn write_report_in<W: Write>(order: Order, image: &Dump, out: &mut W) -> Result<(), WriteFailed>
-    ensures written { W.told ≡ true → Writes (W.written out.old) (W.written out.new) (report_in order image.now)
+/// Writes what is told of an image that stands so.
+fn write_report_in<W: Write>(
+    standing: Arrangement,
+    image: &Dump,
+    out: &mut W,
+) -> Result<(), WriteFailed>
+    ensures written { W.told ≡ true → Writes (W.written out.old) (W.written out.new) (report_in standing image.now)
         result }
     ensures failures { W.failures out.new ≡ failures_after (W.failures out.old) result }
 {
-    match order {
-        Order::Written => write_report(image, is_turned(image), out),
-        Order::Exchanged => write_all(out, b"BYTES EXCHANGED\n"),
-        Order::Hardware => write_all(out, b"BITS IN THE ORDER OF THE HARDWARE\n"),
-        Order::ExchangedHardware => write_all(
-            out,
-            b"BYTES EXCHANGED, BITS IN THE ORDER OF THE HARDWARE\n",
-        ),
-        Order::Complemented => write_all(out, b"ALL BITS COMPLEMENTED\n"),
-        Order::ByNumber => write_all(out, b"BANKS BY THEIR NUMBERS\n"),
+    if ways_of(standing) == 0 {
+        write_report(image, is_turned(image), out)
+    } else {
+        write_all(out, arrangement_text(standing).as_slice())
     }
 }
 
-/// Of how many is told where an image stands in an order.
-fn count_in(order: Order, image: &Dump) -> u32
-    ensures { result ≡ count_in order image.now }
+/// Of how many is told where an image stands so.
+fn count_in(standing: Arrangement, image: &Dump) -> u32
+    ensures { result ≡ count_in standing image.now }
+{
+    let ways = ways_of(standing);
+    if ways == 0 {
+        findings(image, is_turned(image))
+    } else {
+        ways
+    }
+}
+
+/// In how many ways an image stands otherwise than as written.
+fn ways_of(standing: Arrangement) -> u32
+    ensures count { result ≡ ways_of standing }
+    ensures few { result ≤ 3 }
+{
+    in_order(standing.order) + u32::from(standing.is_complemented) + u32::from(standing.is_numbered)
+}
+
+/// Whether an order is another one than as written, as a number.
+fn in_order(order: Order) -> u32
+    ensures count { result ≡ in_order order }
+    ensures few { result ≤ 1 }
 {
     match order {
-        Order::Written => findings(image, is_turned(image)),
-        Order::Exchanged
-        | Order::Hardware
-        | Order::ExchangedHardware
-        | Order::Complemented
-        | Order::ByNumber => 1,
+        Order::Written => 0,
+        Order::Exchanged | Order::Hardware | Order::ExchangedHardware => 1,
     }
 }
 
-/// Writes what is damaged, bank by bank.
+/// How an image stands otherwise than as written.
+fn arrangement_text(standing: Arrangement) -> ArrayVec<u8, STANDING>
+    ensures { result.items ≡ arrangement_text standing }
+{
+    let mut text = ArrayVec::new();
+    push_all(&mut text, order_line(standing.order));
+    push_all(&mut text, complemented_line(standing.is_complemented));
+    push_all(&mut text, numbered_line(standing.is_numbered));
+    text
+}
+
+/// The order of its bits and bytes.
+fn order_line(order: Order) -> &'static [u8]
+    ensures text { result.now ≡ order_line order }
+    ensures short { length result.now ≤ 51 }
+{
+    match order {
+        Order::Written => b"",
+        Order::Exchanged => b"BYTES EXCHANGED\n",
+        Order::Hardware => b"BITS IN THE ORDER OF THE HARDWARE\n",
+        Order::ExchangedHardware => b"BYTES EXCHANGED, BITS IN THE ORDER OF THE HARDWARE\n",
+    }
+}
+
+/// That each bit is the other one.
+fn complemented_line(is: bool) -> &'static [u8]
+    ensures text { result.now ≡ complemented_line is }
+    ensures short { length result.now ≤ 22 }
+{
+    if is { b"ALL BITS COMPLEMENTED\n" } else { b"" }
+}
+
+/// That the banks stand by their numbers.
+fn numbered_line(is: bool) -> &'static [u8]
+    ensures text { result.now ≡ numbered_line is }
+    ensures short { length result.now ≤ 23 }
+{
+    if is { b"BANKS BY THEIR NUMBERS\n" } else { b"" }
+}
+
+/// Writes what is damaged, module by module.
 fn write_report<W: Write>(image: &Dump, turned: bool, out: &mut W) -> Result<(), WriteFailed>
     ensures written { W.told ≡ true → Writes (W.written out.old) (W.written out.new) (report image.now turned) result }
     ensures failures { W.failures out.new ≡ failures_after (W.failures out.old) result }
 {
     write_all(out, turned_text(turned))?;
-    write_banks(image, turned, out)
+    write_modules(image, turned, out)
 }
 
 /// How many banks are told of, and the parity where it is the other way round.
@@ -153,7 +218,7 @@ fn damaged_banks(image: &Dump, turned: bool) -> u16
 }
 
 /// Whether a finding is a damage.
-fn is_damaged(it: Finding) -> bool
+pub(crate) fn is_damaged(it: Finding) -> bool
     ensures { result ≡ is_damaged it }
 {
     match it {
@@ -185,7 +250,7 @@ fn finding_of(image: &Dump, turned: bool, bank: Bank) -> Finding
 }
 
 /// What is told of a bank in which all words are one.
-fn of_uniform(image: &Dump, turned: bool, bank: Bank) -> Finding
+pub(crate) fn of_uniform(image: &Dump, turned: bool, bank: Bank) -> Finding
     requires { bank < banks }
     ensures { result ≡ of_uniform image.now turned bank }
 {
@@ -282,21 +347,21 @@ fn bank_of_sum(total: Word) -> u16
     }
 }
 
-/// Writes the texts of all banks.
-fn write_banks<W: Write>(image: &Dump, turned: bool, out: &mut W) -> Result<(), WriteFailed>
+/// Writes the texts of all modules.
+fn write_modules<W: Write>(image: &Dump, turned: bool, out: &mut W) -> Result<(), WriteFailed>
     ensures written { W.told ≡ true → Writes (W.written out.old) (W.written out.new)
-        (flat_map (bank_text image.now turned) (range_with_len 0 banks)) result }
+        (flat_map (module_text image.now turned) (range_with_len 0 modules)) result }
     ensures failures { W.failures out.new ≡ failures_after (W.failures out.old) result }
 {
-    for number in 0..FIXED_BANKS {
-        write_bank(image, turned, bank_of(number), out)?;
+    for nth in 0..MODULES {
+        write_module(image, turned, nth, out)?;
     }
     Ok(())
 }
 
 /// Writes the text of a bank.
 #[tactic(auto, unfolding(crate::specs::Damages::bank_text))]
-fn write_bank<W: Write>(
+pub(crate) fn write_bank<W: Write>(
     image: &Dump,
     turned: bool,
     bank: Bank,
@@ -326,7 +391,7 @@ fn write_finding<W: Write>(
     match it {
         Finding::Sound => write_all(out, b""),
         Finding::Uniform => write_all(out, uniform_line(image, turned, bank).as_slice()),
-        Finding::DeadBit => write_all(out, dead_line(bank, dead_bit(image, bank)).as_slice()),
+        Finding::DeadBit => write_all(out, dead_line(image, turned, bank).as_slice()),
         Finding::WrongSum => write_all(out, wrong_sum_line(image, turned, bank).as_slice()),
         Finding::CopyOf(other) => write_all(out, copy_line(bank, other).as_slice()),
         Finding::SumOf(other) => write_all(out, sum_of_line(bank, other).as_slice()),
@@ -364,8 +429,8 @@ fn uniform_line(image: &Dump, turned: bool, bank: Bank) -> BankLine
 
 /// Appends how many of a bank's words have a wrong parity, where some have, and a newline.
 #[tactic(auto, unfolding(crate::specs::Damages::of_wrong_parity), using(words::proofs::Digits::short_decimal))]
-fn push_of_wrong_parity(line: &mut BankLine, some: bool, wrongs: u16)
-    requires { array_vec_len line.old ≤ 20 }
+pub(crate) fn push_of_wrong_parity(line: &mut BankLine, some: bool, wrongs: u16)
+    requires { array_vec_len line.old ≤ 64 }
     ensures { line.new.items ≡ line.old.items ++ of_wrong_parity some wrongs }
 {
     if some {
@@ -379,15 +444,33 @@ fn push_of_wrong_parity(line: &mut BankLine, some: bool, wrongs: u16)
 
 /// A bit of the offset makes no difference.
 #[tactic(auto, using(words::proofs::Digits::short_decimal))]
-fn dead_line(bank: Bank, bit: u32) -> BankLine
-    ensures { result.items ≡ dead_line bank bit }
+fn dead_line(image: &Dump, turned: bool, bank: Bank) -> BankLine
+    requires { bank < banks }
+    ensures { result.items ≡ dead_line image.now turned bank (dead_bit image.now bank) }
 {
+    let bit = dead_bit(image, bank);
+    let wrongs = wrong_words(image, turned, bank);
     let mut line = ArrayVec::new();
     push_bank(&mut line, bank.number());
     push_all(&mut line, b" ADDRESS BIT ");
     push_decimal(&mut line, u64::from(bit));
-    push_all(&mut line, b" MAKES NO DIFFERENCE\n");
+    let zero = wrongs == 0 && has_loops(image, bank, bit, 0);
+    let one = wrongs == 0 && has_loops(image, bank, bit, 1);
+    push_all(&mut line, dead_text(zero, one));
+    push_of_wrong_parity(&mut line, 0 < wrongs, wrongs);
     line
+}
+
+/// What a bit of the offset is, if the words are those where it is 0, or those where it is 1.
+fn dead_text(zero: bool, one: bool) -> &'static [u8]
+    ensures text { result.now ≡ dead_text zero one }
+    ensures short { length result.now ≤ 20 }
+{
+    match (zero, one) {
+        (true, false) => b" ALWAYS 0",
+        (false, true) => b" ALWAYS 1",
+        (true, true) | (false, false) => b" MAKES NO DIFFERENCE",
+    }
 }
 
 /// A bank's sum is that of no bank.

@@ -39,7 +39,7 @@ fn byte_in(layout: Layout, bytes: &[u8], number: usize) -> u8
 }
 
 /// A byte of a file, 0 outside.
-fn byte_at(bytes: &[u8], place: usize) -> u8
+pub(crate) fn byte_at(bytes: &[u8], place: usize) -> u8
     ensures { result ≡ slice_index_or bytes.now place 0 }
 {
     if place < bytes.len() { bytes[place] } else { 0 }

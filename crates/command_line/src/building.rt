@@ -1,6 +1,6 @@
 //! The command as `clap` takes it, made of the table's rows.
 
-use crate::row::{MOST_STEPS, Row, Subcommand, Value};
+use crate::row::{MOST_LINKS, MOST_STEPS, Row, Subcommand, Value};
 use crate::table::subcommands;
 use clap::{Arg, ArgAction, Command, value_parser};
 use std::alloc::{AllocError, Global};
@@ -85,6 +85,7 @@ fn with_value<'a>(arg: Arg<'a>, value: Value) -> Arg<'a> {
         Value::OneOf(names) => arg.value_parser(names),
         Value::OneOfMany(names) => arg.value_parser(names).hide_possible_values(true),
         Value::Step => arg.value_parser(value_parser!(u64).range(0..=MOST_STEPS as i64)),
+        Value::Links => arg.value_parser(value_parser!(u64).range(1..=MOST_LINKS as i64)),
         Value::Steps => arg
             .allow_negative_numbers(true)
             .value_parser(value_parser!(u64).range(0..=MOST_STEPS as i64)),

@@ -6,7 +6,7 @@ use crate::names::{
     FIND, FLIGHT, FORM, FORMS, FROM, IGNORED_PARITY, IMAGE, JSON, JUNIT, NEW, NEW_FORM,
     NEW_VERSION, NOTES, NUMBER, OLD, OLD_FORM, OLD_VERSION, ONLY, PARITY, PASSAGE, PLACE, PROGRESS,
     REACH, READS, ROPE, RUN, RUN_FEED, RUN_STEPS, SAY, SOURCE, STEPS, SUMS, SYMBOLS, TAP, TO,
-    TRACE, TRIALS, UNUSED, UPGRADE, VERSION, VERSION_ONE, WHATIF, WHERE, WITH, WITH_SUMS,
+    TRACE, TRIALS, UNUSED, UPGRADE, VERSION, VERSION_ONE, WHATIF, WHERE, WHY, WITH, WITH_SUMS,
     WITH_XREF, WORDS,
 };
 use arguments::{
@@ -153,6 +153,7 @@ fn differ<'a>(matches: &ArgMatches<'a>) -> Option<DifferArguments<'a>> {
             ..program
         },
         steps: matches.get_one(STEPS)?,
+        why: matches.get_one(WHY),
     })
 }
 
@@ -278,7 +279,8 @@ fn image<'a>(
         layout: ImageLayout {
             is_swapped: form / 2 % 2 == 1,
             is_complemented: form / 4 % 2 == 1,
-            is_numbered: form / 8 % 2 == 1,
+            is_numbered: form / 8 == 1,
+            one_module: (form / 8).saturating_sub(1),
         },
     })
 }

@@ -33,6 +33,8 @@ pub const DIFFER: &str = "differ";
 /// The program and the feed of the other run.
 pub const WITH: &str = "with";
 
+pub const WHY: &str = "why";
+
 /// The subcommand that tries inputs.
 pub const WHATIF: &str = "whatif";
 
@@ -205,7 +207,7 @@ pub const ONLY: &str = "ONLY";
 pub const BOTH_FORMS: &str = "BOTH_FORMS";
 
 /// How an image may stand: the first names 1, and each that follows one more; 1 is hardware, 2 swapped, 4 complemented,
-/// 8 numbered.
+/// 8 numbered, and 16 to 56 a module of six banks alone.
 pub const FORMS: &[&str] = &[
     "hardware",
     "swapped",
@@ -222,6 +224,54 @@ pub const FORMS: &[&str] = &[
     "hardware,complemented,numbered",
     "swapped,complemented,numbered",
     "hardware,swapped,complemented,numbered",
+    "module1",
+    "hardware,module1",
+    "swapped,module1",
+    "hardware,swapped,module1",
+    "complemented,module1",
+    "hardware,complemented,module1",
+    "swapped,complemented,module1",
+    "hardware,swapped,complemented,module1",
+    "module2",
+    "hardware,module2",
+    "swapped,module2",
+    "hardware,swapped,module2",
+    "complemented,module2",
+    "hardware,complemented,module2",
+    "swapped,complemented,module2",
+    "hardware,swapped,complemented,module2",
+    "module3",
+    "hardware,module3",
+    "swapped,module3",
+    "hardware,swapped,module3",
+    "complemented,module3",
+    "hardware,complemented,module3",
+    "swapped,complemented,module3",
+    "hardware,swapped,complemented,module3",
+    "module4",
+    "hardware,module4",
+    "swapped,module4",
+    "hardware,swapped,module4",
+    "complemented,module4",
+    "hardware,complemented,module4",
+    "swapped,complemented,module4",
+    "hardware,swapped,complemented,module4",
+    "module5",
+    "hardware,module5",
+    "swapped,module5",
+    "hardware,swapped,module5",
+    "complemented,module5",
+    "hardware,complemented,module5",
+    "swapped,complemented,module5",
+    "hardware,swapped,complemented,module5",
+    "module6",
+    "hardware,module6",
+    "swapped,module6",
+    "hardware,swapped,module6",
+    "complemented,module6",
+    "hardware,complemented,module6",
+    "swapped,complemented,module6",
+    "hardware,swapped,complemented,module6",
 ];
 
 /// How many banks there are.

@@ -31,7 +31,9 @@ pub const WORDS_HELP: &str = "Files:
           swapped       the second of each two bytes stands first
           complemented  each bit is the other one
           numbered      banks 0 and 1 stand before banks 2 and 3
-        or in several of these ways, named in this order with commas.
+        or in several of these ways, named in this order with commas. In place
+        of numbered module1 to module6 stand for a file of 12288 bytes: one
+        module of six banks by their numbers, the other banks without a word.
 
 Output: one line for each word of the bank, or of all banks in the order of
 their numbers, as
@@ -191,8 +193,10 @@ number, or its complement.
 With --forms the line has two sums, and in which of them that is so, as
   02 00002 16010 written
 the first of the words as the image is written, the second of those that the
-same bytes are in the form of --form hardware; then in which forms that is so:
-written, hardware, swapped, hardware,swapped, numbered, or - where in none.
+same bytes are in the form of --form hardware; then in which forms that is so,
+by their names for --form, as swapped,numbered, or written, or - where in none.
+No sum tells complemented: it stands where over 32 words more are 77771 than
+00006, EXTEND; or neither are, some bank is 77777 throughout and none 00000.
 
 Exit status:
   0  done
@@ -251,20 +255,27 @@ it is the bank's number, or its complement:
       no parity is wrong, and the sum is, in none of these ways
   BANK 12 ADDRESS BIT 7 MAKES NO DIFFERENCE
       each word stands twice: where this bit of its offset is 0, and 1
+  BANK 12 ADDRESS BIT 7 ALWAYS 1
+      the same, and the words are those where it is 1: two TC to themselves one
+      after another, as check words begin, are so there
   BANK 07 ALL 77777
-      all words are one; an empty bank is not told of
-  BANKS BY THEIR NUMBERS
-      banks 0 to 3 have the sums of 2, 3, 0 and 1; then nothing else is told
+  BANKS 22 TO 27 ALL 77777
+      all words are one, of a bank or a module; an empty bank is not told of
   BYTES EXCHANGED
   BITS IN THE ORDER OF THE HARDWARE, or both
       more banks have their sums so than as agcws asm writes images; then
-      nothing else is told
+      nothing else is told but the next two, which may stand alone too
   ALL BITS COMPLEMENTED
-      all words of some bank are 77777, and of none 00000
+      over 32 words more are 77771 than 00006, EXTEND; or neither are, all words
+      of some bank are 77777, and of none 00000
+  BANKS BY THEIR NUMBERS
+      banks 0 to 3 have the sums of 2, 3, 0 and 1
   PARITY THE OTHER WAY ROUND
-      most words have a wrong parity; then the other one is taken for right
-Then COUNT, and of how many of these banks it tells; the parity of the image
-counts as one more. Nothing is repaired.
+      most words have a wrong parity, banks of one word alone left out; then the
+      other one is taken for right
+Then COUNT, and of how many banks it tells; the parity of the image counts as
+one more. An image that stands in several ways has a line for each, and those
+are counted. Nothing is repaired.
 With --source the words as lines of BANK and OCT in place of this, with the
 place of each in its comment. Where one bit alone can be wrong in a bank's words
 of wrong parity, they are written without it:

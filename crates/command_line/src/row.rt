@@ -3,6 +3,9 @@
 /// The most steps that may be asked for.
 pub const MOST_STEPS: u64 = 1_099_511_627_774;
 
+/// The most steps of a chain that may be asked for.
+pub const MOST_LINKS: u64 = 999;
+
 /// A subcommand.
 #[derive(Clone, Copy)]
 pub struct Subcommand {
@@ -60,4 +63,6 @@ pub enum Value {
     Step,
     /// How many steps, as an argument that is told by its place.
     Steps,
+    /// How many steps of a chain, as an option has it.
+    Links,
 }

@@ -346,17 +346,33 @@ What never differs is told in words, as
   NO OUTPUT DIFFERS IN 200 STEPS
 The sources may differ: what is compared is words, and places by their numbers.
 
+With --why K each of the three is followed by how it came about, as
+  WHY SUM
+  22  41  BRUPT    54101  TS SUM       READS A=000001  SUM=00001
+  17  31  02,4110  54101  TS SUM       READS A=177765  SUM=77765
+  WHY A
+  20  37  02,4015  26102  ADS TICKS    READS A=000001 TICKS=00000  ..
+  16  29  02,4107  64125  AD TABLE +3  READS A=177715 02,4125=00050  ..
+  PART AT 20 WITH 16
+First it is the cell that the line tells, of FIRST OUTPUT the first that the two
+steps wrote and that is not the same then; of FIRST STEP too, or Z, the branch,
+where they stand at two places. Below it stand the last steps that wrote it, as
+agcws trace --reads has them; or NONE. Then the same of the first cell that they
+read for it and that was not the same, other than Z. PART: they are not the same
+step, as told without place and word; or all that they read was the same. MORE:
+it goes on after K.
+
 Each of the three makes each run once, up to where they part, and once more for
-its line. Memory does not grow with N.
+its line; each WHY makes both three times. Memory does not grow with N.
 
 Exit status:
   0  done, whether they differ or not
   1  a source, an image, a feed or the table is refused
   2  the command line is wrong
   3  a file, a device or memory failed
-Status 1 and 3 print one line to standard error, as agcws: E14 LINE 9. What the
-number means: agcws explain E14. All faults of a file, and so of which file one
-is: agcws check SRC FEED, and agcws check SRC2 FEED2.";
+Status 1 and 3 print one line to standard error, as agcws: E14 LINE 9; of SRC2
+or FEED2 with its name. What the number means: agcws explain E14. All faults of
+a file: agcws check SRC FEED, and agcws check SRC2 FEED2.";
 
 /// What `agcws debug --help` tells after its arguments.
 pub const DEBUG_HELP: &str = "Files:

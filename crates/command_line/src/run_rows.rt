@@ -2,7 +2,7 @@
 
 use crate::names::{
     ACCESS, COVER, DEBUG, DELAYS, DIFFER, END, EXTENDED, FROM, JSON, NOTES, PLACE, REACH, READS,
-    RUN, RUN_FEED, RUN_STEPS, SAY, TO, TRACE, TRIALS, WHATIF, WITH,
+    RUN, RUN_FEED, RUN_STEPS, SAY, TO, TRACE, TRIALS, WHATIF, WHY, WITH,
 };
 use crate::row::{Row, Subcommand, Value};
 use crate::rows::{
@@ -258,7 +258,7 @@ pub fn differ() -> Subcommand {
     }
 }
 
-static DIFFER_ROWS: [Row; 10] = [
+static DIFFER_ROWS: [Row; 11] = [
     Row {
         help: "The sources have forms of flight programs",
         ..FLIGHT_OF_PROGRAM
@@ -286,6 +286,14 @@ static DIFFER_ROWS: [Row; 10] = [
         value_names: &["SRC2", "FEED2"],
         help: "The other run: its source or image, and its feed",
         ..NEEDED
+    },
+    Row {
+        name: WHY,
+        long: Some("why"),
+        value: Value::Links,
+        value_names: &["K"],
+        help: "Tells how each came about, in at most K steps",
+        ..PLAIN
     },
     Row {
         help: "Names for the images' places, a file",

@@ -25,7 +25,7 @@ use Rattle.commands.specs.declared.extended.ExtendedLine.TheVariants.{Plain, Com
 use Rattle.commands.specs.declared.extended.ExtendedLine.TheVariants.{WhyStep, Why, Words, Where, Find, Trace, Inputs, Over, Out, Listed}
 use Rattle.commands.specs.declared.extended.ExtendedLine.TheVariants.{Values, Channels, Differs, WhySince, TailSteps, Survey, Say, WhatIf}
 use Rattle.commands.specs.declared.whatif.Extent.TheVariants.{Here, Each}
-use Rattle.commands.specs.declared.extended.ExtendedLine.TheVariants.{Calls, WhyWay, WhyControl}
+use Rattle.commands.specs.declared.extended.ExtendedLine.TheVariants.{Calls, WhyWay, WhyControl, WhyInputs, WhyInterrupts, Never}
 use Rattle.commands.specs.declared.extended.LinkLines.{LinkLines}
 
 -- a place in fixed memory, and a number that is no place
@@ -85,7 +85,7 @@ unfolding extended_line extended_forms usages forms runs parsed counters sequenc
 indexed = refl
 
 unindexed : asked (codes "why SUM index 3" ∷ codes "why SUM 3 INDEX" ∷ codes "why SUM 3 index index" ∷ codes "why SUM indexes" ∷ [])
-    ≡ replicate 4 (Says (codes "E50 COMMAND why takes step, [PLACE [k|control]] .. [since T]\n"))
+    ≡ replicate 4 (Says (codes "E50 COMMAND why takes [step|PLACE [k|control|inputs|interrupts|since]]\n"))
 unfolding extended_line extended_forms usages forms runs parsed counters sequences registers window
 unindexed = refl
 
@@ -100,7 +100,7 @@ placed = refl
 
 unplaced : asked (codes "why SUM places 3" ∷ codes "why SUM places index" ∷ codes "why SUM 3 index places places" ∷ codes "why SUM PLACES"
     ∷ codes "why index 3 places index" ∷ [])
-    ≡ replicate 5 (Says (codes "E50 COMMAND why takes step, [PLACE [k|control]] .. [since T]\n"))
+    ≡ replicate 5 (Says (codes "E50 COMMAND why takes [step|PLACE [k|control|inputs|interrupts|since]]\n"))
 unfolding extended_line extended_forms usages forms runs parsed counters sequences registers window
 unplaced = refl
 
@@ -116,7 +116,7 @@ since = refl
 
 not_since : asked (codes "why SUM since" ∷ codes "why SUM since x" ∷ codes "why SUM since 5 3" ∷ codes "why SUM since 5 index"
     ∷ codes "why SUM 1000 since 5" ∷ codes "why SUM places index since 5" ∷ codes "why SUM Since 5" ∷ [])
-    ≡ replicate 7 (Says (codes "E50 COMMAND why takes step, [PLACE [k|control]] .. [since T]\n"))
+    ≡ replicate 7 (Says (codes "E50 COMMAND why takes [step|PLACE [k|control|inputs|interrupts|since]]\n"))
 unfolding extended_line extended_forms usages forms runs parsed counters sequences registers window
 not_since = refl
 
@@ -128,8 +128,20 @@ ways : asked (codes "why step" ∷ codes "why SUM control" ∷ codes "why SUM +1
 unfolding extended_line extended_forms usages forms runs parsed counters sequences registers window
 ways = refl
 
+-- what a whole chain comes from, and the interrupts in which its steps stand
+whole : asked (codes "why SUM inputs" ∷ codes "why SUM +1 interrupts # why" ∷ codes "why CH010 inputs" ∷ codes "why CH010 interrupts" ∷ [])
+    ≡ WhyInputs (subject.Place 0o101) ∷ WhyInterrupts (subject.Place 0o102) ∷ WhyInputs (subject.Channel 8)
+    ∷ WhyInterrupts (subject.Channel 8) ∷ []
+unfolding extended_line extended_forms usages forms runs parsed counters sequences registers window
+whole = refl
+
+no_whole : asked (codes "why SUM inputs 3" ∷ codes "why SUM 3 interrupts" ∷ codes "why SUM Inputs" ∷ codes "why SUM input" ∷ [])
+    ≡ replicate 4 (Says (codes "E50 COMMAND why takes [step|PLACE [k|control|inputs|interrupts|since]]\n"))
+unfolding extended_line extended_forms usages forms runs parsed counters sequences registers window
+no_whole = refl
+
 no_ways : asked (codes "why SUM control 3" ∷ codes "why SUM 3 control" ∷ codes "why SUM Control" ∷ codes "why SUM step" ∷ [])
-    ≡ replicate 4 (Says (codes "E50 COMMAND why takes step, [PLACE [k|control]] .. [since T]\n"))
+    ≡ replicate 4 (Says (codes "E50 COMMAND why takes [step|PLACE [k|control|inputs|interrupts|since]]\n"))
 unfolding extended_line extended_forms usages forms runs parsed counters sequences registers window
 no_ways = refl
 
@@ -151,9 +163,9 @@ wrong_whys : asked (codes "why FIVE" ∷ codes "why CH12" ∷ codes "why SUMM" �
     ∷ codes "CH12 is in fixed memory, whose words never change\n"
     ∷ codes "no symbol SUMM\n"
     ∷ codes "no symbol SUMM\n"
-    ∷ codes "why takes step, [PLACE [k|control]] .. [since T]\n"
-    ∷ codes "why takes step, [PLACE [k|control]] .. [since T]\n"
-    ∷ codes "why takes step, [PLACE [k|control]] .. [since T]\n"
+    ∷ codes "why takes [step|PLACE [k|control|inputs|interrupts|since]]\n"
+    ∷ codes "why takes [step|PLACE [k|control|inputs|interrupts|since]]\n"
+    ∷ codes "why takes [step|PLACE [k|control|inputs|interrupts|since]]\n"
     ∷ codes "no symbol CH1000\n"
     ∷ codes "no symbol CH\n"
     ∷ [])
@@ -217,7 +229,7 @@ wrong_places : asked (codes "mem 02,2005" ∷ codes "mem E3,1377" ∷ codes "mem
     ∷ codes "mem takes a place, or a place and a count\n"
     ∷ codes "mem takes a place, or a place and a count\n"
     ∷ codes "mem takes a place, or a place and a count\n"
-    ∷ codes "why takes step, [PLACE [k|control]] .. [since T]\n"
+    ∷ codes "why takes [step|PLACE [k|control|inputs|interrupts|since]]\n"
     ∷ codes "break takes at|exec|change PLACE, word PLACE W, chan C W [M]\n"
     ∷ [])
 unfolding extended_line extended_forms usages forms runs parsed counters sequences registers window
@@ -496,3 +508,17 @@ in_progress : asked (codes "calls" ∷ codes "calls # now" ∷ codes "calls 3" �
     ∷ Says (codes "HELP calls takes nothing: the calls that are in progress, innermost first\n") ∷ []
 unfolding extended_line extended_forms usages forms runs parsed counters sequences registers window
 in_progress = refl
+
+-- why the program never came to a place: of a symbol and what moves it on, of a place, of an erasable one
+never_there : asked (codes "never FIVE" ∷ codes "never FIVE +1 # why" ∷ codes "never 4005" ∷ codes "never 12,1777" ∷ codes "never SUM" ∷ [])
+    ≡ Never (Fixed 2 5) ∷ Never (Fixed 2 6) ∷ Never (Fixed 2 5) ∷ Never (Fixed 0o12 0o1777) ∷ Never (Erasable 0o101) ∷ []
+unfolding extended_line extended_forms usages forms runs parsed counters sequences registers window
+never_there = refl
+
+never_nowhere : asked (codes "never" ∷ codes "never FIVE 3" ∷ codes "never FIVEE" ∷ codes "never 4008" ∷ codes "help never" ∷ [])
+    ≡ map (λ text. Says text)
+    (codes "E50 COMMAND never takes a place\n" ∷ codes "E50 COMMAND never takes a place\n" ∷ codes "E50 COMMAND no symbol FIVEE\n"
+    ∷ codes "E50 COMMAND numbers of places, channels and words are octal, and 4008 has a digit 8 or 9\n"
+    ∷ codes "HELP never takes a place: the last choice that led away from there\n" ∷ [])
+unfolding extended_line extended_forms usages forms runs parsed counters sequences registers window
+never_nowhere = refl

@@ -28,7 +28,7 @@ use Rattle.commands.specs.declared.extended.ExtendedLine.{ExtendedLine}
 use Rattle.commands.specs.declared.extended.ExtendedLine.TheVariants.{Plain, Common, Says, Help, Breaks, ClearOne, On, AllRegisters, Until}
 use Rattle.commands.specs.declared.extended.ExtendedLine.TheVariants.{WhyStep, Why, Words, Where, Find, Trace, Inputs, Over, Out, Listed}
 use Rattle.commands.specs.declared.extended.ExtendedLine.TheVariants.{Values, Channels, Differs, WhySince, TailSteps, Survey, Say, Calls}
-use Rattle.commands.specs.declared.extended.ExtendedLine.TheVariants.{WhyWay, WhyControl}
+use Rattle.commands.specs.declared.extended.ExtendedLine.TheVariants.{WhyWay, WhyControl, WhyInputs, WhyInterrupts, Never}
 
 -- the most steps that a command can name
 abbrev pub most_count : ℕ
@@ -123,13 +123,18 @@ counted_links (field ∷ more) = option_and_then (λ k. option_map (λ lines. (k
 abbrev pub links_in : List (List ℕ) → Option (ℕ × LinkLines)
 links_in fields = option_or (option_map (λ lines. (usual_links, lines)) (lines_in fields)) (counted_links fields)
 
--- the word `control` alone: the choice before what wrote there
-abbrev pub control_in : Subject → List (List ℕ) → Option ExtendedLine
-control_in subject fields = if word_alone (codes "control") (sole fields) then Some (WhyControl subject) else None
+-- the word `control` alone: the choice before what wrote there; `inputs`: what its whole chain comes from; `interrupts`: in which of
+-- them the steps of this stand
+abbrev pub word_asked : Subject → List (List ℕ) → Option ExtendedLine
+word_asked subject fields =
+    if word_alone (codes "control") (sole fields) then Some (WhyControl subject)
+    else (if word_alone (codes "inputs") (sole fields) then Some (WhyInputs subject)
+    else (if word_alone (codes "interrupts") (sole fields) then Some (WhyInterrupts subject)
+    else None))
 
 -- what a word is asked of, and this; or how many links, and what is told besides
 abbrev pub why_of : Option Subject → List (List ℕ) → Option ExtendedLine
-why_of subject fields = option_and_then (λ s. option_or (control_in s fields) (option_map (λ r. Why s r.0 r.1) (links_in fields))) subject
+why_of subject fields = option_and_then (λ s. option_or (word_asked s fields) (option_map (λ r. Why s r.0 r.1) (links_in fields))) subject
 
 -- an erasable place or, where no symbol has the name, a channel, and what stands after it
 abbrev pub why_place : SymbolTable → ExtendedForm
@@ -284,6 +289,7 @@ extended_forms symbols =
     ∷ (codes "say", with_field count_in (λ k. Say k))
     ∷ (codes "whatif", whatif_form)
     ∷ (codes "calls", with_none Calls)
+    ∷ (codes "never", λ fields. option_map (λ place. Never place) (place_alone symbols fields))
     ∷ []
 
 -- what any session is asked for, with words for what is no command

@@ -16,7 +16,7 @@ use Rattle.commands.specs.Usages.{Usage, usages}
 abbrev pub begins_with_place : List ℕ → Bool
 begins_with_place name =
     same_name name (codes "mem") || same_name name (codes "last") || same_name name (codes "why") || same_name name (codes "list")
-    || same_name name (codes "value")
+    || same_name name (codes "value") || same_name name (codes "never")
 
 -- the field that names a place
 abbrev pub breakpoint_place_field : List ℕ → List (List ℕ) → Option (List ℕ)

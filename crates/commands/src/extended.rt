@@ -96,6 +96,10 @@ pub enum ExtendedLine {
     WhyWay,
     /// The last choice before the step that wrote the word of something.
     WhyControl(Subject),
+    /// What the word of something comes from.
+    WhyInputs(Subject),
+    /// In which interrupts the steps stand that made the word of something.
+    WhyInterrupts(Subject),
     /// How the word of something came to be what it is, by at most so many steps.
     Why(Subject, u64, LinkLines),
     /// The same, by steps from one on, which is the last number.
@@ -128,6 +132,8 @@ pub enum ExtendedLine {
     WhatIf(Input, Extent),
     /// The calls of routines that are in progress.
     Calls,
+    /// Why the program never came to a place.
+    Never(Linear),
 }
 
 /// What a line of an extended session asks for, where the symbols of a program stand.
@@ -278,6 +284,8 @@ fn state_command_in(symbols: &Symbols, name: &[u8], rest: &[u8]) -> Option<Exten
         whatif_form(rest)
     } else if is_word(name, "calls") {
         with_none(ExtendedLine::Calls, rest)
+    } else if is_word(name, "never") {
+        place_alone(symbols, rest).map(ExtendedLine::Never)
     } else {
         None
     }
@@ -508,7 +516,8 @@ fn why_place(symbols: &Symbols, rest: &[u8]) -> Option<ExtendedLine>
     }
 }
 
-// `why` of a subject, followed by the word `control`, or by a number of links or none and by what is told besides.
+// `why` of a subject, followed by a word that asks for something else, or by a number of links or none and by what is
+// told besides.
 fn why_of(subject: Option<Subject>, rest: &[u8]) -> Option<ExtendedLine>
     requires { All (λ field. length field ≤ 80) (texts (runs rest.now)) }
     ensures { result ≡ why_of subject (texts (runs rest.now)) }
@@ -516,6 +525,12 @@ fn why_of(subject: Option<Subject>, rest: &[u8]) -> Option<ExtendedLine>
     let subject = subject?;
     if is_sole(rest, "control") {
         return Some(ExtendedLine::WhyControl(subject));
+    }
+    if is_sole(rest, "inputs") {
+        return Some(ExtendedLine::WhyInputs(subject));
+    }
+    if is_sole(rest, "interrupts") {
+        return Some(ExtendedLine::WhyInterrupts(subject));
     }
     let (links, lines) = links_in(rest)?;
     Some(ExtendedLine::Why(subject, links, lines))

@@ -206,8 +206,8 @@ fn is_reached_at(address: u64, place: Linear) -> bool
     u64::from(window(place).number()) == address
 }
 
-// Whether a field begins with a plus sign.
-pub(crate) fn begins_with_plus(field: &[u8]) -> bool
+/// Whether a field begins with a plus sign.
+pub fn begins_with_plus(field: &[u8]) -> bool
     ensures { result ≡ begins_with_plus field.now }
 {
     !field.is_empty() && &field[..1] == "+".as_bytes()

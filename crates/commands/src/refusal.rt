@@ -219,6 +219,7 @@ fn begins_with_place(name: &[u8]) -> bool
         || is_word(name, "why")
         || is_word(name, "list")
         || is_word(name, "value")
+        || is_word(name, "never")
 }
 
 // The field of `break` that names a place.

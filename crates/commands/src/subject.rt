@@ -49,8 +49,8 @@ pub(crate) fn channel_subject(symbols: &Symbols, field: &[u8]) -> Option<Subject
     }
 }
 
-// The channel that a field names, where no symbol has the name.
-pub(crate) fn channel_named(symbols: &Symbols, field: &[u8]) -> Option<Chan>
+/// The channel that a field names, where no symbol has the name.
+pub fn channel_named(symbols: &Symbols, field: &[u8]) -> Option<Chan>
     ensures { result ≡ channel_named symbols.now field.now }
 {
     if symbols.symbol(field).is_some() {

@@ -16,7 +16,7 @@ use words::push_all;
 type Row = (&'static str, &'static str, &'static str);
 
 /// The rows of the help.
-const ROWS: [Row; 36] = [
+const ROWS: [Row; 37] = [
     (
         "step",
         "a number of steps",
@@ -80,8 +80,13 @@ const ROWS: [Row; 36] = [
     ),
     (
         "why",
-        "step, [PLACE [k|control]] .. [since T]",
-        "how it came about",
+        "[step|PLACE [k|control|inputs|interrupts|since]]",
+        "what made it so",
+    ),
+    (
+        "never",
+        "a place",
+        "the last choice that led away from there",
     ),
     (
         "trace",
@@ -205,8 +210,8 @@ pub(crate) fn help_of(name: &[u8]) -> Option<Phrase>
     Some(phrase)
 }
 
-/// The most bytes of the whole help: 36 lines of at most 128.
-const HELP_TEXT: usize = 4_608;
+/// The most bytes of the whole help: 37 lines of at most 128.
+const HELP_TEXT: usize = 4_736;
 
 /// The lines of the whole help.
 pub type HelpText = ArrayVec<u8, HELP_TEXT>;

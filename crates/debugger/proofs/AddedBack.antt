@@ -25,7 +25,7 @@ use Rattle.commands.specs.declared.command.Command.TheVariants.{Add}
 use Rattle.commands.specs.declared.command.ParsedLine.{ParsedLine}
 use Rattle.commands.specs.declared.command.ParsedLine.TheVariants.{Known}
 use Rattle.commands.specs.declared.extended.ExtendedLine.{ExtendedLine}
-use Rattle.commands.specs.declared.extended.ExtendedLine.TheVariants.{Plain, Common, ClearOne, On, Until, Over, Out, WhatIf}
+use Rattle.commands.specs.declared.extended.ExtendedLine.TheVariants.{Plain, Common, ClearOne, On, Until, Over, Out, WhatIf, WhyInputs, WhyInterrupts}
 use Rattle.debugger.specs.Additions.{line_after, with_added}
 use Rattle.debugger.specs.Conversation.{Reading, to_asked, desk_after}
 use Rattle.debugger.specs.ExtendedReplies.{extended_reply, clears_one, next_stop, stops_on, first_at, goes_until, further}
@@ -36,7 +36,9 @@ use Rattle.debugger.specs.Routines.{next_end, goes_on, goes_out_to}
 use Rattle.debugger.specs.Terms.{Terms, first_added, terms_of}
 use Rattle.debugger.specs.Transcript.{first_desk}
 use Rattle.debugger.proofs.AddedLines.{ParsedGivable, AskedGivable, line_adds}
-use Rattle.debugger.proofs.TriedReplies.{keeps_scenario}
+use Rattle.debugger.specs.Whys.{subject_spots}
+use Rattle.debugger.specs.OriginsTold.{inputs_told, interrupts_told}
+use Rattle.debugger.proofs.TriedReplies.{keeps_scenario, tried_keeps}
 use Rattle.debugger.proofs.InputsRead.{IsGivable, told_first, reads_back}
 use Rattle.debugger.proofs.Scripts.{keeps}
 
@@ -217,6 +219,12 @@ after_asked terms h d (Until cycles) given good = after_until terms.first (furth
 after_asked terms h d (Over k) given good = after_going terms.first (further h) d _ k _ good
 after_asked terms h d (Out k) given good = after_out terms.first (further h) d k _ good
 after_asked terms h d (WhatIf input extent) given good = subst (AreGood terms.first) (sym (keeps_scenario input extent d)) good
+after_asked terms h d (WhyInputs subject) given good =
+    let text = inputs_told terms.symbols d.scenario d.position (subject_spots subject) in
+    subst (AreGood terms.first) (sym (tried_keeps (addition_to_come d.additions) d text)) good
+after_asked terms h d (WhyInterrupts subject) given good =
+    let text = interrupts_told d.scenario d.position (subject_spots subject) in
+    subst (AreGood terms.first) (sym (tried_keeps (addition_to_come d.additions) d text)) good
 after_asked terms h d request given good = good
 
 after_lines : (terms : Terms) (read : Reading) → ((line : List ℕ) → AskedGivable (read line)) → (d : Desk) (lines : List (List ℕ))

@@ -17,7 +17,7 @@ use Rattle.feed.proofs.Givens.{line_gives}
 use Rattle.commands.specs.Commands.{Form, alone, with_one, with_both, count_in, channel_in, place_in, erasable_in, erasable_number}
 use Rattle.commands.specs.Commands.{breaking, forms, known, adding, rest_after, added_by, parsed_in}
 use Rattle.commands.specs.Extended.{ExtendedForm, sole, with_none, word_alone, with_field_or, steps_in, help_in, usual_links, stepped_in}
-use Rattle.commands.specs.Extended.{control_in, way_in}
+use Rattle.commands.specs.Extended.{way_in, word_asked}
 use Rattle.commands.specs.Extended.{lines_in, links_in, why_of, why_place, word_then, links_then, since_in, index_told, telling}
 use Rattle.commands.specs.Extended.{since_after, since_of, why_since, why_form, memory_of, channel_form, memory_form, counted_place}
 use Rattle.commands.specs.Extended.{place_alone, broken_at, watches, bits_of, watches_bits, subject_alone, break_form, extended_forms}
@@ -42,7 +42,7 @@ use Rattle.commands.specs.declared.extended.ExtendedLine.{ExtendedLine}
 use Rattle.commands.specs.declared.extended.ExtendedLine.TheVariants.{Plain, Common, Says, Help, Breaks, ClearOne, On, AllRegisters, Until}
 use Rattle.commands.specs.declared.extended.ExtendedLine.TheVariants.{WhyStep, Why, Words, Where, Find, Trace, Inputs, Over, Out, Listed}
 use Rattle.commands.specs.declared.extended.ExtendedLine.TheVariants.{Values, Channels, Differs, WhySince, TailSteps, Survey, Say, WhatIf}
-use Rattle.commands.specs.declared.extended.ExtendedLine.TheVariants.{Calls, WhyWay, WhyControl}
+use Rattle.commands.specs.declared.extended.ExtendedLine.TheVariants.{Calls, WhyWay, WhyControl, WhyInputs, WhyInterrupts}
 
 -- what is asked for adds nothing, or an input that a line can give
 abbrev pub AddsGivable : Command → Type 0
@@ -193,11 +193,19 @@ with_field_or_adds : {X : Type 0} (none : ExtendedLine) (read : List ℕ → Opt
 with_field_or_adds none read request h each [] = h
 with_field_or_adds none read request h each (field ∷ more) = mapped AskedGivable request each (option_and_then read (sole (field ∷ more)))
 
+word_asked_adds : (s : Subject) (fs : List (List ℕ)) → IfSome (word_asked s fs) AskedGivable
+word_asked_adds s fs =
+    let last = cond (word_alone (codes "interrupts") (sole fs)) (Some (WhyInterrupts s)) None in
+    let then = cond (word_alone (codes "inputs") (sole fs)) (Some (WhyInputs s)) last in
+    chosen AskedGivable (word_alone (codes "control") (sole fs)) (Some (WhyControl s)) then tt
+    (chosen AskedGivable (word_alone (codes "inputs") (sole fs)) (Some (WhyInputs s)) last tt
+    (chosen AskedGivable (word_alone (codes "interrupts") (sole fs)) (Some (WhyInterrupts s)) None tt tt))
+
 why_of_adds : (subject : Option Subject) (fs : List (List ℕ)) → IfSome (why_of subject fs) AskedGivable
 why_of_adds subject fs =
-    followed AskedGivable (λ s. option_or (control_in s fs) (option_map (λ (r : ℕ × LinkLines). Why s r.0 r.1) (links_in fs)))
-    (λ s. either AskedGivable (control_in s fs) (option_map (λ (r : ℕ × LinkLines). Why s r.0 r.1) (links_in fs))
-    (chosen AskedGivable (word_alone (codes "control") (sole fs)) (Some (WhyControl s)) None tt tt)
+    followed AskedGivable (λ s. option_or (word_asked s fs) (option_map (λ (r : ℕ × LinkLines). Why s r.0 r.1) (links_in fs)))
+    (λ s. either AskedGivable (word_asked s fs) (option_map (λ (r : ℕ × LinkLines). Why s r.0 r.1) (links_in fs))
+    (word_asked_adds s fs)
     (mapped AskedGivable (λ (r : ℕ × LinkLines). Why s r.0 r.1) (λ r. tt) (links_in fs))) subject
 
 why_place_adds : (symbols : SymbolTable) (fs : List (List ℕ)) → IfSome (why_place symbols fs) AskedGivable

@@ -2,7 +2,6 @@ pub mod Breaking
 pub mod StopLemmas
 pub mod MarkLemmas
 pub mod ChainText
-pub mod CellNumbers
 pub mod WhyLines
 pub mod SinceFound
 pub mod SinceLines
@@ -29,6 +28,9 @@ mod FiveRows
 mod ClockRows
 mod ExtendedRows
 mod WhyRows
+mod OriginRows
+pub mod LevelLines
+pub mod LevelsTold
 mod WayRows
 mod TailRows
 mod SurveyRows

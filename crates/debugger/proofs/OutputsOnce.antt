@@ -31,7 +31,7 @@ use Rattle.commands.specs.declared.command.ParsedLine.{ParsedLine}
 use Rattle.commands.specs.declared.command.ParsedLine.TheVariants.{Nothing, TooLong, Unknown, WrongCounter, Known}
 use Rattle.commands.specs.declared.extended.ExtendedLine.{ExtendedLine}
 use Rattle.commands.specs.declared.extended.ExtendedLine.TheVariants.{Plain, Common, ClearOne, On, Until, Over, Out, Words, Listed, Values}
-use Rattle.commands.specs.declared.extended.ExtendedLine.TheVariants.{WhatIf}
+use Rattle.commands.specs.declared.extended.ExtendedLine.TheVariants.{WhatIf, WhyInputs, WhyInterrupts}
 use Rattle.commands.specs.declared.command.Breakpoint.TheVariants.{Cycles}
 use Rattle.commands.specs.Extended.{most_count}
 use Rattle.debugger.specs.Additions.{line_after, with_added}
@@ -54,8 +54,10 @@ use Rattle.yayul.specs.Listing.{place_text}
 use Rattle.yayul.specs.PlaceRows.{line_of, place_row}
 use Rattle.std.specs.Option.{option_map_or}
 use Rattle.debugger.specs.OutputsOnce.{OutputsAreToldOnce, Part, outs_after, part_of, part_text, parts, silent}
+use Rattle.debugger.specs.Whys.{subject_spots}
+use Rattle.debugger.specs.OriginsTold.{inputs_told, interrupts_told, tells_inputs, tells_interrupts}
 use Rattle.debugger.specs.WhatIfs.{tries}
-use Rattle.debugger.proofs.TriedReplies.{keeps_scenario, keeps_steps}
+use Rattle.debugger.proofs.TriedReplies.{keeps_scenario, keeps_steps, tried_keeps, tried_stays}
 use Rattle.debugger.specs.Replies.{Desk, Reply, added_on, addition_to_come, adds, after_growth, after_text, answer, ending_line, here}
 use Rattle.debugger.specs.Replies.{last_stop, line, memory_word, refuses, reply, says, sought, stands}
 use Rattle.debugger.specs.Routines.{arrival_text, goes_on, goes_out_to, next_end, took}
@@ -354,6 +356,14 @@ after_asked terms h d s o (Values place k) =
     (same_rows Number terms.symbols terms.source d.scenario.rope h (here h d) place k)
 after_asked terms h d s o (WhatIf input extent) =
     quiet d (tries input extent d) (keeps_scenario input extent d) (keeps_steps input extent d)
+after_asked terms h d s o (WhyInputs subject) =
+    let text = inputs_told terms.symbols d.scenario d.position (subject_spots subject) in
+    quiet d (tells_inputs terms.symbols subject d) (tried_keeps (addition_to_come d.additions) d text)
+    (tried_stays (addition_to_come d.additions) d text)
+after_asked terms h d s o (WhyInterrupts subject) =
+    let text = interrupts_told d.scenario d.position (subject_spots subject) in
+    quiet d (tells_interrupts subject d) (tried_keeps (addition_to_come d.additions) d text)
+    (tried_stays (addition_to_come d.additions) d text)
 after_asked terms h d s o request = quiet d (extended_reply terms h d request) refl refl
 
 history_shows : (scenario : Scenario) → Shows (history scenario) scenario

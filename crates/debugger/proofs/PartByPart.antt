@@ -29,3 +29,8 @@ pub left_broken : (whole old now new part rest left : List ℕ) → LeftToWrite 
     → WritesBeginning now new part → WritesBeginning old new whole
 left_broken whole old now new part rest left l is w = rw (l.split, is)
     (beginning-after old now new l.text _ l.written (beginning-longer now new part rest w))
+
+-- no part is left
+pub left_ends : (whole old new left : List ℕ) → LeftToWrite whole old new left → left ≡ [] → new ≡ old ++ whole
+left_ends whole old new left l none = l.written
+    ∙ ap (λ (y : List ℕ). old ++ y) (sym (l.split ∙ ap (λ (y : List ℕ). l.text ++ y) none ∙ append-nil l.text))

@@ -11,7 +11,7 @@ use Rattle.replay.specs.Found.{or_other, last_between}
 use Rattle.replay.specs.LastHit.{last_hit}
 use Rattle.replay.specs.Whys.{step_writes, last_writer}
 use Rattle.replay.proofs.WhyLemmas.{writer_is}
-use Rattle.debugger.specs.Whys.{CellSet}
+use Rattle.origins.specs.Following.{CellSet}
 use Rattle.debugger.specs.WhysSince.{not_before, since_step, found_if}
 
 abbrev step_of : Option (ℕ × ℕ) → Option ℕ

@@ -13,7 +13,8 @@ use Rattle.commands.specs.declared.extended.IndexLines.{IndexLines}
 use Rattle.commands.specs.declared.extended.IndexLines.TheVariants.{Omitted, Told}
 use Rattle.commands.specs.declared.extended.LinkLines.{LinkLines}
 use Rattle.debugger.specs.Conversation.{index_effort, link_effort}
-use Rattle.debugger.specs.Whys.{CellSet, cells_of, end_from}
+use Rattle.origins.specs.Following.{CellSet, cells_of}
+use Rattle.debugger.specs.Whys.{end_from}
 use Rattle.debugger.specs.WhysSince.{since_step, since_text, lines_since, end_since, found_or}
 use Rattle.debugger.specs.ToldSince.{ToldSince}
 

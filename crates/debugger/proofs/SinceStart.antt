@@ -13,8 +13,10 @@ use Rattle.replay.specs.Whys.{last_writer}
 use Rattle.commands.specs.declared.extended.IndexLines.{IndexLines}
 use Rattle.commands.specs.declared.extended.IndexLines.TheVariants.{Omitted, Told}
 use Rattle.commands.specs.declared.extended.LinkLines.{LinkLines}
-use Rattle.debugger.specs.Whys.{added_by, cells_of, end_from, end_text, entered_mark, index_line, index_part, last_executed, last_outside}
-use Rattle.debugger.specs.Whys.{link_lines, mark_part, marked_line, moved_line, place_part, step_line, those_in, why_text}
+use Rattle.origins.specs.Following.{cells_of}
+use Rattle.debugger.specs.Whys.{added_by, end_from, end_text, entered_mark, index_line, index_part, last_executed, last_outside}
+use Rattle.origins.specs.Following.{those_in}
+use Rattle.debugger.specs.Whys.{link_lines, mark_part, marked_line, moved_line, place_part, step_line, why_text}
 use Rattle.debugger.specs.WhysSince.{end_since, entered_since, index_since, lines_since, mark_since, moved_since, not_before, since_step}
 use Rattle.debugger.specs.WhysSince.{since_text}
 use Rattle.debugger.proofs.ChainText.{why_zero, why_none, why_some}

@@ -23,7 +23,7 @@ use Rattle.debugger.specs.WhatIfs.{tried_by, tries, tries_from, whatif_text}
 use Rattle.debugger.proofs.WholeReplies.{replies-text}
 
 -- a reply of one call that takes memory was written, or a beginning of it
-replies_trying : (may_refuse : Bool) (reply : Desk → Reply) (from to : Desk) (addition : Option ℕ) (old new text bytes : List ℕ)
+pub replies_trying : (may_refuse : Bool) (reply : Desk → Reply) (from to : Desk) (addition : Option ℕ) (old new text bytes : List ℕ)
     (result : Result (Unit {0}) WriteFailed)
     → ((answers : List Bool) (additions : List (Option ℕ))
     → reply (awaiting from answers (addition ∷ additions)) ≡ says text (awaiting to answers additions)) → bytes ≡ text
@@ -99,11 +99,11 @@ pub counted_plain : (scenario : Scenario) (plain : List Plain) → map plain_ent
 counted_plain scenario plain are = ap length (sym are) ∙ length-map plain plain_entry
 
 -- what runs stays as it is, and so do the steps that were made
-tried_keeps : (o : Option ℕ) (d : Desk) (text : List ℕ) → (tried_by o d text).desk.scenario ≡ d.scenario
+pub tried_keeps : (o : Option ℕ) (d : Desk) (text : List ℕ) → (tried_by o d text).desk.scenario ≡ d.scenario
 tried_keeps None d text = refl
 tried_keeps (Some l) d text = refl
 
-tried_stays : (o : Option ℕ) (d : Desk) (text : List ℕ) → (tried_by o d text).desk.steps ≡ d.steps
+pub tried_stays : (o : Option ℕ) (d : Desk) (text : List ℕ) → (tried_by o d text).desk.steps ≡ d.steps
 tried_stays None d text = refl
 tried_stays (Some l) d text = refl
 

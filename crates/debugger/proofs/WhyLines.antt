@@ -13,7 +13,8 @@ use Rattle.commands.specs.declared.extended.IndexLines.{IndexLines}
 use Rattle.commands.specs.declared.extended.IndexLines.TheVariants.{Omitted, Told}
 use Rattle.commands.specs.declared.extended.LinkLines.{LinkLines}
 use Rattle.debugger.specs.Conversation.{index_effort, link_effort}
-use Rattle.debugger.specs.Whys.{CellSet, why_text, last_text, target_spots, link_lines, end_from}
+use Rattle.origins.specs.Following.{CellSet}
+use Rattle.debugger.specs.Whys.{why_text, last_text, target_spots, link_lines, end_from}
 use Rattle.debugger.specs.ToldLinks.{ToldLinks}
 use Rattle.debugger.proofs.ChainText.{why_zero, why_none, why_some}
 

@@ -14,7 +14,7 @@ use Rattle.commands.specs.declared.extended.ExtendedLine.{ExtendedLine}
 use Rattle.commands.specs.declared.extended.ExtendedLine.TheVariants.{Plain, Common, Says, Help, Breaks, ClearOne, On, AllRegisters, Until}
 use Rattle.commands.specs.declared.extended.ExtendedLine.TheVariants.{WhyStep, Why, Words, Where, Find, Trace, Inputs, Over, Out, Listed}
 use Rattle.commands.specs.declared.extended.ExtendedLine.TheVariants.{Values, Channels, Differs, WhySince, TailSteps, Survey, Say, WhatIf}
-use Rattle.commands.specs.declared.extended.ExtendedLine.TheVariants.{Calls, WhyWay, WhyControl}
+use Rattle.commands.specs.declared.extended.ExtendedLine.TheVariants.{Calls, WhyWay, WhyControl, WhyInputs, WhyInterrupts}
 use Rattle.commands.specs.declared.command.ParsedLine.TheVariants.{Known}
 use Rattle.debugger.specs.declared.manner.Manner.{Manner}
 use Rattle.debugger.specs.declared.manner.Manner.TheVariants as manner
@@ -81,6 +81,8 @@ is_end (WhatIf input extent) = false
 is_end Calls = false
 is_end WhyWay = false
 is_end (WhyControl subject) = false
+is_end (WhyInputs subject) = false
+is_end (WhyInterrupts subject) = false
 
 -- what a request brings, in terms and over the reference run of what runs now
 abbrev pub to_asked : Terms → ExtendedLine → Desk → Reply

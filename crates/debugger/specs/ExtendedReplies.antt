@@ -14,7 +14,7 @@ use Rattle.commands.specs.declared.extended.ExtendedLine.{ExtendedLine}
 use Rattle.commands.specs.declared.extended.ExtendedLine.TheVariants.{Plain, Common, Says, Help, Breaks, ClearOne, On, AllRegisters, Until}
 use Rattle.commands.specs.declared.extended.ExtendedLine.TheVariants.{WhyStep, Why, Words, Where, Find, Trace, Inputs, Over, Out, Listed}
 use Rattle.commands.specs.declared.extended.ExtendedLine.TheVariants.{Values, Channels, Differs, WhySince, TailSteps, Survey, Say, WhatIf}
-use Rattle.commands.specs.declared.extended.ExtendedLine.TheVariants.{Calls, WhyWay, WhyControl}
+use Rattle.commands.specs.declared.extended.ExtendedLine.TheVariants.{Calls, WhyWay, WhyControl, WhyInputs, WhyInterrupts}
 use Rattle.cpu.specs.Run.{run}
 use Rattle.debugger.specs.History.{History, in_manner}
 use Rattle.debugger.specs.declared.manner.Manner.TheVariants as manner
@@ -31,6 +31,7 @@ use Rattle.debugger.specs.Retracing.{traced_text}
 use Rattle.say.specs.declared.form.LineForm.TheVariants.{Steps, Sentences}
 use Rattle.debugger.specs.SteppedTail.{stepped_tail}
 use Rattle.debugger.specs.Surveys.{survey_text}
+use Rattle.debugger.specs.OriginsTold.{tells_inputs, tells_interrupts}
 use Rattle.debugger.specs.WhatIfs.{tries}
 use Rattle.debugger.specs.Terms.{Terms}
 use Rattle.debugger.specs.Inputs.{inputs_text}
@@ -142,4 +143,6 @@ extended_reply terms h d (Say k) = says (traced_text Sentences terms.symbols d.s
 extended_reply terms h d (WhatIf input extent) = tries input extent d
 extended_reply terms h d WhyWay = says (way_text terms.symbols d.scenario d.position) d
 extended_reply terms h d (WhyControl subject) = says (control_text terms.symbols d.scenario d.position (subject_spots subject)) d
+extended_reply terms h d (WhyInputs subject) = tells_inputs terms.symbols subject d
+extended_reply terms h d (WhyInterrupts subject) = tells_interrupts subject d
 extended_reply terms h d Calls = says (calls_text terms.symbols d.scenario d.position) d

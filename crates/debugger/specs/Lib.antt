@@ -34,6 +34,7 @@ pub mod AllRegisters
 pub mod Channels
 pub mod Differs
 pub mod WhatIfs
+pub mod OriginsTold
 pub mod Transcript
 pub mod Sessions
 pub mod Conversation

@@ -6,7 +6,8 @@ use Rattle.commands.specs.declared.extended.LinkLines.{LinkLines}
 use Rattle.cpu.specs.State.{Scenario}
 use Rattle.cpu.specs.Chains.{cells_among}
 use Rattle.cpu.specs.declared.spot.Spot.{Spot}
-use Rattle.debugger.specs.Whys.{CellSet, why_text}
+use Rattle.origins.specs.Following.{CellSet}
+use Rattle.debugger.specs.Whys.{why_text}
 
 pub record ToldLinks (symbols : SymbolTable) (scenario : Scenario) (lines : LinkLines) (whole old new : List ℕ) (left before : ℕ)
     (pending : CellSet) : Type 0 where

@@ -6,7 +6,7 @@ use Rattle.commands.specs.declared.extended.LinkLines.{LinkLines}
 use Rattle.cpu.specs.State.{Scenario}
 use Rattle.cpu.specs.Chains.{cells_among}
 use Rattle.cpu.specs.declared.spot.Spot.{Spot}
-use Rattle.debugger.specs.Whys.{CellSet}
+use Rattle.origins.specs.Following.{CellSet}
 use Rattle.debugger.specs.WhysSince.{since_text}
 
 pub record ToldSince (symbols : SymbolTable) (scenario : Scenario) (lines : LinkLines) (since : ℕ) (whole old new : List ℕ)

@@ -12,7 +12,8 @@ use Rattle.replay.specs.Whys.{why_steps}
 use Rattle.trace.specs.TraceLines.{cell_reading}
 use Rattle.commands.specs.declared.extended.LinkLines.{LinkLines}
 use Rattle.debugger.specs.Replies.{line}
-use Rattle.debugger.specs.Whys.{cell_text, cells_of, chain_text, end_from, why_text}
+use Rattle.origins.specs.Following.{cells_of}
+use Rattle.debugger.specs.Whys.{cell_text, chain_text, end_from, why_text}
 
 -- the cells that are left where a chain ends
 abbrev pub left_by : Scenario → List Spot → List ℕ → List ℕ

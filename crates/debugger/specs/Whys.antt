@@ -1,9 +1,7 @@
 -- How a word came to be what it is, as text: the steps of a chain, the last first, each with what it wrote and what it read.
-use Rattle.std.specs.Prelude.{ℕ, suc, zero, ◌+◌, ◌==◌, ◌&&◌, ◌||◌, not, Bool, true, false, Option, None, Some, List, [], ◌∷◌, ◌++◌, map}
-use Rattle.std.specs.Prelude.{filter, length, unwrap_or, codes, decimal, if◌then◌else◌}
-use Rattle.std.specs.List.{flat_map, range_with_len}
-use Rattle.std.specs.Ordering.{nat_cmp}
-use Rattle.std.specs.FinSet as set
+use Rattle.std.specs.Prelude.{ℕ, suc, zero, ◌+◌, ◌==◌, not, Bool, true, false, Option, None, Some, List, [], ◌∷◌, ◌++◌, map}
+use Rattle.std.specs.Prelude.{length, unwrap_or, codes, decimal, if◌then◌else◌}
+use Rattle.std.specs.List.{flat_map}
 use Rattle.words.specs.Numerals.{octal_text}
 use Rattle.space.specs.Cells.{Cells}
 use Rattle.space.specs.declared.place.Linear.TheVariants.{Fixed}
@@ -15,7 +13,7 @@ use Rattle.cpu.specs.Run.{run}
 use Rattle.cpu.specs.Codes.{code_of}
 use Rattle.cpu.specs.Effects.{place_in}
 use Rattle.cpu.specs.Operands.{address_of}
-use Rattle.cpu.specs.Links.{Link, targets, sources, spots, place_spots, channel_spots}
+use Rattle.cpu.specs.Links.{Link, targets, spots, place_spots, channel_spots}
 use Rattle.cpu.specs.Beside.{is_instruction}
 use Rattle.cpu.specs.Chains.{cells_among, link_at, before_step, chain_origins}
 use Rattle.cpu.specs.NextStep.{next_step}
@@ -26,6 +24,7 @@ use Rattle.cpu.specs.declared.next_step.NextStep.TheVariants.{Takes, Enters, Exe
 use Rattle.replay.specs.LastHit.{last_hit}
 use Rattle.replay.specs.Whys.{why_steps}
 use Rattle.trace.specs.TraceLines.{added_text, cell_name, cell_reading, entry_place, fetched_text, input_text, place_name, word_place}
+use Rattle.origins.specs.Following.{cells_of, reads, those_in}
 use Rattle.commands.specs.declared.extended.IndexLines.{IndexLines}
 use Rattle.commands.specs.declared.extended.IndexLines.TheVariants.{Omitted, Told}
 use Rattle.commands.specs.declared.extended.LinkLines.{LinkLines}
@@ -33,60 +32,10 @@ use Rattle.commands.specs.declared.subject.Subject.{Subject}
 use Rattle.commands.specs.declared.subject.Subject.TheVariants.{Place, Channel}
 use Rattle.debugger.specs.Replies.{line}
 
--- cells
-abbrev pub CellSet : Type 0
-CellSet = set.FinSet nat_cmp
-
--- how many cells there are
-abbrev pub cell_count : ℕ
-cell_count = 0o5000
-
 -- the spots of what `why` is about
 abbrev pub subject_spots : Subject → List Spot
 subject_spots (Place p) = place_spots p
 subject_spots (Channel c) = channel_spots c
-
--- the cells of a list that are in a set, each once, and the set without them
-abbrev pub those_in : List ℕ → CellSet → List ℕ
-those_in [] cells = []
-those_in (c ∷ cs) cells = if set.contains cells c then c ∷ those_in cs (set.remove cells c) else those_in cs cells
-
-abbrev pub left_in : List ℕ → CellSet → CellSet
-left_in [] cells = cells
-left_in (c ∷ cs) cells = left_in cs (if set.contains cells c then set.remove cells c else cells)
-
--- some spots and then more, each once
-abbrev pub same_spot : Spot → Spot → Bool
-same_spot (Cell c) (Cell d) = c == d
-same_spot (Cell c) (InRope bank offset) = false
-same_spot (InRope bank offset) (Cell d) = false
-same_spot (InRope bank offset) (InRope b o) = bank == b && offset == o
-
-abbrev pub has_spot : List Spot → Spot → Bool
-has_spot [] x = false
-has_spot (y ∷ ys) x = same_spot y x || has_spot ys x
-
-abbrev pub with_spots : List Spot → List Spot → List Spot
-with_spots told [] = told
-with_spots told (x ∷ xs) = with_spots (if has_spot told x then told else told ++ x ∷ []) xs
-
--- what a step reads for cells that it writes
-abbrev pub reads : Link → List ℕ → List Spot
-reads k cs = with_spots [] (flat_map (λ c. sources k (Cell c)) cs)
-
--- cells, and those among some spots
-abbrev pub with_cells : CellSet → List Spot → CellSet
-with_cells cells [] = cells
-with_cells cells (Cell c ∷ xs) = with_cells (set.insert cells c) xs
-with_cells cells (InRope bank offset ∷ xs) = with_cells cells xs
-
--- the cells that are followed before a step, of those after it
-abbrev pub cells_before : Link → CellSet → CellSet
-cells_before k cells = with_cells (left_in (targets k) cells) (reads k (those_in (targets k) cells))
-
--- the cells of a set, in their order
-unfoldable pub cells_of : CellSet → List ℕ
-cells_of cells = filter (set.contains cells) (range_with_len 0 cell_count)
 
 -- a cell with what is read there, and a spot
 abbrev pub cell_text : SymbolTable → Cells → ℕ → List ℕ

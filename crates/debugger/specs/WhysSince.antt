@@ -14,8 +14,10 @@ use Rattle.commands.specs.declared.extended.IndexLines.{IndexLines}
 use Rattle.commands.specs.declared.extended.IndexLines.TheVariants.{Omitted, Told}
 use Rattle.commands.specs.declared.extended.LinkLines.{LinkLines}
 use Rattle.debugger.specs.Replies.{line}
-use Rattle.debugger.specs.Whys.{CellSet, added_by, cells_of, end_from, end_text, entered_mark, index_line, last_executed, last_outside}
-use Rattle.debugger.specs.Whys.{marked_line, place_part, those_in}
+use Rattle.origins.specs.Following.{CellSet, cells_of}
+use Rattle.debugger.specs.Whys.{added_by, end_from, end_text, entered_mark, index_line, last_executed, last_outside}
+use Rattle.origins.specs.Following.{those_in}
+use Rattle.debugger.specs.Whys.{marked_line, place_part}
 
 -- a step, where it is not before a first one
 abbrev pub not_before : ℕ → Option ℕ → Option ℕ

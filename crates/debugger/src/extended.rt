@@ -87,6 +87,12 @@ impl Desk {
             }
             ExtendedLine::WhyWay => self.why_way(session, symbols, out),
             ExtendedLine::WhyControl(subject) => self.why_control(session, symbols, *subject, out),
+            ExtendedLine::WhyInputs(subject) => {
+                self.why_inputs(alloc, session, symbols, *subject, out)
+            }
+            ExtendedLine::WhyInterrupts(subject) => {
+                self.why_interrupts(alloc, session, *subject, out)
+            }
             ExtendedLine::Words(place, count) => {
                 write_all(out, self.words(session, place, *count).as_slice())
             }

@@ -10,6 +10,7 @@ ghost use Rattle.commands.specs.declared.subject.Subject.{Subject};
 ghost use Rattle.debugger.specs.declared.manner.Manner.{Manner};
 ghost use Rattle.debugger.specs.Calling.{RoutinesAreInProgress, RoutinesInsideAreInProgress};
 ghost use Rattle.debugger.specs.Moved.{IndexIsTold};
+ghost use Rattle.debugger.specs.OriginsTold.{StandsAsTold};
 ghost use Rattle.debugger.specs.OutputsOnce.{OutputsAreToldOnce};
 ghost use Rattle.debugger.specs.ReadBack.{NoneAtFirst, SessionReadsBack};
 ghost use Rattle.debugger.specs.Serving.{EntryIsTold};
@@ -53,6 +54,11 @@ pub fn outputs_have_their_steps()
 /// since.
 pub fn entry_is_told()
     ensures { (symbols : SymbolTable) (scenario : Scenario) (p : ℕ) → EntryIsTold symbols scenario p }
+{}
+
+/// `why` with `interrupts` tells each step of the chain where `why` tells it by IN STEP.
+pub fn levels_are_told()
+    ensures { (scenario : Scenario) (t u : ℕ) → StandsAsTold scenario t u }
 {}
 
 /// How `why` ends says what is so: where fewer steps are told than were asked for, no step before them wrote what is

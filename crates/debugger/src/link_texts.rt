@@ -7,11 +7,12 @@ ghost use Rattle.space.specs.declared.place.Linear.TheVariants.{Fixed};
 ghost use Rattle.cpu.specs.State.{FitsRun};
 ghost use Rattle.trace.specs.TraceLines.{place_name};
 ghost use Rattle.debugger.specs.Whys.{cell_text, fixed_text, spot_text, kind_part, cells_part, reads_part};
-ghost use Rattle.debugger.specs.Whys.{entered_mark, by_line, end_text, cells_of};
+ghost use Rattle.origins.specs.Following.{cells_of};
+ghost use Rattle.debugger.specs.Whys.{entered_mark, by_line, end_text};
 
-use crate::links::{Cells, cells_of};
 use arrayvec::ArrayVec;
 use cpu::{Cell, CellSet, Machine, NextStep, Processor, Spot};
+use origins::{Cells, cells_of};
 use space::{Bank, Linear, Offset};
 use symbols::Symbols;
 use trace::{cell_name, cell_reading, fetched_text, input_text, place_name, place_text};
@@ -158,7 +159,12 @@ fn spot_text(symbols: &Symbols, processor: &Processor, machine: &Machine, spot: 
 }
 
 /// A place of fixed memory with its word.
-fn fixed_text(symbols: &Symbols, processor: &Processor, bank: Bank, offset: Offset) -> Piece
+pub(crate) fn fixed_text(
+    symbols: &Symbols,
+    processor: &Processor,
+    bank: Bank,
+    offset: Offset,
+) -> Piece
     ensures items { result.items ≡ fixed_text symbols.now processor.now.scenario.rope bank offset }
     ensures short { array_vec_len result ≤ 16 }
 {

@@ -16,7 +16,6 @@ use crate::calls_told::spot_text;
 use crate::desk::Desk;
 use crate::index_lines::{IndexLine, added_by, index_part};
 use crate::link_texts::{Part, Piece, end_text, kind_part, reads_part};
-use crate::links::cells_among;
 use crate::texts::Text;
 use crate::why::{chain, subject_cells};
 use arrayvec::ArrayVec;
@@ -24,6 +23,7 @@ use commands::{IndexLines, LinkLines, Subject};
 use cpu::{
     Cell, CellSet, Fetched, Machine, NextStep, Processor, Spot, instruction_name, make_step,
 };
+use origins::cells_among;
 use replay::{Keeper, Session, StepTest};
 use space::Eras;
 use symbols::Symbols;

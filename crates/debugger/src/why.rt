@@ -10,8 +10,9 @@ ghost use Rattle.std.specs.FinSet.{empty};
 ghost use Rattle.cpu.specs.Links.{targets, place_spots};
 ghost use Rattle.cpu.specs.declared.spot.Spot.{Spot};
 ghost use Rattle.debugger.specs.Whys.{why_text, last_text, link_lines, subject_spots, target_spots, kind_part};
-ghost use Rattle.debugger.specs.Whys.{cells_part, reads_part, mark_part, reads, added_by, step_place, those_in};
-ghost use Rattle.debugger.specs.Whys.{cells_before};
+ghost use Rattle.origins.specs.Following.{reads, those_in};
+ghost use Rattle.debugger.specs.Whys.{cells_part, reads_part, mark_part, added_by, step_place};
+ghost use Rattle.origins.specs.Following.{cells_before};
 ghost use Rattle.debugger.specs.Conversation.{link_effort};
 ghost use Rattle.debugger.specs.Executions.{HasLooked};
 
@@ -20,11 +21,11 @@ use crate::index_lines::{IndexLine, added_by, index_part};
 use crate::link_texts::{
     LinkLine, Part, Piece, by_line, cells_part, end_text, entered_mark, kind_part, reads_part,
 };
-use crate::links::{Link, Targets, all_among, link_of};
 use crate::step_places::{PlaceLine, StepPlace, placed_by, step_place};
 use arrayvec::ArrayVec;
 use commands::{LinkLines, Subject};
 use cpu::{Cell, CellSet};
+use origins::{Link, Targets, all_among, link_of};
 use replay::{Keeper, Session};
 use space::{Chan, Eras};
 use symbols::Symbols;

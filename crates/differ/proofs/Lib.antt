@@ -8,3 +8,7 @@ mod Again
 mod Steps
 mod Sides
 mod Turns
+mod Writers
+mod Among
+mod WhyLines
+mod WhyRows

@@ -142,7 +142,7 @@ fn first_cell(here: &Machine, there: &Machine) -> Option<Cell>
 }
 
 /// Whether a number is that of a cell that is not the same.
-fn is_apart(here: &Machine, there: &Machine, number: u16) -> bool
+pub(crate) fn is_apart(here: &Machine, there: &Machine, number: u16) -> bool
     requires { number < 0o5000 }
     ensures { result ≡ is_apart here.now.cells there.now.cells number }
 {

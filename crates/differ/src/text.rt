@@ -4,16 +4,18 @@ ghost use Rattle.std.specs.Prelude.{◌≡◌, ◌-◌, ◌+◌, ◌*◌, ◌≤
 ghost use Rattle.arrayvec.specs.ArrayVec.{array_vec_len};
 ghost use Rattle.words.specs.Devices.{Writes, failures_after};
 ghost use Rattle.cpu.specs.Run.{run};
-ghost use Rattle.cpu.specs.State.{start};
+ghost use Rattle.cpu.specs.State.{FitsRun, start};
 ghost use Rattle.differ.specs.DifferText.{differ_text, line_of, named, none_line, output_line, output_part};
-ghost use Rattle.differ.specs.DifferText.{reading_text, state_line, state_part, step_line, step_part};
+ghost use Rattle.differ.specs.DifferText.{output_start, reading_text, state_line, state_part, step_line, step_part};
 ghost use Rattle.differ.specs.MainSteps as mains;
 ghost use Rattle.differ.specs.Outputs as outputs;
 ghost use Rattle.differ.specs.States as states;
 
-use crate::outputs::first_output;
+use crate::causes::{Followed, from_steps, step_start};
+use crate::outputs::{OutputsApart, first_output};
 use crate::side::first_step;
 use crate::states::{CellApart, first_state};
+use crate::why::write_asked;
 use arrayvec::ArrayVec;
 use cpu::{Cell, Machine, Processor};
 use trace::{PlaceNames, cell_name, trace_step};
@@ -22,7 +24,8 @@ use words::{Wide, Write, WriteFailed, push_all, push_decimal, push_octal, write_
 /// The most bytes of a line: its words, a number of 64 bits, a name and two words.
 const LINE: usize = 96;
 
-type Line = ArrayVec<u8, LINE>;
+/// A line that is no line of the trace.
+pub(crate) type Line = ArrayVec<u8, LINE>;
 
 /// A run from its start, with the names of its places.
 #[derive(Drop)]
@@ -34,21 +37,26 @@ pub struct NamedRun {
 }
 
 impl NamedRun {
-    /// Makes the steps up to one anew, and writes its line.
+    /// Makes the steps up to one anew, and writes its line, with or without what it reads.
     #[tactic(auto, unfolding(crate::specs::DifferText::step_line))]
-    fn write_step<W: Write>(&mut self, number: u64, out: &mut W) -> Result<(), WriteFailed>
+    fn write_step<W: Write>(
+        &mut self,
+        reads: bool,
+        number: u64,
+        out: &mut W,
+    ) -> Result<(), WriteFailed>
         requires few { number ≤ 2 ^ 40 - 2 }
         ensures names { self.new.names ≡ self.old.names }
         ensures scenario { self.new.processor.scenario ≡ self.old.processor.scenario }
         ensures meter { self.new.processor.meter ≤ self.old.processor.meter + (number + 1) }
         ensures written { W.told ≡ true → Writes (W.written out.old) (W.written out.new)
-            (step_line (named self.old) number) result }
+            (step_line reads (named self.old) number) result }
         ensures failures { W.failures out.new ≡ failures_after (W.failures out.old) result }
     {
         let mut machine = Machine::start();
         go_to(&mut self.processor, &mut machine, number.saturating_sub(1));
         trace_step(
-            false,
+            reads,
             &self.names,
             &mut self.processor,
             &mut machine,
@@ -58,19 +66,36 @@ impl NamedRun {
     }
 
     /// Writes the line of a step, or that there is none.
-    fn write_line<W: Write>(&mut self, number: Option<u64>, out: &mut W) -> Result<(), WriteFailed>
+    fn write_line<W: Write>(
+        &mut self,
+        reads: bool,
+        number: Option<u64>,
+        out: &mut W,
+    ) -> Result<(), WriteFailed>
         requires few { IfSome number (λ n. n ≤ 2 ^ 40 - 2) }
         ensures names { self.new.names ≡ self.old.names }
         ensures scenario { self.new.processor.scenario ≡ self.old.processor.scenario }
         ensures written { W.told ≡ true → Writes (W.written out.old) (W.written out.new)
-            (line_of (named self.old) number) result }
+            (line_of reads (named self.old) number) result }
         ensures failures { W.failures out.new ≡ failures_after (W.failures out.old) result }
     {
         match number {
             None => write_all(out, b"NONE\n"),
-            Some(number) => self.write_step(number, out),
+            Some(number) => self.write_step(reads, number, out),
         }
     }
+}
+
+/// A machine after so many steps.
+pub(crate) fn machine_after(processor: &mut Processor, steps: u64) -> Machine
+    requires few { steps ≤ 2 ^ 40 - 2 }
+    ensures stands { result ≡ run processor.old.scenario steps }
+    ensures fits { FitsRun processor.new.scenario result }
+    ensures scenario { processor.new.scenario ≡ processor.old.scenario }
+{
+    let mut machine = Machine::start();
+    go_to(processor, &mut machine, steps);
+    machine
 }
 
 /// Makes so many steps from the start.
@@ -93,22 +118,26 @@ fn go_to(processor: &mut Processor, machine: &mut Machine, steps: u64)
 ///
 /// For each of the three each run is made once, up to where it parts, and once more for its line. No memory is taken.
 ///
+/// Where it is asked for, each is followed by how it came about, in at most so many steps of each run. For each of
+/// these a run is made three times, up to that step.
+///
 /// After a failure a beginning of it was written.
 #[tactic(auto, unfolding(crate::specs::DifferText::differ_text))]
 pub fn write_differ<W: Write>(
     one: &mut NamedRun,
     other: &mut NamedRun,
     steps: u64,
+    why: Option<u64>,
     out: &mut W,
 ) -> Result<(), WriteFailed>
     requires few { steps ≤ 2 ^ 40 - 2 }
     ensures written { W.told ≡ true → Writes (W.written out.old) (W.written out.new)
-        (differ_text (named one.old) (named other.old) steps) result }
+        (differ_text (named one.old) (named other.old) steps why) result }
     ensures failures { W.failures out.new ≡ failures_after (W.failures out.old) result }
 {
-    write_output(one, other, steps, out)?;
-    write_state(one, other, steps, out)?;
-    write_parting(one, other, steps, out)
+    write_output(one, other, steps, why, out)?;
+    write_state(one, other, steps, why, out)?;
+    write_parting(one, other, steps, why, out)
 }
 
 /// Writes the first word that two runs put out that is not the same.
@@ -116,6 +145,7 @@ fn write_output<W: Write>(
     one: &mut NamedRun,
     other: &mut NamedRun,
     steps: u64,
+    why: Option<u64>,
     out: &mut W,
 ) -> Result<(), WriteFailed>
     requires few { steps ≤ 2 ^ 40 - 2 }
@@ -124,7 +154,7 @@ fn write_output<W: Write>(
     ensures scenario { one.new.processor.scenario ≡ one.old.processor.scenario }
     ensures other_scenario { other.new.processor.scenario ≡ other.old.processor.scenario }
     ensures written { W.told ≡ true → Writes (W.written out.old) (W.written out.new)
-        (output_part (named one.old) (named other.old) steps
+        (output_part (named one.old) (named other.old) steps why
         (outputs.first_output one.old.processor.scenario other.old.processor.scenario steps)) result }
     ensures failures { W.failures out.new ≡ failures_after (W.failures out.old) result }
 {
@@ -132,7 +162,17 @@ fn write_output<W: Write>(
         None => write_all(out, none_line(b"OUTPUT", steps).as_slice()),
         Some(apart) => {
             let head = output_line(apart.number);
-            write_lines(head.as_slice(), one, apart.here, other, apart.there, out)
+            write_lines(
+                false,
+                head.as_slice(),
+                one,
+                apart.here,
+                other,
+                apart.there,
+                out,
+            )?;
+            let start = output_start(one, other, &apart);
+            write_asked(one, other, why, start, out)
         }
     }
 }
@@ -142,6 +182,7 @@ fn write_state<W: Write>(
     one: &mut NamedRun,
     other: &mut NamedRun,
     steps: u64,
+    why: Option<u64>,
     out: &mut W,
 ) -> Result<(), WriteFailed>
     requires few { steps ≤ 2 ^ 40 - 2 }
@@ -150,7 +191,7 @@ fn write_state<W: Write>(
     ensures scenario { one.new.processor.scenario ≡ one.old.processor.scenario }
     ensures other_scenario { other.new.processor.scenario ≡ other.old.processor.scenario }
     ensures written { W.told ≡ true → Writes (W.written out.old) (W.written out.new)
-        (state_part (named one.old) (named other.old) steps
+        (state_part (named one.old) (named other.old) steps why
         (states.first_state one.old.processor.scenario other.old.processor.scenario steps)) result }
     ensures failures { W.failures out.new ≡ failures_after (W.failures out.old) result }
 {
@@ -159,7 +200,13 @@ fn write_state<W: Write>(
         Some(apart) => {
             let head = state_line(&one.names, &apart);
             let step = Some(apart.step);
-            write_lines(head.as_slice(), one, step, other, step, out)
+            write_lines(false, head.as_slice(), one, step, other, step, out)?;
+            let start = Followed {
+                here: apart.step,
+                there: apart.step,
+                cell: apart.cell,
+            };
+            write_asked(one, other, why, Some(start), out)
         }
     }
 }
@@ -169,24 +216,54 @@ fn write_parting<W: Write>(
     one: &mut NamedRun,
     other: &mut NamedRun,
     steps: u64,
+    why: Option<u64>,
     out: &mut W,
 ) -> Result<(), WriteFailed>
     requires few { steps ≤ 2 ^ 40 - 2 }
     ensures written { W.told ≡ true → Writes (W.written out.old) (W.written out.new)
-        (step_part (named one.old) (named other.old) steps
+        (step_part (named one.old) (named other.old) steps why
         (mains.first_step one.old.processor.scenario other.old.processor.scenario steps)) result }
     ensures failures { W.failures out.new ≡ failures_after (W.failures out.old) result }
 {
     match first_step(&mut one.processor, &mut other.processor, steps) {
         None => write_all(out, none_line(b"STEP", steps).as_slice()),
         Some((here, there)) => {
-            write_lines(b"FIRST STEP\n", one, Some(here), other, Some(there), out)
+            write_lines(
+                false,
+                b"FIRST STEP\n",
+                one,
+                Some(here),
+                other,
+                Some(there),
+                out,
+            )?;
+            let start = step_start(&mut one.processor, &mut other.processor, here, there);
+            write_asked(one, other, why, start, out)
         }
     }
 }
 
-/// Writes a line, and that of a step of each run.
-fn write_lines<W: Write>(
+/// The cell of a word on a channel that is not the same, where both runs put one out.
+fn output_start(one: &mut NamedRun, other: &mut NamedRun, apart: &OutputsApart) -> Option<Followed>
+    requires few { IfSome apart.now.here (λ n. n ≤ 2 ^ 40 - 2) }
+    requires other_few { IfSome apart.now.there (λ n. n ≤ 2 ^ 40 - 2) }
+    ensures start { result ≡ output_start (named one.old) (named other.old) apart.now.here apart.now.there }
+    ensures at { IfSome result (λ f. f.here ≤ 2 ^ 40 - 2) }
+    ensures other_at { IfSome result (λ f. f.there ≤ 2 ^ 40 - 2) }
+    ensures names { one.new.names ≡ one.old.names }
+    ensures other_names { other.new.names ≡ other.old.names }
+    ensures scenario { one.new.processor.scenario ≡ one.old.processor.scenario }
+    ensures other_scenario { other.new.processor.scenario ≡ other.old.processor.scenario }
+{
+    match (apart.here, apart.there) {
+        (Some(a), Some(b)) => from_steps(&mut one.processor, &mut other.processor, a, b),
+        _ => None,
+    }
+}
+
+/// Writes a line, and that of a step of each run, with or without what they read.
+pub(crate) fn write_lines<W: Write>(
+    reads: bool,
     head: &[u8],
     one: &mut NamedRun,
     here: Option<u64>,
@@ -201,12 +278,12 @@ fn write_lines<W: Write>(
     ensures scenario { one.new.processor.scenario ≡ one.old.processor.scenario }
     ensures other_scenario { other.new.processor.scenario ≡ other.old.processor.scenario }
     ensures written { W.told ≡ true → Writes (W.written out.old) (W.written out.new)
-        (head.now ++ (line_of (named one.old) here ++ line_of (named other.old) there)) result }
+        (head.now ++ (line_of reads (named one.old) here ++ line_of reads (named other.old) there)) result }
     ensures failures { W.failures out.new ≡ failures_after (W.failures out.old) result }
 {
     write_all(out, head)?;
-    one.write_line(here, out)?;
-    other.write_line(there, out)
+    one.write_line(reads, here, out)?;
+    other.write_line(reads, there, out)
 }
 
 /// The line that two runs never differ so.

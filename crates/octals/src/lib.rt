@@ -10,6 +10,8 @@ ghost use Rattle.octals.specs.OctalTexts.{GivesImage, before_comment, before_ret
 ghost use Rattle.octals.specs.OctalTexts.{names_bank, octal_words, put, put_all, put_word, said, state, take_fields};
 ghost use Rattle.octals.specs.OctalTexts.{take_line, word_of};
 
+pub mod laws;
+
 use agc_text::{length_before_byte, next_line, octal, split_field};
 use rope::{Rope, RopeFault, Version};
 use space::{BANK_WORDS, Bank, FIXED_BANKS, Offset};

@@ -211,6 +211,7 @@ differ_of a = with_steps a.steps (Differ (record {
   program = program_of a.program;
   other = program_of a.other;
   steps = a.steps;
+  why = a.why;
 }))
 
 -- a session

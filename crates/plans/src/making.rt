@@ -271,6 +271,7 @@ fn differ<'a>(asked: DifferArguments<'a>) -> Plan<'a>
             program: program(asked.program),
             other: program(asked.other),
             steps,
+            why: asked.why,
         }),
         None => Plan::TooManySteps,
     }

@@ -140,6 +140,8 @@ pub struct Pair<'a> {
     pub other: Program<'a>,
     /// How many steps of each.
     pub steps: Steps,
+    /// By how many steps of each run it is told how what differs came about, where it is.
+    pub why: Option<u64>,
 }
 
 /// What the file of a program is.

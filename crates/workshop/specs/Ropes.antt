@@ -6,9 +6,8 @@ use Rattle.rope.specs.Dumps.{ReadsDump}
 use Rattle.rope.specs.Reading.{ReadsImage, has_read_failed}
 use Rattle.rope.specs.declared.spelling.Version.{Version}
 use Rattle.rope.specs.declared.fault.RopeFault.{RopeFault}
-use Rattle.audit.specs.Damages.{count_in, damages}
+use Rattle.audit.specs.Damages.{count_of, damages}
 use Rattle.audit.specs.Mended.{mended_source}
-use Rattle.audit.specs.Orders.{order_of}
 use Rattle.audit.specs.Differences.{differing, differences}
 use Rattle.audit.specs.declared.differences.Extent.{Extent}
 use Rattle.audit.specs.declared.differences.Extent.TheVariants.{All, Filled}
@@ -146,7 +145,7 @@ pub record TellsParity (before after : Showing) (result : Result ℕ WorkshopFau
 -- where the bytes of an image were read what is damaged is written, and of how many banks that tells is answered
 abbrev pub WritesDamages : Result (List ℕ) RopeFault → Writer → Writer → Result ℕ WorkshopFault → Type 0
 WritesDamages (Ok image) before after result =
-    WritesText (damages image) before after result × IfOk result (λ count. count ≡ count_in (order_of image) image)
+    WritesText (damages image) before after result × IfOk result (λ count. count ≡ count_of image)
 WritesDamages (Err fault) before after result = (result ≡ Err (of_rope_fault fault)) × (after ≡ before)
 
 -- the bytes of an image are read, and what was read decides what is written

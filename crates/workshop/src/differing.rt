@@ -14,12 +14,21 @@ use std::alloc::{AllocError, Global};
 use trace::PlaceNames;
 use words::{Read, Write};
 
-/// Reads a program and its feed, and then another with its own, and writes where their runs of some steps part: see
-/// `write_differ`.
+/// A run of two.
+#[derive(Clone, Copy)]
+pub enum Side {
+    /// The first.
+    One,
+    /// The other.
+    Other,
+}
+
+/// Reads a program and its feed, and then another with its own, and writes where their runs of some steps part, and
+/// where that is asked for, how what differs came about in at most so many steps: see `write_differ`.
 ///
 /// The first fault of the first program is answered, else that of its feed, else that of the other program, else that
-/// of its feed, else that memory ran out, and then nothing is written. No memory is taken for the steps. After a write
-/// that failed a beginning of the text was written.
+/// of its feed, else that memory ran out, and then nothing is written. It is told of which run the files were read
+/// last. No memory is taken for the steps. After a write that failed a beginning of the text was written.
 pub fn differ_program<P: Read, F: Read, Q: Read, G: Read, W: Write>(
     alloc: Global,
     origin: Origin,
@@ -29,10 +38,12 @@ pub fn differ_program<P: Read, F: Read, Q: Read, G: Read, W: Write>(
     other: &mut Q,
     other_feed: &mut G,
     steps: u64,
+    why: Option<u64>,
+    last: &mut Side,
     out: &mut W,
 ) -> Result<(), WorkshopFault>
     requires { steps ≤ 2 ^ 40 - 2 }
-    ensures { TellsDiffer origin other_origin steps
+    ensures { TellsDiffer origin other_origin steps why last.new
         (record {
           one = record {
             program = reader P.told P.left P.failures program.old;
@@ -60,8 +71,19 @@ pub fn differ_program<P: Read, F: Read, Q: Read, G: Read, W: Write>(
           out = writer W.told W.written W.failures out.new;
         }) result }
 {
+    *last = Side::One;
     let loaded = load(alloc, origin, program, feed)?;
-    differ_beside(alloc, loaded, other_origin, other, other_feed, steps, out)
+    *last = Side::Other;
+    differ_beside(
+        alloc,
+        loaded,
+        other_origin,
+        other,
+        other_feed,
+        steps,
+        why,
+        out,
+    )
 }
 
 /// Reads a program and its feed, and tells where their run and that of what was read before part.
@@ -72,10 +94,11 @@ fn differ_beside<Q: Read, G: Read, W: Write>(
     other: &mut Q,
     feed: &mut G,
     steps: u64,
+    why: Option<u64>,
     out: &mut W,
 ) -> Result<(), WorkshopFault>
     requires { steps ≤ 2 ^ 40 - 2 }
-    ensures { TellsBeside origin (named_of loaded) steps
+    ensures { TellsBeside origin (named_of loaded) steps why
         (record {
           files = record {
             program = reader Q.told Q.left Q.failures other.old;
@@ -94,7 +117,7 @@ fn differ_beside<Q: Read, G: Read, W: Write>(
         }) result }
 {
     let beside = load(alloc, origin, other, feed)?;
-    differ(alloc, loaded, beside, steps, out)
+    differ(alloc, loaded, beside, steps, why, out)
 }
 
 /// Tells where the runs of what was read part.
@@ -103,10 +126,11 @@ fn differ<W: Write>(
     loaded: Loaded,
     beside: Loaded,
     steps: u64,
+    why: Option<u64>,
     out: &mut W,
 ) -> Result<(), WorkshopFault>
     requires { steps ≤ 2 ^ 40 - 2 }
-    ensures { DifferRun (named_of loaded) (named_of beside) steps
+    ensures { DifferRun (named_of loaded) (named_of beside) steps why
         (writer W.told W.written W.failures out.old) (writer W.told W.written W.failures out.new) result }
 {
     let Ok(mut one) = named_run(alloc, loaded) else {
@@ -115,7 +139,7 @@ fn differ<W: Write>(
     let Ok(mut other) = named_run(alloc, beside) else {
         return Err(WorkshopFault::NoMemory);
     };
-    write_differ(&mut one, &mut other, steps, out)?;
+    write_differ(&mut one, &mut other, steps, why, out)?;
     Ok(())
 }
 

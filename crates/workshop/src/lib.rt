@@ -13,6 +13,7 @@ mod delaying;
 mod differing;
 mod ending;
 mod engine;
+mod executed;
 mod expecting;
 mod fault;
 mod inputs;
@@ -31,7 +32,7 @@ mod trying;
 pub use accessing::access_program;
 pub use aligning::{align_engine, carry_engine, find_engine};
 pub use assembly::{asm_engine, asm_with_check_words, report_no_room};
-pub use audit::{Layout, arranged};
+pub use audit::{Layout, arranged, module_image};
 pub use checking::{Tally, check_feed, check_source, unread_text, write_tally};
 pub use commands_end::{Counted, tell_commands_end};
 pub use covering::cover_program;
@@ -42,7 +43,7 @@ pub use debugging::{
     open_program, open_session,
 };
 pub use delaying::delays_program;
-pub use differing::differ_program;
+pub use differing::{Side, differ_program};
 pub use ending::write_end;
 pub use engine::{
     MOST_STEPS, Summary, may_run, run_and_tell, run_engine, run_image_engine, run_program,

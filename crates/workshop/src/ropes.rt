@@ -1,7 +1,7 @@
 //! The engines that read images: they show them as text, compare them, and upgrade them.
 
 ghost use Rattle.std.specs.Prelude.{ℕ, List};
-ghost use Rattle.audit.specs.FormSums.{form_lines};
+ghost use Rattle.audit.specs.FormNames.{form_lines};
 ghost use Rattle.audit.specs.Octals.{octals_text};
 ghost use Rattle.audit.specs.SourceLines.{source_text};
 ghost use Rattle.audit.specs.Sums.{sum_lines};
@@ -138,7 +138,7 @@ pub fn sums_engine<R: Read, W: Write>(
 }
 
 /// Reads a rope image of a version to its end, and writes a line for each bank: its number, the sums of its words in
-/// both orders of the bits, and in which the sum is the bank's number or the complement of it.
+/// both orders of the bits, and in which forms the sum is the bank's number or the complement of it.
 ///
 /// The first fault of the image is answered, and then nothing is written.
 pub fn form_sums_engine<R: Read, W: Write>(
@@ -299,8 +299,8 @@ pub fn parity_engine<R: Read, W: Write>(
 }
 
 /// Reads the bytes of a rope image to their end, and writes what is damaged in it, bank by bank: what the words, their
-/// parities and the sums tell together. Then it writes of how many banks it told, the parity of the whole image counted
-/// as one, and answers that.
+/// parities and the sums tell together; or in which ways it stands otherwise. Then it writes of how many banks or ways it
+/// told, the parity of the whole image counted as one, and answers that.
 ///
 /// An image that is short or long is refused, and then nothing is written.
 pub fn damages_engine<R: Read, W: Write>(

@@ -4,4 +4,8 @@ use Rattle.audit.specs.Orders.{is_all}
 use Rattle.audit.proofs.orders.banks_of.Given as goal
 
 abbrev pub invariant-loop-number : goal.invariant-loop-number
-invariant-loop-number l = record { count : l.count ≡ count_before (is_all l.image l.word) l.number; few : l.count ≤ l.number }
+invariant-loop-number l = record {
+  count : l.count
+      ≡ count_before (is_all l.order l.image l.turned l.word) l.number;
+  few : l.count ≤ l.number;
+}

@@ -5,7 +5,8 @@ use Rattle.cpu.specs.Chains.{cells_among, before_step}
 use Rattle.replay.specs.View.{SessionView}
 use Rattle.replay.specs.Whys.{last_writer}
 use Rattle.debugger.specs.Conversation.{link_effort}
-use Rattle.debugger.specs.Whys.{CellSet, cells_of, end_text, link_lines}
+use Rattle.origins.specs.Following.{CellSet, cells_of}
+use Rattle.debugger.specs.Whys.{end_text, link_lines}
 use Rattle.debugger.proofs.WhyLines.{told_all, told_short, told_more, told_part, cost_more, cost_told}
 use Rattle.debugger.proofs.why.chain.Goals as goal
 

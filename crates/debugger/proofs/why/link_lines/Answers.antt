@@ -1,7 +1,8 @@
 use Rattle.std.proofs.Common.{◌∙◌, refl, ap}
 use Rattle.cpu.specs.Chains.{link_at}
-use Rattle.debugger.specs.Whys.{CellSet, cells_before, step_line}
-use Rattle.debugger.proofs.ChainText.{follows_on}
+use Rattle.origins.specs.Following.{CellSet, cells_before}
+use Rattle.debugger.specs.Whys.{step_line}
+use Rattle.origins.proofs.Followed.{follows_on}
 use Rattle.debugger.proofs.why.link_lines.Goals as goal
 
 pub returns-clause-lines : goal.returns-clause-lines

@@ -1,7 +1,7 @@
 use Rattle.std.proofs.Common.{◌∙◌, ap}
 use Rattle.cpu.specs.Chains.{link_at}
-use Rattle.debugger.specs.Whys.{CellSet, cells_before}
-use Rattle.debugger.proofs.ChainText.{follows_on}
+use Rattle.origins.specs.Following.{CellSet, cells_before}
+use Rattle.origins.proofs.Followed.{follows_on}
 use Rattle.debugger.proofs.why_since.lines_since.Goals as goal
 
 pub returns-clause-pending : goal.returns-clause-pending

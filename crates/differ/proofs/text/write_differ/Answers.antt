@@ -14,9 +14,9 @@ returns-in_err-write_state-clause-written g c = λ told.
     let one = named c.args.one.now in
     let other = named c.args.other.now in
     let e = c.in_ok-write_output.ensures in
-    let first = output_part one other c.args.steps (outputs.first_output one.scenario other.scenario c.args.steps) in
-    let second = state_part one other c.args.steps (states.first_state one.scenario other.scenario c.args.steps) in
-    let third = step_part one other c.args.steps (mains.first_step one.scenario other.scenario c.args.steps) in
+    let first = output_part one other c.args.steps c.args.why (outputs.first_output one.scenario other.scenario c.args.steps) in
+    let second = state_part one other c.args.steps c.args.why (states.first_state one.scenario other.scenario c.args.steps) in
+    let third = step_part one other c.args.steps c.args.why (mains.first_step one.scenario other.scenario c.args.steps) in
     rw p.1
     (beginning-after _ _ _ first (second ++ third) (e.written told)
     (beginning-longer _ _ second third (rw (e.names, e.other_names, e.scenario, e.other_scenario) at
@@ -29,9 +29,9 @@ returns-clause-written g c = λ told.
     let other = named c.args.other.now in
     let e = c.in_ok-write_output.ensures in
     let f = c.in_ok-write_state.ensures in
-    let first = output_part one other c.args.steps (outputs.first_output one.scenario other.scenario c.args.steps) in
-    let second = state_part one other c.args.steps (states.first_state one.scenario other.scenario c.args.steps) in
-    let third = step_part one other c.args.steps (mains.first_step one.scenario other.scenario c.args.steps) in
+    let first = output_part one other c.args.steps c.args.why (outputs.first_output one.scenario other.scenario c.args.steps) in
+    let second = state_part one other c.args.steps c.args.why (states.first_state one.scenario other.scenario c.args.steps) in
+    let third = step_part one other c.args.steps c.args.why (mains.first_step one.scenario other.scenario c.args.steps) in
     Writes-after _ _ _ first (second ++ third) _ (e.written told)
     (Writes-after _ _ _ second third _ (rw (e.names, e.other_names, e.scenario, e.other_scenario) at (f.written told))
     (rw (f.names, f.other_names, f.scenario, f.other_scenario, e.names, e.other_names, e.scenario, e.other_scenario) at

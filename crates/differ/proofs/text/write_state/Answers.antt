@@ -1,12 +1,38 @@
-use Rattle.std.proofs.Common.{◌≡◌, ◌∙◌, sym}
+use Rattle.std.proofs.Common.{◌≡◌, ◌∙◌, ◌++◌, Some, sym}
+use Rattle.std.proofs.lemmas.Result.{err_from_is_err_and}
+use Rattle.words.proofs.Texts.{Writes-after, beginning-longer}
+use Rattle.differ.specs.Causes.{followed}
+use Rattle.differ.specs.DifferText.{named, why_part}
 use Rattle.differ.proofs.text.write_state.Goals as goal
 
-pub returns-in-Some-clause-written : goal.returns-in-Some-clause-written
-returns-in-Some-clause-written g c = λ told.
+pub returns-in_err-write_lines-in-Some-clause-written : goal.returns-in_err-write_lines-in-Some-clause-written
+returns-in_err-write_lines-in-Some-clause-written g c = λ told.
+    let p = err_from_is_err_and c.from_residual.result c.from_residual.ensures.1 in
     let is = sym c.first_state.ensures.apart ∙ c.in-Some.is in
-    rw is (rw (
+    let one = named c.args.one.now in
+    let other = named c.args.other.now in
+    let a = c.in-Some.apart in
+    rw (p.1, is) (beginning-longer _ _ _ (why_part one other c.args.why (Some (followed a.step a.step a.cell))) (rw (
       c.as_slice-in-Some.ensures.value,
       c.state_line-head.ensures,
       c.first_state.ensures.scenario,
       c.first_state.ensures.other_scenario,
-    ) at (c.write_lines.ensures.written told))
+    ) at (c.in_err-write_lines-in-Some.ensures.written told)))
+
+pub returns-in_ok-write_lines-in-Some-clause-written : goal.returns-in_ok-write_lines-in-Some-clause-written
+returns-in_ok-write_lines-in-Some-clause-written g c = λ told.
+    let is = sym c.first_state.ensures.apart ∙ c.in-Some.is in
+    let lines = c.in_ok-write_lines-in-Some.ensures in
+    rw is (Writes-after _ _ _ _ _ _ (rw (
+      c.as_slice-in-Some.ensures.value,
+      c.state_line-head.ensures,
+      c.first_state.ensures.scenario,
+      c.first_state.ensures.other_scenario,
+    ) at (lines.written told)) (rw (
+      lines.names,
+      lines.other_names,
+      lines.scenario,
+      lines.other_scenario,
+      c.first_state.ensures.scenario,
+      c.first_state.ensures.other_scenario,
+    ) at (c.write_asked.ensures.written told)))

@@ -6,7 +6,7 @@ use Rattle.debugger.specs.Inputs.{inputs_text}
 use Rattle.debugger.specs.ExtendedReplies.{extended_reply}
 use Rattle.commands.specs.declared.extended.ExtendedLine.TheVariants.{Plain, Common, WhyStep, Why, Words, Where, Find, Trace, Inputs}
 use Rattle.commands.specs.declared.extended.ExtendedLine.TheVariants.{Listed, Values, Channels, Differs, WhySince, TailSteps, Survey, Say}
-use Rattle.commands.specs.declared.extended.ExtendedLine.TheVariants.{WhatIf, Calls, WhyWay, WhyControl}
+use Rattle.commands.specs.declared.extended.ExtendedLine.TheVariants.{WhatIf, Calls, WhyWay, WhyControl, WhyInputs, WhyInterrupts}
 use Rattle.debugger.specs.Conversation.{to_asked, link_effort}
 use Rattle.debugger.specs.History.{history}
 use Rattle.debugger.specs.CallsTold.{calls_text}
@@ -19,6 +19,7 @@ use Rattle.debugger.specs.Retracing.{traced_text}
 use Rattle.say.specs.declared.form.LineForm.TheVariants.{Steps, Sentences}
 use Rattle.debugger.specs.SteppedTail.{stepped_tail}
 use Rattle.debugger.specs.Surveys.{survey_text}
+use Rattle.debugger.specs.OriginsTold.{tells_inputs, tells_interrupts}
 use Rattle.debugger.specs.WhatIfs.{tries}
 use Rattle.debugger.specs.Whys.{why_text, last_text, subject_spots}
 use Rattle.debugger.specs.WhysSince.{since_text}
@@ -267,6 +268,20 @@ returns-in-WhatIf-clause-executes g c = λ told.
     rw c.in-WhatIf.is (replies-same g.K.Keeper.may_refuse
     (to_asked (terms c.args.symbols.now c.args.rows.now c.args.first_added) (WhatIf c.in-WhatIf.input c.in-WhatIf.extent))
     (tries c.in-WhatIf.input c.in-WhatIf.extent) _ _ _ _ _ (λ answers additions. refl) (c.what_if.ensures.executes told))
+
+pub returns-in-WhyInputs-clause-executes : goal.returns-in-WhyInputs-clause-executes
+unfolding extended_reply
+returns-in-WhyInputs-clause-executes g c = λ told.
+    rw c.in-WhyInputs.is (replies-same g.K.Keeper.may_refuse
+    (to_asked (terms c.args.symbols.now c.args.rows.now c.args.first_added) (WhyInputs c.in-WhyInputs.subject))
+    (tells_inputs c.args.symbols.now c.in-WhyInputs.subject) _ _ _ _ _ (λ answers additions. refl) (c.why_inputs.ensures.executes told))
+
+pub returns-in-WhyInterrupts-clause-executes : goal.returns-in-WhyInterrupts-clause-executes
+unfolding extended_reply
+returns-in-WhyInterrupts-clause-executes g c = λ told.
+    rw c.in-WhyInterrupts.is (replies-same g.K.Keeper.may_refuse
+    (to_asked (terms c.args.symbols.now c.args.rows.now c.args.first_added) (WhyInterrupts c.in-WhyInterrupts.subject))
+    (tells_interrupts c.in-WhyInterrupts.subject) _ _ _ _ _ (λ answers additions. refl) (c.why_interrupts.ensures.executes told))
 
 pub returns-in-Calls-clause-executes : goal.returns-in-Calls-clause-executes
 unfolding extended_reply

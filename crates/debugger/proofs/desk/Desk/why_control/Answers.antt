@@ -1,6 +1,7 @@
 use Rattle.std.proofs.Common.{Some, None, false, ap, ◌∙◌}
 use Rattle.replay.specs.View.{SessionView}
-use Rattle.debugger.specs.Whys.{CellSet, cells_of, end_text, subject_spots}
+use Rattle.origins.specs.Following.{CellSet, cells_of}
+use Rattle.debugger.specs.Whys.{end_text, subject_spots}
 use Rattle.debugger.proofs.WayFound.{control_is}
 use Rattle.debugger.proofs.desk.Desk.why_control.Goals as goal
 

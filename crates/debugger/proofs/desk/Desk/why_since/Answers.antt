@@ -4,7 +4,8 @@ use Rattle.cpu.specs.State.{Scenario}
 use Rattle.cpu.specs.Chains.{cells_among, before_step}
 use Rattle.replay.specs.Whys.{last_writer}
 use Rattle.debugger.specs.Conversation.{link_effort}
-use Rattle.debugger.specs.Whys.{CellSet, cells_of, end_text}
+use Rattle.origins.specs.Following.{CellSet, cells_of}
+use Rattle.debugger.specs.Whys.{end_text}
 use Rattle.debugger.specs.WhysSince.{since_step, lines_since, end_since}
 use Rattle.debugger.proofs.SinceLines.{told_all, told_short, told_more, told_part, cost_since, cost_left, cost_ended}
 use Rattle.debugger.proofs.desk.Desk.why_since.Goals as goal

@@ -2,7 +2,8 @@ use Rattle.std.proofs.Common.{ℕ, ◌-◌, ◌++◌, ◌∙◌, true, List, ap,
 use Rattle.std.proofs.lemmas.Result.{err_from_is_err_and}
 use Rattle.cpu.specs.State.{Scenario}
 use Rattle.cpu.specs.Chains.{cells_among, before_step}
-use Rattle.debugger.specs.Whys.{CellSet, cells_of, end_from, end_text, link_lines, target_spots}
+use Rattle.origins.specs.Following.{CellSet, cells_of}
+use Rattle.debugger.specs.Whys.{end_from, end_text, link_lines, target_spots}
 use Rattle.debugger.proofs.WhyLines.{first_part, two_parts, last_lines}
 use Rattle.debugger.proofs.desk.Desk.why_step.Goals as goal
 

@@ -1,0 +1,4 @@
+pub mod Leading
+pub mod Guiding
+pub mod SameWay
+mod NeedRows
