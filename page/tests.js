@@ -52,6 +52,7 @@ export function toldByProgram(stated, { output, errors }) {
     const found = /^FAIL .*: line (\d+), step (\d+), cycle (\d+): (.*)$/.exec(it);
     if (!found) continue;
     const claim = stated.words[Number(found[1]) - stated.before - 1] || [], channel = claim[0] === "CHANNEL" && /^[0-7]+$/.test(claim[1]) ? parseInt(claim[1], 8) : null, came = found[4].replace(/; wanted .*$/, ""), isMissed = came === "nothing came";
+    if (claim[0] === "NOTES" || claim[0] === "CHECK") { results.push({ wrong: { said: `${claim.join(" ")}: ${came}`, step: Number(/^NOTE .* STEP (\d+)/.exec(came)?.[1] ?? found[2]), place: "" } }); continue; }
     const isAt = claim[0] === "AT", place = channel !== null ? `CH${octal(channel, 3)}` : claim.slice(isAt ? (/^\+/.test(claim[2]) ? 3 : 2) : 1, claim.findIndex((one) => /^[<>=]+$/.test(one))).join(" "), said = claim.join(" ");
     results.push({ wrong: isMissed ? { said: T.claimMissed(said), channel, label: isAt ? claim[1] : null } : { said: claim[0] === "CALLS" ? `${said}: ${came}` : T.claimFailed(said, came.replace(/^it is /, ""), group(found[2])), step: Number(found[2]), place } });
   }

@@ -26,6 +26,8 @@ CLAIMED = [
     ("AT END Q +0 <> 0", ""),
     ("AT START A = 1", ": line {}, step 0, cycle 0: it is 00000 (0); wanted = 00001 (1)"),
     ("AT TWO A = 2", ": line {}, step 20, cycle 24: nothing came; wanted = 00002 (2)"),
+    ("COVERED 8", ""),
+    ("COVERED 9", ": line {}, step 20, cycle 24: it executes 8 words; wanted 9 or more"),
     ("CALLS TWICE 3", ": line {}, step 20, cycle 24: it is called 2 times; wanted 3"),
     ("CALLS TWICE 1", ": line {}, step 6, cycle 8: it is called 2 times; wanted 1"),
     ("CALLS TWO WITHIN 9 CYCLES", ": line {}, step 20, cycle 24: it is not called; wanted within 9 cycles"),
@@ -37,6 +39,32 @@ CLAIMED = [
     ("NEVER A = 4", ": line {}, step 3, cycle 5: it is 00004 (4); wanted not = 00004 (4)"),
     ("ALWAYS A < 4", ": line {}, step 3, cycle 5: it is 00004 (4); wanted < 00004 (4)"),
 ]
+# One in which TS skips (16383 + 16383 overflows), and an interrupt that is asked for at cycle 4 waits for more than 853 cycles.
+# Steps, with the cycles after each: CA 2, AD 4, the input 4, TS 6, TCF 7, and 1 for each TCF after it.
+NOTED = b""" SETLOC 100
+SUM ERASE
+ SETLOC 4000
+START CA MOST
+ AD MOST
+ TS SUM
+ TC START
+NOISE TCF NOISE
+MOST DEC 16383
+"""
+SKIPS = "NOTE SKIP       02,4002  54100  TS SUM             STEP 4 CYCLES 6 TIMES 1"
+WAITS = "NOTE WAITING KEYRUPT1 STEP 3 CYCLES 4"
+UNREAD = "NOTE UNREAD CHAN 015 CYCLES 4"
+NOTES = [
+    ("NOTES SKIP WAITING UNREAD", ""),
+    ("NOTES UNREAD WAITING SKIP SKIP", ""),
+    ("NOTES NONE", SKIPS),
+    ("NOTES UNREAD", SKIPS),
+    ("NOTES SKIP UNREAD", WAITS),
+    ("NOTES SKIP WAITING", UNREAD),
+]
+# A source of which `check` has two warnings, and one of which it has none.
+WARNED = b" SETLOC 4000\n CA 5\n CA 5\nDONE TCF DONE\n"
+CLEAN = b" SETLOC 4000\nDONE TCF DONE\n"
 # Lines that are refused, with their columns and what is asked for.
 REFUSED_CLAIMS = [
     ("CALLS", 6, "a label or a place is asked for"),
@@ -47,7 +75,14 @@ REFUSED_CLAIMS = [
     ("CALLS TWICE 2 3", 15, "the end of the line is asked for"),
     ("AT START +2000 A = 0", 10, "a number of words after + is asked for, in octal, which stays in the bank"),
     ("NEVER Q +8 = 0", 9, "a number of words after + is asked for, in octal, which stays in the bank"),
-    ("CALS TWICE 2", 1, "TEST, CHANNEL, AT, ALWAYS, NEVER or CALLS is asked for; CALLS is near"),
+    ("CALS TWICE 2", 1, "TEST, CHANNEL, AT, ALWAYS, NEVER, CALLS, NOTES, CHECK or COVERED is asked for; CALLS is near"),
+    ("NOTES", 6, "NONE or a kind of notes, as run --notes tells them, is asked for"),
+    ("NOTES SKIPP", 7, "a kind of notes is asked for, as run --notes tells them; SKIP is near"),
+    ("NOTES SKIP QUOTENT", 12, "a kind of notes is asked for, as run --notes tells them; QUOTIENT is near"),
+    ("NOTES NONE SKIP", 12, "the end of the line is asked for"),
+    ("CHECK ALL", 7, "the end of the line is asked for"),
+    ("COVERED", 8, "how many words are executed at least is asked for"),
+    ("COVERED all", 9, "how many words are executed at least is asked for"),
 ]
 
 
@@ -84,6 +119,21 @@ class Expect(Case):
             status, out, err = agcws("expect", file)
             with self.subTest(f"{line} is refused"):
                 self.assertEqual((status, out, err.decode().splitlines()[:1]), (2, b"", [f"{file}:4:{column}: error: {asked}"]), f"{out!r} {err!r}")
+        write(f"{self.room}/my.agc", NOTED)
+        write(f"{self.room}/my.feed", b"4 CHAN 15 1\n")
+        tests = ["SOURCE my.agc", "FEED my.feed", "STEPS 900", *[line for number, (claim, _) in enumerate(NOTES, 1) for line in (f"TEST {number}", f" {claim}")]]
+        file = write(f"{self.room}/my.expect", "\n".join([*tests, ""]).encode())
+        status, out, err = agcws("expect", file)
+        wanted = [f"FAIL {number}: line {3 + 2 * number}, step 900, cycle 902: {said}; wanted no other note" if said else f"ok   {number}" for number, (_, said) in enumerate(NOTES, 1)]
+        with self.subTest("claims of notes"):
+            self.assertEqual((status, out.decode().splitlines(), err), (1, wanted, b""), f"{out!r} {err!r}")
+        for source, said in ((WARNED, ": line 4, step 9, cycle 11: check: errors 0, warnings 2: my.agc:2:5: warning "), (CLEAN, "")):
+            write(f"{self.room}/my.agc", source)
+            file = write(f"{self.room}/my.expect", b"SOURCE my.agc\nSTEPS 9\nTEST clean\n CHECK\n")
+            status, out, err = agcws("expect", file)
+            with self.subTest("claims of what check tells"):
+                self.assertTrue(status == bool(said) and out.decode().startswith(f"FAIL clean{said}" if said else "ok   clean\n"), f"{out!r} {err!r}")
+                self.assertEqual(out.endswith(b"; wanted none\n"), bool(said), out)
         # (steps: RELINT, INCR, TCF, the input, the entry, RESUME, INCR out of BRUPT, TCF, INCR, TCF)
         write(f"{self.room}/my.agc", PUT_OFF)
         write(f"{self.room}/my.feed", b"4 CHAN 15 1\n")

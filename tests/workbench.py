@@ -657,7 +657,7 @@ class Used(Workbench):
         # (a text of the page needs no lines that name its files)
         self.js("workbench.tests.text = 'TEST a word\\n  CHANNEL 12 50D\\n  ALWAYS TICKS < 2\\nTEST two\\n  CHANEL 12 0\\n'; workbench.tests.area.dispatchEvent(new Event('input'))")
         self.wait("return document.querySelector('.tests-head .bad')")
-        self.assertIn("Line 5 of the tests: TEST, CHANNEL, AT, ALWAYS, NEVER or CALLS is asked for; CHANNEL is near", browser.text(".tests-head"))
+        self.assertIn("Line 5 of the tests: TEST, CHANNEL, AT, ALWAYS, NEVER, CALLS, NOTES, CHECK or COVERED is asked for; CHANNEL is near", browser.text(".tests-head"))
         self.assertEqual(self.js("const it = workbench.tests.faults.get(5)[0]; return [it.column, it.length]"), [3, 6])
         self.js("workbench.tests.text = 'TEST a word\\n  CHANNEL 12 50D\\nTEST two\\n  CHANNEL 13 1\\n'; workbench.tests.area.dispatchEvent(new Event('input'))")
         self.wait("return document.querySelector('[data-tab=\"tests\"] i')?.textContent === '1/2'")

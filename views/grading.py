@@ -179,7 +179,9 @@ def failure_of(task, source, line):
         return None
     number, step, cycles = map(int, found.groups()[:3])
     claim, place = task.tests.claimed(number)
-    came = not re.match("nothing came|it is not|it is called|a call", found[4])
+    noted = re.match(r"NOTE .* STEP (\d+)", found[4])
+    step = int(noted[1]) if noted else step
+    came = not re.match("nothing came|it is not|it is called|a call|NOTE |check: ", found[4])
     lines = asked(task, source, task.tests.feed, f"run {step}", "where", "trace 6", *[f"why {place} {FAR}"] * (came and bool(place)))
     chain = folded([it for it in lines if re.match("BY |START |ALL$|MORE ", it)]) if came else [it for it in lines if re.match(r"WHERE |LIST |IN INTERRUPT|TRACE ", it)]
     return {"said": f"{claim}: {found[4]}", "at": f"step {step}, cycle {cycles}", "step": step if came else None, "got": 0 if came else None, "chain": chain}

@@ -17,12 +17,32 @@ use workshop::{
 const MOST_BYTES: usize = 65_536;
 
 /// The words with which a line begins.
-static KEYWORDS: [&str; 9] = [
-    "SOURCE", "FEED", "STEPS", "TEST", "CHANNEL", "ALWAYS", "NEVER", "AT", "CALLS",
+static KEYWORDS: [&str; 12] = [
+    "SOURCE", "FEED", "STEPS", "TEST", "CHANNEL", "ALWAYS", "NEVER", "AT", "CALLS", "NOTES",
+    "CHECK", "COVERED",
 ];
 
 /// The words that stand within a line.
 static LATER_KEYWORDS: [&str; 5] = ["WITHIN", "CYCLES", "THEN", "NOTHING", "END"];
+
+/// The words that stand behind NOTES.
+static KINDS: [&str; 15] = [
+    "NONE",
+    "QUOTIENT",
+    "SKIP",
+    "NOWORD",
+    "ERASABLE",
+    "NOHANDLER",
+    "OTHERBANK",
+    "FIXEDBANK",
+    "NOTKEPT",
+    "MINUSZERO",
+    "OVERWRITTEN",
+    "SHARED",
+    "INSIDE",
+    "WAITING",
+    "UNREAD",
+];
 
 /// What the text of a file comes to: the exit code, and the lines of its tests where they were judged.
 #[derive(Drop)]
@@ -226,6 +246,8 @@ fn refuse(
     write_all(&mut out, told.map_err(no_memory)?.as_bytes())?;
     let near = if refusal.wrong.field == 0 {
         near_in(&KEYWORDS, field)
+    } else if asked_kind(refusal.wrong.asked) {
+        near_in(&KINDS, field)
     } else {
         near_in(&LATER_KEYWORDS, field)
     };
@@ -244,6 +266,11 @@ fn refuse(
     }
     write_all(&mut out, b"^\n")?;
     Ok(WRONG_ARGUMENTS)
+}
+
+/// Whether a kind of notes is asked for.
+fn asked_kind(asked: Asked) -> bool {
+    asked == Asked::Notes || asked == Asked::Kind
 }
 
 /// A line without the carriage return that ends it.
@@ -287,7 +314,7 @@ fn asked_text(asked: Asked) -> &'static str {
         Asked::Source => "SOURCE and a path are asked for",
         Asked::Steps => "STEPS and a number of steps, at most 1099511627774, are asked for",
         Asked::Test => "TEST and a name are asked for, before what is claimed",
-        Asked::Claim => "TEST, CHANNEL, AT, ALWAYS, NEVER or CALLS is asked for",
+        Asked::Claim => "TEST, CHANNEL, AT, ALWAYS, NEVER, CALLS, NOTES, CHECK or COVERED is asked for",
         Asked::Name => "the name of the test is asked for",
         Asked::Channel => "a channel, 0 to 777 in octal, is asked for",
         Asked::Put => "a word or NOTHING is asked for; octal, or decimal where D ends it",
@@ -302,6 +329,9 @@ fn asked_text(asked: Asked) -> &'static str {
         }
         Asked::Routine => "a label or a place is asked for",
         Asked::Calls => "a number of calls or WITHIN is asked for",
+        Asked::Notes => "NONE or a kind of notes, as run --notes tells them, is asked for",
+        Asked::Kind => "a kind of notes is asked for, as run --notes tells them",
+        Asked::Least => "how many words are executed at least is asked for",
         Asked::Relation => "one of = <> < > <= >= is asked for",
         Asked::Word => "a word is asked for; octal, or decimal where D ends it",
         Asked::End => "the end of the line is asked for",

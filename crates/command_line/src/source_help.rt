@@ -112,6 +112,10 @@ pub const EXPECT_HELP: &str = "Files:
         CALLS LABEL N                   LABEL is executed so often
         CALLS LABEL WITHIN N CYCLES     and each call takes at most N cycles,
                                         until Z is what Q was at LABEL
+        NOTES NONE                      run --notes tells nothing
+        NOTES KIND ..                   nothing but of these kinds, as SKIP
+        CHECK                           check tells no error and no warning
+        COVERED N                       N words of the program are executed, or more
         Besides = there are <> < > <= >=. A PLACE is erasable: a symbol, a
         register, a counter, or an octal number; +n after it, as after LABEL,
         is n words on, in octal. A WORD is octal, or decimal where D ends it,

@@ -1,4 +1,5 @@
 mod Watching
 mod Writing
 mod Steps
+mod Noted
 mod Rows

@@ -1,12 +1,16 @@
 -- Rows of texts of tests, worked out by hand.
-use Rattle.std.proofs.Common.{◌≡◌, [], ◌∷◌, true, false, refl, Option, Some, None, Ok, Err}
+use Rattle.std.proofs.Common.{◌≡◌, ℕ, List, [], ◌∷◌, true, false, refl, Option, Some, None, Ok, Err}
 use Rattle.std.specs.Prelude.{codes}
+use Rattle.agc_text.specs.Fields.{runs}
+use Rattle.agc_text.specs.Lines.{lines}
 use Rattle.expect.specs.Claims.{breaks, lacks, related}
 use Rattle.expect.specs.Fields.{relation_in, value_in}
-use Rattle.expect.specs.Lines.{claims_of, most_cycles, words_at}
+use Rattle.expect.specs.Facts.{Facts, cited, misses}
+use Rattle.expect.specs.Kinds.{first_other}
+use Rattle.expect.specs.Lines.{claims_of, kinds_at, most_cycles, words_at}
 use Rattle.expect.specs.Statements.{before_return}
 use Rattle.expect.specs.Texts.{claims_after, heading_of, in_test}
-use Rattle.expect.specs.declared.claim.Claim.TheVariants.{Puts, PutsNoMore, Always, Never, AtEnd, At, Calls, CallsWithin}
+use Rattle.expect.specs.declared.claim.Claim.TheVariants.{Puts, PutsNoMore, Always, Never, AtEnd, At, Calls, CallsWithin, Notes, Check, Covered}
 use Rattle.expect.specs.declared.claim.Relation.TheVariants.{Same, Other, Less, Greater, AtMost, AtLeast}
 use Rattle.expect.specs.declared.refusal.Asked.TheVariants as asked
 use Rattle.space.specs.declared.place.Linear.TheVariants.{Fixed}
@@ -141,6 +145,65 @@ called_for_so_long = refl
 
 no_number_of_calls : claims_of [] (codes "CALLS" ∷ codes "4000" ∷ codes "often" ∷ []) ≡ Err (record { field = 2; asked = asked.Calls })
 no_number_of_calls = refl
+
+no_notes : claims_of [] (codes "NOTES" ∷ codes "NONE" ∷ []) ≡ Ok (Notes 0 ∷ [])
+no_notes = refl
+
+notes_of_two_kinds : claims_of [] (codes "NOTES" ∷ codes "QUOTIENT" ∷ codes "UNREAD" ∷ [])
+    ≡ Ok (Notes 8193 ∷ [])
+unfolding kinds_at
+notes_of_two_kinds = refl
+
+notes_of_nothing : claims_of [] (codes "NOTES" ∷ []) ≡ Err (record { field = 1; asked = asked.Notes })
+notes_of_nothing = refl
+
+notes_of_no_kind : claims_of [] (codes "NOTES" ∷ codes "SKIP" ∷ codes "SKIPS" ∷ []) ≡ Err (record { field = 2; asked = asked.Kind })
+unfolding kinds_at
+notes_of_no_kind = refl
+
+nothing_behind_none : claims_of [] (codes "NOTES" ∷ codes "NONE" ∷ codes "SKIP" ∷ []) ≡ Err (record { field = 2; asked = asked.End })
+nothing_behind_none = refl
+
+twelve_words : claims_of [] (codes "COVERED" ∷ codes "12" ∷ []) ≡ Ok (Covered 12 ∷ [])
+twelve_words = refl
+
+no_number_of_words : claims_of [] (codes "COVERED" ∷ codes "ALL" ∷ []) ≡ Err (record { field = 1; asked = asked.Least })
+no_number_of_words = refl
+
+a_clean_source : claims_of [] (codes "CHECK" ∷ []) ≡ Ok (Check ∷ [])
+a_clean_source = refl
+
+-- ## Notes: QUOTIENT has the number 1, SKIP 2, UNREAD 8192
+abbrev some_notes : List ℕ
+some_notes = codes "NOTE SKIP       02,4005  54101  TS SUM\nNOTE QUOTIENT   02,4016  10100  DV D\n"
+
+abbrev some_facts : Facts
+some_facts = record { notes = some_notes; report = codes "a.agc:2:5: warning W1: so\n  TS 5\n"; errors = 0; warnings = 1; executed = 9 }
+
+the_quotient_is_another : first_other 2 (lines some_notes) ≡ Some (codes "NOTE QUOTIENT   02,4016  10100  DV D")
+unfolding first_other lines runs
+the_quotient_is_another = refl
+
+both_are_listed : misses some_facts (Notes 3) ≡ false
+unfolding first_other lines runs
+both_are_listed = refl
+
+none_is_listed : cited some_facts (Notes 0) ≡ codes "NOTE SKIP       02,4005  54101  TS SUM"
+unfolding first_other lines runs
+none_is_listed = refl
+
+a_warning_is_told : cited some_facts Check ≡ codes "a.agc:2:5: warning W1: so"
+unfolding lines
+a_warning_is_told = refl
+
+it_is_missed : misses some_facts Check ≡ true
+it_is_missed = refl
+
+nine_words_are_nine : misses some_facts (Covered 9) ≡ false
+nine_words_are_nine = refl
+
+nine_words_are_not_ten : misses some_facts (Covered 10) ≡ true
+nine_words_are_not_ten = refl
 
 -- ## Lines with a carriage return, and without
 a_carriage_return_ends_a_line : before_return (0o101 ∷ 0o15 ∷ []) ≡ 0o101 ∷ []

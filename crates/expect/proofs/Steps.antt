@@ -6,6 +6,7 @@ use Rattle.std.specs.Prelude.{IfErr, OnOk, is_some}
 use Rattle.std.specs.Option.{option_or}
 use Rattle.agc_text.specs.Fields.{before_comment, fields, runs, texts}
 use Rattle.symbols.specs.Values.{SymbolTable}
+use Rattle.expect.specs.Facts.{Facts}
 use Rattle.expect.specs.Lines.{Reading, alone, and_word, claims_of, is_then, nothing_at, word_of_line, word_then, words_at}
 use Rattle.expect.specs.Statements.{Statement, before_return, has_field, stated, statements}
 use Rattle.expect.specs.Texts.{Adds, Refuses, and_lines, claims_after, claims_at, in_test, line_then, name_of}
@@ -129,16 +130,17 @@ adds_more claim (Err wrong) test n old between new (Err NoMemory) one adds = tt
 adds_more claim (Err wrong) test n old between new (Err (Refused refusal)) one adds = adds
 
 -- ## Verdicts
-pub at_verdict : (tests : ℕ) (watches : List Watch) (s : Statement) (more : List Statement) (name : List (List ℕ))
+pub at_verdict : (facts : Facts) (tests : ℕ) (watches : List Watch) (s : Statement) (more : List Statement) (name : List (List ℕ))
     → Some name ≡ name_of s.fields
-    → verdicts tests watches (s ∷ more) ≡ verdict_line name (first_failing (tests + 1) watches) ++ verdicts (tests + 1) watches more
+    → verdicts facts tests watches (s ∷ more)
+    ≡ verdict_line facts name (first_failing (tests + 1) watches) ++ verdicts facts (tests + 1) watches more
 unfolding verdicts
-at_verdict tests watches s more name is = ap (λ n. verdict_at n tests watches (λ k. verdicts k watches more)) (sym is)
+at_verdict facts tests watches s more name is = ap (λ n. verdict_at facts n tests watches (λ k. verdicts facts k watches more)) (sym is)
 
-pub past_line : (tests : ℕ) (watches : List Watch) (s : Statement) (more : List Statement) → None ≡ name_of s.fields
-    → verdicts tests watches (s ∷ more) ≡ verdicts tests watches more
+pub past_line : (facts : Facts) (tests : ℕ) (watches : List Watch) (s : Statement) (more : List Statement) → None ≡ name_of s.fields
+    → verdicts facts tests watches (s ∷ more) ≡ verdicts facts tests watches more
 unfolding verdicts
-past_line tests watches s more is = ap (λ n. verdict_at n tests watches (λ k. verdicts k watches more)) (sym is)
+past_line facts tests watches s more is = ap (λ n. verdict_at facts n tests watches (λ k. verdicts facts k watches more)) (sym is)
 
 -- the claim that stands first
 pub at_failed : (test : ℕ) (watch : Watch) (more : List Watch) (failed : Option (Watch × Failure)) → failed ≡ failed_of test watch

@@ -15,7 +15,7 @@ use Rattle.cpu.specs.Profiles.{account_of}
 use Rattle.cpu.specs.Run.{run, out}
 use Rattle.cpu.specs.State.{State, Scenario}
 use Rattle.expect.specs.declared.claim.Claim.{Claim}
-use Rattle.expect.specs.declared.claim.Claim.TheVariants.{Puts, PutsNoMore, Always, Never, AtEnd, At, Calls, CallsWithin}
+use Rattle.expect.specs.declared.claim.Claim.TheVariants.{Puts, PutsNoMore, Always, Never, AtEnd, At, Calls, CallsWithin, Notes, Check, Covered}
 use Rattle.expect.specs.declared.claim.Condition.{Condition}
 use Rattle.expect.specs.declared.claim.Relation.{Relation}
 use Rattle.expect.specs.declared.claim.Relation.TheVariants.{Same, Other, Less, Greater, AtMost, AtLeast}
@@ -98,6 +98,9 @@ counts scenario (AtEnd c) s put = false
 counts scenario (At place c) s put = is_at scenario place s
 counts scenario (Calls place times) s put = is_at scenario place s
 counts scenario (CallsWithin place most) s put = is_at scenario place s
+counts scenario (Notes kinds) s put = false
+counts scenario Check s put = false
+counts scenario (Covered least) s put = false
 
 -- whether a step breaks a claim that has counted so many before, while a call went on: s is the state after it, and put what it has put out
 abbrev pub breaks : Scenario → Claim → ℕ → Option Call → State → Option Output → Bool
@@ -109,6 +112,9 @@ breaks scenario (AtEnd c) seen call s put = false
 breaks scenario (At place c) seen call s put = is_at scenario place s && not (holds c s)
 breaks scenario (Calls place times) seen call s put = is_at scenario place s && nat_le times seen
 breaks scenario (CallsWithin place most) seen call s put = is_long most s call
+breaks scenario (Notes kinds) seen call s put = false
+breaks scenario Check seen call s put = false
+breaks scenario (Covered least) seen call s put = false
 
 -- what is told of a step that breaks it: the word that was put out, or the word at its place
 abbrev pub told_of : Claim → State → Option Output → Option ℕ
@@ -120,6 +126,9 @@ told_of (AtEnd c) s put = Some (word_at c.place s)
 told_of (At place c) s put = Some (word_at c.place s)
 told_of (Calls place times) s put = None
 told_of (CallsWithin place most) s put = None
+told_of (Notes kinds) s put = None
+told_of Check s put = None
+told_of (Covered least) s put = None
 
 -- whether a claim that no step has broken, and that has counted so many, is still not borne out at the end
 abbrev pub lacks : Claim → ℕ → State → Bool
@@ -131,6 +140,9 @@ lacks (AtEnd c) seen s = not (holds c s)
 lacks (At place c) seen s = seen == 0
 lacks (Calls place times) seen s = nat_lt seen times
 lacks (CallsWithin place most) seen s = seen == 0
+lacks (Notes kinds) seen s = false
+lacks Check seen s = false
+lacks (Covered least) seen s = false
 
 -- what is told of the end then: nothing where it never came
 abbrev pub told_at_end : Claim → State → Option ℕ
@@ -142,6 +154,9 @@ told_at_end (Never c) s = None
 told_at_end (At place c) s = None
 told_at_end (Calls place times) s = None
 told_at_end (CallsWithin place most) s = None
+told_at_end (Notes kinds) s = None
+told_at_end Check s = None
+told_at_end (Covered least) s = None
 
 -- ## Of a run
 -- how many a claim counts at the start and in the first n steps

@@ -1,6 +1,8 @@
 pub mod Claims
 pub mod Watches
 pub mod Fields
+pub mod Kinds
+pub mod Facts
 pub mod Lines
 pub mod Statements
 pub mod Texts

@@ -7,8 +7,9 @@ use Rattle.space.specs.declared.place.Linear.{Linear}
 use Rattle.commands.specs.Commands.{channel_in, count_in, erasable_number}
 use Rattle.commands.specs.NamedPlaces.{begins_with_plus, named_place}
 use Rattle.expect.specs.Fields.{moved_in, relation_in, value_in}
+use Rattle.expect.specs.Kinds.{kind_in, with_kind}
 use Rattle.expect.specs.declared.claim.Claim.{Claim}
-use Rattle.expect.specs.declared.claim.Claim.TheVariants.{Puts, PutsNoMore, Always, Never, AtEnd, At, Calls, CallsWithin}
+use Rattle.expect.specs.declared.claim.Claim.TheVariants.{Puts, PutsNoMore, Always, Never, AtEnd, At, Calls, CallsWithin, Notes, Check, Covered}
 use Rattle.expect.specs.declared.claim.Condition.{Condition}
 use Rattle.expect.specs.declared.claim.Relation.{Relation}
 use Rattle.expect.specs.declared.refusal.Asked.{Asked}
@@ -196,6 +197,36 @@ abbrev pub calls_at : SymbolTable → ℕ → List (List ℕ) → Reading Claim
 calls_at symbols at [] = asks at asked.Routine
 calls_at symbols at (field ∷ more) = with_routine at (named_place symbols field) more
 
+-- ## Notes: NONE, or the kinds of which there may be some
+-- the last field of a line that names a kind
+abbrev pub last_kind : ℕ
+last_kind = 30
+
+-- kinds with one more
+abbrev pub and_kind : ℕ → ℕ → Option ℕ → (ℕ → Reading Claim) → Reading Claim
+and_kind at kinds None more = asks at asked.Kind
+and_kind at kinds (Some kind) more = more (with_kind kinds kind)
+
+-- kinds, and those of some fields, of which the first has a number
+unfoldable pub kinds_at : ℕ → ℕ → List (List ℕ) → Reading Claim
+kinds_at at kinds [] = Ok (Notes kinds)
+kinds_at at kinds (field ∷ more) =
+    if nat_lt last_kind at then asks at asked.End else and_kind at kinds (kind_in field) (λ listed. kinds_at (at + 1) listed more)
+
+abbrev pub notes_at : ℕ → List (List ℕ) → Reading Claim
+notes_at at [] = asks at asked.Notes
+notes_at at (field ∷ more) =
+    if same_name field (codes "NONE") then ended_at (at + 1) (Notes 0) more else kinds_at at 0 (field ∷ more)
+
+-- ## Words that are executed: how many at least
+abbrev pub with_least : ℕ → Option ℕ → List (List ℕ) → Reading Claim
+with_least at None more = asks at asked.Least
+with_least at (Some least) more = ended_at (at + 1) (Covered least) more
+
+abbrev pub covered_at : ℕ → List (List ℕ) → Reading Claim
+covered_at at [] = asks at asked.Least
+covered_at at (field ∷ more) = with_least at (count_in field) more
+
 -- ## Any line of a test
 -- what follows AT: END, or a place
 abbrev pub with_moved_place : SymbolTable → ℕ → Option Linear → List (List ℕ) → Reading (List Claim)
@@ -228,4 +259,7 @@ claims_of symbols (name ∷ more) =
     else (if same_name name (codes "NEVER") then claiming Never (condition_at symbols 1 more)
     else (if same_name name (codes "AT") then place_at symbols 1 more
     else (if same_name name (codes "CALLS") then alone (calls_at symbols 1 more)
-    else asks 0 asked.Claim))))
+    else (if same_name name (codes "NOTES") then alone (notes_at 1 more)
+    else (if same_name name (codes "CHECK") then alone (ended_at 1 Check more)
+    else (if same_name name (codes "COVERED") then alone (covered_at 1 more)
+    else asks 0 asked.Claim)))))))

@@ -5,10 +5,11 @@ use Rattle.std.specs.List.{flat_map, list_all}
 use Rattle.std.specs.Option.{option_or}
 use Rattle.words.specs.Numbers.{neg}
 use Rattle.words.specs.Numerals.{octal_text}
+use Rattle.expect.specs.Facts.{Facts, cited}
 use Rattle.expect.specs.Statements.{Statement}
 use Rattle.expect.specs.Texts.{name_of}
 use Rattle.expect.specs.declared.claim.Claim.{Claim}
-use Rattle.expect.specs.declared.claim.Claim.TheVariants.{Puts, PutsNoMore, Always, Never, AtEnd, At, Calls, CallsWithin}
+use Rattle.expect.specs.declared.claim.Claim.TheVariants.{Puts, PutsNoMore, Always, Never, AtEnd, At, Calls, CallsWithin, Notes, Check, Covered}
 use Rattle.expect.specs.declared.claim.Condition.{Condition}
 use Rattle.expect.specs.declared.claim.Relation.{Relation}
 use Rattle.expect.specs.declared.claim.Relation.TheVariants.{Same, Other, Less, Greater, AtMost, AtLeast}
@@ -55,11 +56,16 @@ abbrev pub word_came_text : Option ℕ → List ℕ
 word_came_text None = codes "nothing came"
 word_came_text (Some word) = codes "it is " ++ word_text word
 
--- the same of a claim that has counted so many: of a routine how often it was called, or that a call was too long
-abbrev pub came_text : Claim → ℕ → Option ℕ → List ℕ
-came_text (Calls place times) seen word = codes "it is called " ++ decimal seen ++ codes " times"
-came_text (CallsWithin place most) seen word = if seen == 0 then codes "it is not called" else codes "a call takes longer"
-came_text _ seen word = word_came_text word
+-- the same of a claim that has counted so many: of a routine how often it was called, or that a call was too long; and how much `check`
+-- tells
+abbrev pub came_text : Facts → Claim → ℕ → Option ℕ → List ℕ
+came_text facts (Calls place times) seen word = codes "it is called " ++ decimal seen ++ codes " times"
+came_text facts (CallsWithin place most) seen word = if seen == 0 then codes "it is not called" else codes "a call takes longer"
+came_text facts (Notes kinds) seen word = []
+came_text facts Check seen word =
+    codes "check: errors " ++ decimal facts.errors ++ codes ", warnings " ++ decimal facts.warnings ++ codes ": "
+came_text facts (Covered least) seen word = codes "it executes " ++ decimal facts.executed ++ codes " words"
+came_text facts _ seen word = word_came_text word
 
 -- how a word has to stand to another
 abbrev pub relation_text : Relation → List ℕ
@@ -92,6 +98,9 @@ wanted_text (AtEnd c) came = condition_text c
 wanted_text (At place c) came = condition_text c
 wanted_text (Calls place times) came = decimal times
 wanted_text (CallsWithin place most) came = codes "within " ++ decimal most ++ codes " cycles"
+wanted_text (Notes kinds) came = codes "no other note"
+wanted_text Check came = codes "none"
+wanted_text (Covered least) came = decimal least ++ codes " or more"
 
 -- whether a test is met, in a word
 abbrev pub verdict_word : Option (Watch × Failure) → List ℕ
@@ -103,26 +112,31 @@ abbrev pub where_text : ℕ → Failure → List ℕ
 where_text n failure =
     codes ": line " ++ decimal n ++ codes ", step " ++ decimal failure.step ++ codes ", cycle " ++ decimal failure.cycles ++ codes ": "
 
--- the same, what came there, and what is wanted in place of it
-abbrev pub failed_text : Watch → Failure → List ℕ
-failed_text watch failure =
-    where_text watch.stated.line failure ++ came_text watch.stated.claim watch.seen failure.word ++ codes "; wanted "
-    ++ wanted_text watch.stated.claim failure.word
+-- the same, and what came there; what is wanted in place of it
+abbrev pub front_text : Facts → Watch → Failure → List ℕ
+front_text facts watch failure = where_text watch.stated.line failure ++ came_text facts watch.stated.claim watch.seen failure.word
+
+abbrev pub back_text : Watch → Failure → List ℕ
+back_text watch failure = codes "; wanted " ++ wanted_text watch.stated.claim failure.word ++ codes "\n"
+
+-- between them stands the line that tells of it
+abbrev pub failed_text : Facts → Watch → Failure → List ℕ
+failed_text facts watch failure = front_text facts watch failure ++ (cited facts watch.stated.claim ++ back_text watch failure)
 
 -- what stands behind its name
-abbrev pub failure_text : Option (Watch × Failure) → List ℕ
-failure_text None = codes "\n"
-failure_text (Some failed) = failed_text failed.0 failed.1 ++ codes "\n"
+abbrev pub failure_text : Facts → Option (Watch × Failure) → List ℕ
+failure_text facts None = codes "\n"
+failure_text facts (Some failed) = failed_text facts failed.0 failed.1
 
 -- the line of a test
-abbrev pub verdict_line : List (List ℕ) → Option (Watch × Failure) → List ℕ
-verdict_line name failed = verdict_word failed ++ (name_text name ++ failure_text failed)
+abbrev pub verdict_line : Facts → List (List ℕ) → Option (Watch × Failure) → List ℕ
+verdict_line facts name failed = verdict_word failed ++ (name_text name ++ failure_text facts failed)
 
 -- the lines of the tests that some statements begin, before which so many have begun
-abbrev pub verdict_at : Option (List (List ℕ)) → ℕ → List Watch → (ℕ → List ℕ) → List ℕ
-verdict_at None tests watches more = more tests
-verdict_at (Some name) tests watches more = verdict_line name (first_failing (tests + 1) watches) ++ more (tests + 1)
+abbrev pub verdict_at : Facts → Option (List (List ℕ)) → ℕ → List Watch → (ℕ → List ℕ) → List ℕ
+verdict_at facts None tests watches more = more tests
+verdict_at facts (Some name) tests watches more = verdict_line facts name (first_failing (tests + 1) watches) ++ more (tests + 1)
 
-unfoldable pub verdicts : ℕ → List Watch → List Statement → List ℕ
-verdicts tests watches [] = []
-verdicts tests watches (s ∷ more) = verdict_at (name_of s.fields) tests watches (λ k. verdicts k watches more)
+unfoldable pub verdicts : Facts → ℕ → List Watch → List Statement → List ℕ
+verdicts facts tests watches [] = []
+verdicts facts tests watches (s ∷ more) = verdict_at facts (name_of s.fields) tests watches (λ k. verdicts facts k watches more)

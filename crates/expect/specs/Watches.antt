@@ -1,11 +1,15 @@
 -- A claim that is watched while a run is made, step by step.
-use Rattle.std.specs.Prelude.{ℕ, ◌+◌, ◌≤◌, ◌^◌, List, Option, Some, None, if◌then◌else◌}
+use Rattle.std.specs.Prelude.{ℕ, ◌+◌, ◌≤◌, ◌^◌, List, map, Option, Some, None, if◌then◌else◌}
 use Rattle.std.specs.List.{All}
 use Rattle.std.specs.Option.{option_or}
 use Rattle.cpu.specs.declared.output.Output.{Output}
 use Rattle.cpu.specs.State.{State, Scenario}
-use Rattle.expect.specs.Claims.{broken, broken_at_start, broken_by, call_at, called, counts, fate, lacking, seen}
+use Rattle.cpu.specs.Run.{run}
+use Rattle.expect.specs.Claims.{broken, broken_at_start, broken_by, call_at, called, counts, failure, fate, lacking, seen}
+use Rattle.expect.specs.Facts.{Facts, misses}
+use Rattle.expect.specs.declared.claim.Claim.{Claim}
 use Rattle.expect.specs.declared.claim.Stated.{Stated}
+use Rattle.expect.specs.declared.watch.Failure.{Failure}
 use Rattle.expect.specs.declared.watch.Watch.{Watch}
 
 -- before the run
@@ -63,6 +67,23 @@ judged scenario n stated =
       failure = fate scenario n
           stated.claim;
     }
+
+-- what is known of n steps beside them, at whose end the machine stands so, where that does not bear a claim out
+abbrev pub unmet : Facts → ℕ → State → Claim → Option Failure
+unmet facts n s claim = if misses facts claim then Some (failure n s None) else None
+
+abbrev pub settled : Facts → State → ℕ → Watch → Watch
+settled facts s n watch =
+    record {
+      stated = watch.stated;
+      seen = watch.seen;
+      call = watch.call;
+      failure = option_or watch.failure (unmet facts n s watch.stated.claim);
+    }
+
+-- the verdicts on claims of n steps, of which something is known
+abbrev pub all_judged : Facts → Scenario → ℕ → List Stated → List Watch
+all_judged facts scenario n claims = map (settled facts (run scenario n) n) (map (judged scenario n) claims)
 
 -- what they have counted may grow
 abbrev pub AreFew : List Watch → Type 0

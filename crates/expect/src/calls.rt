@@ -73,7 +73,7 @@ fn limit_unit_at(place: Linear, most: u64, at: u64, fields: &[u8]) -> Result<Cla
 }
 
 /// A claim, after which nothing more may stand.
-fn ended(at: u64, claim: Claim, fields: &[u8]) -> Result<Claim, Wrong>
+pub(crate) fn ended(at: u64, claim: Claim, fields: &[u8]) -> Result<Claim, Wrong>
     ensures { result ≡ ended_at at claim (texts (runs fields.now)) }
 {
     match split_field(fields) {

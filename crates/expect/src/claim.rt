@@ -68,6 +68,12 @@ pub enum Claim {
     Calls(Linear, u64),
     /// It is called, and each call takes at most so many cycles.
     CallsWithin(Linear, u64),
+    /// The run has no note but of some kinds, which have the sum of their numbers.
+    Notes(u64),
+    /// `check` tells no error of the source, and no warning.
+    Check,
+    /// So many words of the program are executed, or more.
+    Covered(u64),
 }
 
 /// A claim, with the test that states it.

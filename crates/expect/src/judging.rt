@@ -1,40 +1,63 @@
 //! Whether a run bears out what is claimed of it.
 
-ghost use Rattle.std.specs.Prelude.{◌≡◌, ◌+◌, ◌-◌, ◌≤◌, ◌<◌, ◌^◌, IfOk, map, min};
+ghost use Rattle.std.specs.Prelude.{◌≡◌, ◌+◌, ◌-◌, ◌≤◌, ◌<◌, ◌^◌, IfOk, OnOk, map, min};
 ghost use Rattle.std.specs.List.{All};
 ghost use Rattle.cpu.specs.Next.{next};
 ghost use Rattle.cpu.specs.Run.{run};
-ghost use Rattle.cpu.specs.State.{FitsRun};
-ghost use Rattle.expect.specs.Watches.{AreFew, ended, judged, noted, started, unseen, watched};
+ghost use Rattle.cpu.specs.State.{FitsRun, start};
+ghost use Rattle.expect.specs.Facts.{facts_of};
+ghost use Rattle.expect.specs.Watches.{AreFew, ended, judged, noted, settled, started, unseen, watched};
 
 use crate::claim::Stated;
+use crate::known::Known;
 use crate::watch::Watch;
 use cpu::{Machine, Output, Processor, make_step};
 use std::alloc::{AllocError, Global};
 
-/// Makes some steps of a run from its start, each once, and tells of each claim whether they bear it out, and if not
-/// where it fails first.
+/// Makes some steps of a run from its start, where the machine stands, each once, and tells of each claim whether they bear it out, and if not
+/// where it fails first. Of notes and of what `check` tells `settle` judges afterwards.
 ///
 /// Memory is taken once, before the first step; where it is refused no step is made.
 pub fn judge(
     alloc: Global,
     processor: &mut Processor,
+    machine: &mut Machine,
     claims: &[Stated],
     steps: u64,
 ) -> Result<Vec<Watch>, AllocError>
-    requires { steps ≤ 2 ^ 40 - 2 }
+    requires few { steps ≤ 2 ^ 40 - 2 }
+    requires start { machine.old ≡ start }
     ensures judged { IfOk result (λ watches. watches.items ≡ map (judged processor.old.scenario steps) claims.now) }
+    ensures end { OnOk result (machine.new ≡ run processor.old.scenario steps) }
+    ensures scenario { processor.new.scenario ≡ processor.old.scenario }
     ensures meter { processor.new.meter ≤ processor.old.meter + steps }
 {
     let mut watches = watched(alloc, processor, claims)?;
-    let mut machine = Machine::start();
     let mut done = 0;
     while done < steps {
         done += 1;
-        step_and_note(processor, &mut machine, &mut watches, done);
+        step_and_note(processor, machine, &mut watches, done);
     }
-    end_all(&mut watches, &machine, steps);
+    end_all(&mut watches, machine, steps);
     Ok(watches)
+}
+
+/// Looks at what is known of a run beside its steps for each claim, where the machine stands at its end.
+pub fn settle(watches: Vec<Watch>, known: &Known<'_>, machine: &Machine, steps: u64) -> Vec<Watch>
+    ensures { result.items ≡ map (settled (facts_of known.now) machine.now steps) watches.items }
+{
+    let mut settled = watches;
+    settle_all(&mut settled, known, machine, steps);
+    settled
+}
+
+/// Looks at what is known for each claim.
+fn settle_all(watches: &mut [Watch], known: &Known<'_>, machine: &Machine, steps: u64)
+    ensures { watches.new ≡ map (settled (facts_of known.now) machine.now steps) watches.old }
+{
+    for watch in watches.iter_mut() {
+        watch.settle(known, machine, steps);
+    }
 }
 
 /// Some claims at the start of a run.

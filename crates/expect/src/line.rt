@@ -6,11 +6,12 @@ ghost use Rattle.expect.specs.Lines.{claiming, claims_of, condition_at, moved_pl
 ghost use Rattle.expect.specs.declared.claim.Claim.TheVariants.{At};
 ghost use Rattle.expect.specs.Texts.{listed};
 
-use crate::calls::calls_at;
+use crate::calls::{calls_at, ended};
 use crate::channel::{alone, channel_at};
 use crate::claim::Claim;
 use crate::condition::{condition_at, wrong};
 use crate::fields::{begins_with_plus, is_word, moved_in};
+use crate::notes::{covered_at, notes_at};
 use crate::refusal::{Asked, Wrong};
 use agc_text::split_field;
 use commands::named_place;
@@ -62,6 +63,12 @@ pub(crate) fn line_of<'a>(symbols: &Symbols, fields: &'a [u8]) -> Result<Line<'a
         place_at(symbols, 1, rest)
     } else if is_word(name, "CALLS") {
         alone(calls_at(symbols, 1, rest))
+    } else if is_word(name, "NOTES") {
+        alone(notes_at(1, rest))
+    } else if is_word(name, "CHECK") {
+        alone(ended(1, Claim::Check, rest))
+    } else if is_word(name, "COVERED") {
+        alone(covered_at(1, rest))
     } else {
         Err(wrong(0, Asked::Claim))
     }

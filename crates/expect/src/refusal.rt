@@ -35,6 +35,12 @@ pub enum Asked {
     Routine,
     /// How often a routine is called, or `WITHIN`.
     Calls,
+    /// `NONE`, or a kind of notes.
+    Notes,
+    /// A kind of notes.
+    Kind,
+    /// How many words are executed at least.
+    Least,
     /// A relation.
     Relation,
     /// A word.

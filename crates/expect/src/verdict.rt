@@ -6,12 +6,15 @@ ghost use Rattle.agc_text.specs.Lines.{lines};
 ghost use Rattle.arrayvec.specs.ArrayVec.{array_vec_len};
 ghost use Rattle.words.specs.Devices.{Writes, failures_after};
 ghost use Rattle.expect.specs.Statements.{statements};
-ghost use Rattle.expect.specs.Verdicts.{are_all_met, came_text, condition_text, failed_of, failed_text, failure_text};
-ghost use Rattle.expect.specs.Verdicts.{first_failing, is_that, name_text, relation_text, signed_text, sought_text};
+ghost use Rattle.expect.specs.Facts.{facts_of};
+ghost use Rattle.expect.specs.Verdicts.{are_all_met, back_text, came_text, condition_text, failed_of, failed_text};
+ghost use Rattle.expect.specs.Verdicts.{failure_text, first_failing, front_text, is_that, name_text, relation_text};
+ghost use Rattle.expect.specs.Verdicts.{signed_text, sought_text};
 ghost use Rattle.expect.specs.Verdicts.{verdict_line, verdict_word, verdicts, wanted_text, where_text, word_came_text};
 ghost use Rattle.expect.specs.Verdicts.{word_text};
 
 use crate::claim::{Claim, Condition, Relation, Sought};
+use crate::known::{Known, cited};
 use crate::reading::name_of;
 use crate::statement::next_statement;
 use crate::watch::{Failure, Watch};
@@ -28,18 +31,19 @@ const SIGN: u16 = 0o40000;
 type FailureText = ArrayVec<u8, FAILURE>;
 
 /// Writes a line for each test of a text, before which so many lines stand: whether its claims are met, and if not
-/// which line fails first, at which step, after how many cycles, and what came.
+/// which line fails first, at which step, after how many cycles, and what came, or is known.
 ///
 /// After a failure a beginning of it was written.
 pub fn write_verdicts<W: Write>(
     before: u64,
     text: &[u8],
     watches: &[Watch],
+    known: &Known<'_>,
     out: &mut W,
 ) -> Result<(), WriteFailed>
     requires { before + length text.now ≤ 2 ^ 20 }
     ensures written { W.told ≡ true → Writes (W.written out.old) (W.written out.new)
-        (verdicts 0 watches.now (statements before (lines text.now))) result }
+        (verdicts (facts_of known.now) 0 watches.now (statements before (lines text.now))) result }
     ensures failures { W.failures out.new ≡ failures_after (W.failures out.old) result }
 {
     let mut rest = text;
@@ -51,7 +55,7 @@ pub fn write_verdicts<W: Write>(
         match name_of(statement.fields) {
             Some(name) => {
                 tests += 1;
-                write_verdict(name, &first_failing(tests, watches), out)?;
+                write_verdict(name, &first_failing(tests, watches), known, out)?;
             }
             None => {}
         }
@@ -96,15 +100,16 @@ fn failed_of(test: u64, watch: &Watch) -> Option<(Watch, Failure)>
 fn write_verdict<W: Write>(
     name: &[u8],
     failed: &Option<(Watch, Failure)>,
+    known: &Known<'_>,
     out: &mut W,
 ) -> Result<(), WriteFailed>
     ensures written { W.told ≡ true → Writes (W.written out.old) (W.written out.new)
-        (verdict_line (texts (runs name.now)) failed.now) result }
+        (verdict_line (facts_of known.now) (texts (runs name.now)) failed.now) result }
     ensures failures { W.failures out.new ≡ failures_after (W.failures out.old) result }
 {
     write_all(out, verdict_word(failed))?;
     write_name(name, out)?;
-    write_all(out, failure_text(failed).as_slice())
+    write_failure(failed, known, out)
 }
 
 /// Whether a test is met, in a word.
@@ -140,29 +145,63 @@ fn write_field<W: Write>(field: &[u8], out: &mut W) -> Result<(), WriteFailed>
     write_all(out, field)
 }
 
-/// What is told of a failure: its line, its step, the cycles after it, what came, and what is wanted; the end of the
-/// line in any case.
-fn failure_text(failed: &Option<(Watch, Failure)>) -> FailureText
-    ensures { result.items ≡ failure_text failed.now }
+/// Writes what is told of a failure, and the end of the line in any case.
+fn write_failure<W: Write>(
+    failed: &Option<(Watch, Failure)>,
+    known: &Known<'_>,
+    out: &mut W,
+) -> Result<(), WriteFailed>
+    ensures written { W.told ≡ true → Writes (W.written out.old) (W.written out.new)
+        (failure_text (facts_of known.now) failed.now) result }
+    ensures failures { W.failures out.new ≡ failures_after (W.failures out.old) result }
+{
+    match failed {
+        Some((watch, failure)) => write_failed(watch, failure, known, out),
+        None => write_all(out, b"\n"),
+    }
+}
+
+/// Writes its line, its step, the cycles after it, what came or the line that tells of it, and what is wanted.
+fn write_failed<W: Write>(
+    watch: &Watch,
+    failure: &Failure,
+    known: &Known<'_>,
+    out: &mut W,
+) -> Result<(), WriteFailed>
+    ensures written { W.told ≡ true → Writes (W.written out.old) (W.written out.new)
+        (failed_text (facts_of known.now) watch.now failure.now) result }
+    ensures failures { W.failures out.new ≡ failures_after (W.failures out.old) result }
+{
+    write_all(out, front_text(watch, failure, known).as_slice())?;
+    write_all(out, cited(known, &watch.stated.claim))?;
+    write_all(out, back_text(watch, failure).as_slice())
+}
+
+/// Where a test fails, and what came.
+fn front_text(watch: &Watch, failure: &Failure, known: &Known<'_>) -> FailureText
+    ensures { result.items ≡ front_text (facts_of known.now) watch.now failure.now }
 {
     let mut text = ArrayVec::new();
-    if let Some((watch, failure)) = failed {
-        push_failure(&mut text, watch, failure);
-    }
-    push_all(&mut text, b"\n");
+    push_where(&mut text, watch.stated.line, failure);
+    push_came(
+        &mut text,
+        known,
+        &watch.stated.claim,
+        watch.seen,
+        failure.word,
+    );
     text
 }
 
-/// Appends what is told of a failure.
-fn push_failure(text: &mut FailureText, watch: &Watch, failure: &Failure)
-    requires { array_vec_len text.old ≤ 0 }
-    ensures items { text.new.items ≡ text.old.items ++ failed_text watch.now failure.now }
-    ensures short { array_vec_len text.new ≤ 250 }
+/// What is wanted in place of it, and the end of the line.
+fn back_text(watch: &Watch, failure: &Failure) -> FailureText
+    ensures { result.items ≡ back_text watch.now failure.now }
 {
-    push_where(text, watch.stated.line, failure);
-    push_came(text, &watch.stated.claim, watch.seen, failure.word);
-    push_all(text, b"; wanted ");
-    push_wanted(text, &watch.stated.claim, failure.word);
+    let mut text = ArrayVec::new();
+    push_all(&mut text, b"; wanted ");
+    push_wanted(&mut text, &watch.stated.claim, failure.word);
+    push_all(&mut text, b"\n");
+    text
 }
 
 /// Appends where a test fails.
@@ -182,16 +221,63 @@ fn push_where(text: &mut FailureText, line: u64, failure: &Failure)
 }
 
 /// Appends what came, where a claim has counted so many.
-fn push_came(text: &mut FailureText, claim: &Claim, seen: u64, word: Option<Word>)
+fn push_came(
+    text: &mut FailureText,
+    known: &Known<'_>,
+    claim: &Claim,
+    seen: u64,
+    word: Option<Word>,
+)
     requires { array_vec_len text.old ≤ 90 }
-    ensures items { text.new.items ≡ text.old.items ++ came_text claim.now seen word }
-    ensures len { array_vec_len text.new ≤ array_vec_len text.old + 50 }
+    ensures items { text.new.items ≡ text.old.items ++ came_text (facts_of known.now) claim.now seen word }
+    ensures len { array_vec_len text.new ≤ array_vec_len text.old + 90 }
 {
     match claim {
         Claim::Calls(_, _) => push_times(text, seen),
         Claim::CallsWithin(_, _) => push_long(text, seen),
+        Claim::Notes(_) => {}
+        Claim::Check => push_counts(text, known.errors, known.warnings),
+        Claim::Covered(_) => push_executed(text, known.executed),
         _ => push_word_that_came(text, word),
     }
+}
+
+/// Appends how much `check` tells.
+#[tactic(auto, using(words::proofs::Digits::short_decimal))]
+fn push_counts(text: &mut FailureText, errors: u64, warnings: u64)
+    requires { array_vec_len text.old ≤ 90 }
+    ensures items { text.new.items ≡ text.old.items
+        ++ (codes "check: errors " ++ decimal errors ++ codes ", warnings " ++ decimal warnings ++ codes ": ") }
+    ensures len { array_vec_len text.new ≤ array_vec_len text.old + 70 }
+{
+    push_all(text, b"check: errors ");
+    push_decimal(text, errors);
+    push_all(text, b", warnings ");
+    push_decimal(text, warnings);
+    push_all(text, b": ");
+}
+
+/// Appends how many words are executed.
+#[tactic(auto, using(words::proofs::Digits::short_decimal))]
+fn push_executed(text: &mut FailureText, executed: u64)
+    requires { array_vec_len text.old ≤ 90 }
+    ensures items { text.new.items ≡ text.old.items ++ (codes "it executes " ++ decimal executed ++ codes " words") }
+    ensures len { array_vec_len text.new ≤ array_vec_len text.old + 40 }
+{
+    push_all(text, b"it executes ");
+    push_decimal(text, executed);
+    push_all(text, b" words");
+}
+
+/// Appends how many are wanted at least.
+#[tactic(auto, using(words::proofs::Digits::short_decimal))]
+fn push_least(text: &mut FailureText, least: u64)
+    requires { array_vec_len text.old ≤ 150 }
+    ensures items { text.new.items ≡ text.old.items ++ (decimal least ++ codes " or more") }
+    ensures len { array_vec_len text.new ≤ array_vec_len text.old + 40 }
+{
+    push_decimal(text, least);
+    push_all(text, b" or more");
 }
 
 /// Appends how often a routine is called.
@@ -282,6 +368,9 @@ fn push_wanted(text: &mut FailureText, claim: &Claim, came: Option<Word>)
         }
         Claim::Calls(_, times) => push_decimal(text, *times),
         Claim::CallsWithin(_, most) => push_within(text, *most),
+        Claim::Notes(_) => push_all(text, b"no other note"),
+        Claim::Check => push_all(text, b"none"),
+        Claim::Covered(least) => push_least(text, *least),
     }
 }
 

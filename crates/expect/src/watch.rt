@@ -4,9 +4,11 @@ ghost use Rattle.std.specs.Prelude.{◌≡◌, ◌+◌, ◌-◌, ◌%◌, ◌≤
 ghost use Rattle.cpu.specs.State.{FitsRun};
 ghost use Rattle.expect.specs.Claims.{begun, breaks, broken_at_start, called, counts, is_at, is_long, is_on, is_sought};
 ghost use Rattle.expect.specs.Claims.{lacks, on_call, resumed_place, told_at_end, told_of, word_of};
-ghost use Rattle.expect.specs.Watches.{ended, noted, started, unseen};
+ghost use Rattle.expect.specs.Facts.{facts_of};
+ghost use Rattle.expect.specs.Watches.{ended, noted, settled, started, unseen};
 
 use crate::claim::{Claim, Sought, Stated};
+use crate::known::{Known, misses};
 use cpu::{Account, Machine, Output, Processor};
 use space::resolve::resolve;
 use space::{Addr12, Chan, Eras, Linear};
@@ -123,6 +125,19 @@ impl Watch {
             });
         }
     }
+
+    /// Looks at what is known of a run of some steps beside them.
+    pub(crate) fn settle(&mut self, known: &Known<'_>, machine: &Machine, steps: u64)
+        ensures { self.new ≡ settled (facts_of known.now) machine.now steps self.old }
+    {
+        if self.failure.is_none() && misses(known, &self.stated.claim) {
+            self.failure = Some(Failure {
+                step: steps,
+                cycles: machine.cycles(),
+                word: None,
+            });
+        }
+    }
 }
 
 /// What the start tells that breaks a claim.
@@ -172,6 +187,7 @@ fn breaks(
         }
         Claim::Calls(place, times) => is_at(processor, machine, place) && *times <= seen,
         Claim::CallsWithin(_, most) => is_long(*most, machine, call),
+        Claim::Notes(_) | Claim::Check | Claim::Covered(_) => false,
     }
 }
 
@@ -189,6 +205,7 @@ fn counts(claim: &Claim, processor: &Processor, machine: &Machine, put: &Option<
         Claim::Calls(place, _) | Claim::CallsWithin(place, _) => {
             is_at(processor, machine, place)
         }
+        Claim::Notes(_) | Claim::Check | Claim::Covered(_) => false,
     }
 }
 
@@ -202,6 +219,7 @@ fn told_of(claim: &Claim, machine: &Machine, put: &Option<Output>) -> Option<Wor
             Some(machine.word(it.place))
         }
         Claim::Calls(_, _) | Claim::CallsWithin(_, _) => None,
+        Claim::Notes(_) | Claim::Check | Claim::Covered(_) => None,
     }
 }
 
@@ -215,6 +233,7 @@ fn lacks(claim: &Claim, seen: u64, machine: &Machine) -> bool
         Claim::AtEnd(condition) => !condition.holds(machine),
         Claim::At(_, _) | Claim::CallsWithin(_, _) => seen == 0,
         Claim::Calls(_, times) => seen < *times,
+        Claim::Notes(_) | Claim::Check | Claim::Covered(_) => false,
     }
 }
 

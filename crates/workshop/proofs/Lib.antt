@@ -15,3 +15,4 @@ mod RunReached
 mod NotedSteps
 mod NotesWritten
 mod AccessCounts
+mod JudgedRuns

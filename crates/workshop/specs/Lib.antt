@@ -7,6 +7,7 @@ pub mod DifferRuns
 pub mod Checks
 pub mod Crossing
 pub mod Debugging
+pub mod Executed
 pub mod Expectations
 pub mod Failures
 pub mod Faults

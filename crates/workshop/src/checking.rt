@@ -148,7 +148,7 @@ fn read_report<S: Read>(
 }
 
 // The faults of a source of a language and its warnings in a notation, and how many there are.
-fn told_of(
+pub(crate) fn told_of(
     alloc: Global,
     notation: Notation,
     language: Language,

@@ -13,6 +13,7 @@ mod delaying;
 mod differing;
 mod ending;
 mod engine;
+mod executed;
 mod expecting;
 mod fault;
 mod inputs;

@@ -182,7 +182,7 @@ fn read_named_source<P: Read>(
 }
 
 /// Makes some steps from the start, and then writes their notes: at most twice as many are made.
-fn run_then_note<W: Write, T: Write, N: Write>(
+pub(crate) fn run_then_note<W: Write, T: Write, N: Write>(
     notation: Notation,
     processor: &mut Processor,
     names: &PlaceNames,

@@ -1,4 +1,5 @@
 use Rattle.std.proofs.Common.{◌≡◌, ◌∙◌, refl, sym, ap, arith}
+use Rattle.cpu.specs.Run.{run}
 use Rattle.cpu.proofs.RunLaws.{run-zero}
 use Rattle.expect.proofs.Watching.{few_cycles, few_watches, fits_after, put_back, state_more, watches_end, watches_more}
 use Rattle.expect.proofs.judging.judge.Goals as goal
@@ -6,7 +7,7 @@ use Rattle.expect.proofs.judging.judge.Goals as goal
 pub loop-done-init : goal.loop-done-init
 loop-done-init c = record {
   scenario = refl;
-  state = c.start-machine.ensures.start ∙ sym (run-zero c.args.processor.now.scenario);
+  state = c.requires.start ∙ sym (run-zero c.args.processor.now.scenario);
   watches = c.in_ok-watches.ensures;
   within = omega arith;
   meter = omega arith;
@@ -14,7 +15,7 @@ loop-done-init c = record {
 
 pub step_and_note-requires-clause-cycles : goal.step_and_note-requires-clause-cycles
 step_and_note-requires-clause-cycles c = few_cycles c.args.processor.now.scenario c.loop-done.done _ c.loop-done.invariant.state
-    (omega (arith, c.loop-done-test.true, c.requires))
+    (omega (arith, c.loop-done-test.true, c.requires.few))
 
 pub step_and_note-requires-clause-fits : goal.step_and_note-requires-clause-fits
 step_and_note-requires-clause-fits c = fits_after c.args.processor.now.scenario _ c.loop-done.done _ c.loop-done.invariant.scenario
@@ -22,7 +23,7 @@ step_and_note-requires-clause-fits c = fits_after c.args.processor.now.scenario 
 
 pub step_and_note-requires-clause-few : goal.step_and_note-requires-clause-few
 step_and_note-requires-clause-few c =
-    few_watches c.args.processor.now.scenario c.loop-done.done _ c.args.claims.now (omega (arith, c.loop-done-test.true, c.requires))
+    few_watches c.args.processor.now.scenario c.loop-done.done _ c.args.claims.now (omega (arith, c.loop-done-test.true, c.requires.few))
     (c.deref_mut.ensures.value ∙ c.loop-done.invariant.watches)
 
 pub loop-done-preserved : goal.loop-done-preserved
@@ -47,3 +48,8 @@ returns-clause-judged c =
     ∙ watches_end c.args.processor.now.scenario c.args.steps c.loop-done.done _ c.deref_mut-2.result.now _ c.args.claims.now end
     c.loop-done.invariant.state
     (c.deref_mut-2.ensures.value ∙ c.loop-done.invariant.watches) c.end_all.ensures
+
+pub returns-clause-end : goal.returns-clause-end
+returns-clause-end c =
+    let end : c.loop-done.done ≡ c.args.steps = omega (arith, c.loop-done-test.false, c.loop-done.invariant.within) in
+    c.loop-done.invariant.state ∙ ap (run c.args.processor.now.scenario) end

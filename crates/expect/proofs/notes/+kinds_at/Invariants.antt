@@ -1,0 +1,5 @@
+use Rattle.std.proofs.Common.{◌-◌}
+use Rattle.expect.proofs.notes.+kinds_at.Given as goal
+
+abbrev pub decreases-kinds_at : goal.decreases-kinds_at
+decreases-kinds_at l = 40 - l.at

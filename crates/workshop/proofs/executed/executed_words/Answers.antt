@@ -1,0 +1,14 @@
+use Rattle.std.proofs.Common.{◌∙◌, ap}
+use Rattle.rope.specs.Places.{fixed_places}
+use Rattle.cover.specs.Tallies.{profile_of}
+use Rattle.cover.proofs.Counting.{profile_is}
+use Rattle.workshop.specs.Executed.{executed_before}
+use Rattle.workshop.proofs.executed.executed_words.Goals as goal
+
+pub returns-clause-count : goal.returns-clause-count
+returns-clause-count c =
+    c.executed_of.ensures
+    ∙ ap (λ f. executed_before f c.rope.result.now fixed_places)
+    (profile_is c.args.processor.now.scenario c.args.steps c.make_steps.new.self c.make_steps.ensures.counts)
+    ∙ ap (λ w. executed_before (profile_of c.args.processor.now.scenario c.args.steps) w fixed_places)
+    (c.rope.ensures ∙ ap (λ s. s.rope) c.make_steps.ensures.scenario)

@@ -1,0 +1,64 @@
+//! How many words of a program a run has executed.
+
+ghost use Rattle.std.specs.Prelude.{◌≡◌, ◌≤◌, ◌<◌, ◌-◌, ◌^◌, ◌/◌, ◌%◌, IfOk};
+ghost use Rattle.cover.specs.Tallies.{figures_at};
+ghost use Rattle.workshop.specs.Executed.{executed, executed_before, is_executed};
+
+use crate::fault::WorkshopFault;
+use cover::Tally;
+use cpu::{Account, Machine, Processor};
+use rope::Rope;
+use space::{BANK_WORDS, Bank, FIXED_BANKS, Linear, Offset};
+use std::alloc::Global;
+
+/// How many places fixed memory has.
+const FIXED_PLACES: u16 = FIXED_BANKS * BANK_WORDS;
+
+/// How many words some steps from the start execute. An `Err` is that memory ran out.
+pub(crate) fn executed_words(
+    alloc: Global,
+    processor: &mut Processor,
+    steps: u64,
+) -> Result<u64, WorkshopFault>
+    requires { steps ≤ 2 ^ 40 - 2 }
+    ensures count { IfOk result (λ count. count ≡ executed processor.old.scenario steps) }
+    ensures scenario { processor.new.scenario ≡ processor.old.scenario }
+{
+    let Ok(mut tally) = Tally::new(alloc) else {
+        return Err(WorkshopFault::NoMemory);
+    };
+    let mut machine = Machine::start();
+    tally.make_steps(processor, &mut machine, 0, steps);
+    Ok(executed_of(&tally, processor.rope()))
+}
+
+/// How many words some figures show as executed.
+fn executed_of(tally: &Tally, rope: &Rope) -> u64
+    ensures { result ≡ executed_before (figures_at tally.now) rope.now 0o110000 }
+{
+    let mut count = 0;
+    for number in 0..FIXED_PLACES {
+        if is_executed(tally, rope, number) {
+            count += 1;
+        }
+    }
+    count
+}
+
+/// Whether a word stands at the place of a number and was executed.
+fn is_executed(tally: &Tally, rope: &Rope, number: u16) -> bool
+    requires { number < 0o110000 }
+    ensures { result ≡ is_executed (figures_at tally.now) rope.now (number / 0o2000) (number % 0o2000) }
+{
+    let offset = Offset::of_low_bits(number);
+    match Bank::try_new(number / BANK_WORDS) {
+        Some(bank) => {
+            rope.has(bank, offset)
+                && tally
+                    .figures(Account::Place(Linear::Fixed(bank, offset)))
+                    .count
+                    > 0
+        }
+        None => false,
+    }
+}
