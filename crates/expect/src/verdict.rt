@@ -243,16 +243,36 @@ fn push_came(
 }
 
 /// Appends how much `check` tells.
-#[tactic(auto, using(words::proofs::Digits::short_decimal))]
 fn push_counts(text: &mut FailureText, errors: u64, warnings: u64)
     requires { array_vec_len text.old ≤ 90 }
     ensures items { text.new.items ≡ text.old.items
-        ++ (codes "check: errors " ++ decimal errors ++ codes ", warnings " ++ decimal warnings ++ codes ": ") }
-    ensures len { array_vec_len text.new ≤ array_vec_len text.old + 70 }
+        ++ ((codes "check: errors " ++ decimal errors ++ codes ", warnings ") ++ (decimal warnings ++ codes ": ")) }
+    ensures len { array_vec_len text.new ≤ array_vec_len text.old + 90 }
+{
+    push_errors(text, errors);
+    push_warnings(text, warnings);
+}
+
+/// Appends how many errors `check` tells.
+#[tactic(auto, using(words::proofs::Digits::short_decimal))]
+fn push_errors(text: &mut FailureText, errors: u64)
+    requires { array_vec_len text.old ≤ 90 }
+    ensures items { text.new.items ≡ text.old.items
+        ++ (codes "check: errors " ++ decimal errors ++ codes ", warnings ") }
+    ensures len { array_vec_len text.new ≤ array_vec_len text.old + 50 }
 {
     push_all(text, b"check: errors ");
     push_decimal(text, errors);
     push_all(text, b", warnings ");
+}
+
+/// Appends how many warnings.
+#[tactic(auto, using(words::proofs::Digits::short_decimal))]
+fn push_warnings(text: &mut FailureText, warnings: u64)
+    requires { array_vec_len text.old ≤ 150 }
+    ensures items { text.new.items ≡ text.old.items ++ (decimal warnings ++ codes ": ") }
+    ensures len { array_vec_len text.new ≤ array_vec_len text.old + 40 }
+{
     push_decimal(text, warnings);
     push_all(text, b": ");
 }
