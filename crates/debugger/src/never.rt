@@ -54,7 +54,7 @@ impl Desk {
         out: &mut W,
     ) -> Result<(), WriteFailed>
         requires position { self.now.position ≤ session.old.n }
-        requires within { IfSome away (λ t. t < session.old.n) }
+        requires within { IfSome away (λ t. t < self.now.position) }
         ensures writes { W.told ≡ true → Writes (W.written out.old) (W.written out.new)
             (away_text symbols.now session.old.scenario place.now self.now.position came away) result }
         ensures looked { HasLooked session.old session.new (103 * session.old.n) }
@@ -104,7 +104,7 @@ fn last_came<K: Keeper>(session: &mut Session<K>, place: &Linear, position: u64)
 fn last_away<K: Keeper>(session: &mut Session<K>, place: &Linear, position: u64) -> Option<u64>
     requires { position ≤ session.old.n }
     ensures last { result ≡ last_away session.old.scenario place.now position }
-    ensures within { IfSome result (λ t. t < session.old.n) }
+    ensures within { IfSome result (λ t. t < position) }
     ensures looked { HasLooked session.old session.new (2 * session.old.n) }
 {
     match session.seek_step_back(position, &Leading { place: *place }) {

@@ -7,7 +7,7 @@ use Rattle.debugger.proofs.NeverFound.{never_cost, never_is}
 use Rattle.debugger.proofs.desk.Desk.never.Goals as goal
 
 pub tell_away-requires-clause-within : goal.tell_away-requires-clause-within
-tell_away-requires-clause-within g c = rw c.last_away-away.ensures.looked.steps (c.later.ensures.within _ c.last_away-away.ensures.within)
+tell_away-requires-clause-within g c = c.later.ensures.within _ c.last_away-away.ensures.within
 
 pub returns-in_err-write_all-clause-writes : goal.returns-in_err-write_all-clause-writes
 returns-in_err-write_all-clause-writes g c = λ told.
