@@ -25,7 +25,8 @@ use Rattle.commands.specs.declared.command.Command.TheVariants.{Add}
 use Rattle.commands.specs.declared.command.ParsedLine.{ParsedLine}
 use Rattle.commands.specs.declared.command.ParsedLine.TheVariants.{Known}
 use Rattle.commands.specs.declared.extended.ExtendedLine.{ExtendedLine}
-use Rattle.commands.specs.declared.extended.ExtendedLine.TheVariants.{Plain, Common, ClearOne, On, Until, Over, Out, WhatIf, WhyInputs, WhyInterrupts}
+use Rattle.commands.specs.declared.extended.ExtendedLine.TheVariants.{Plain, Common, ClearOne, On, Until, Over, Out, WhatIf}
+use Rattle.commands.specs.declared.extended.ExtendedLine.TheVariants.{WhyInputs, WhyInterrupts}
 use Rattle.debugger.specs.Additions.{line_after, with_added}
 use Rattle.debugger.specs.Conversation.{Reading, to_asked, desk_after}
 use Rattle.debugger.specs.ExtendedReplies.{extended_reply, clears_one, next_stop, stops_on, first_at, goes_until, further}

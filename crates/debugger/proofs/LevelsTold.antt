@@ -13,13 +13,15 @@ unfolding served
 one_more scenario n u true here before within is =
     let told : last_outside scenario n
     ≡ Some u = sym (ap (λ (c : Bool). cond (not c) (Some n) (last_outside scenario n)) here) ∙ is in
-    ap (λ (c : Bool). served_after c (cond (run scenario n).inside (served scenario n) (entered_by (next_step scenario (run scenario n))))) within
+    ap (λ (c : Bool). served_after c (cond (run scenario n).inside (served scenario n)
+    (entered_by (next_step scenario (run scenario n))))) within
     ∙ ap (λ (c : Bool). cond c (served scenario n) (entered_by (next_step scenario (run scenario n)))) here
     ∙ before here told
 one_more scenario n u false here before within is =
     let last : Some n ≡ Some u = sym (ap (λ (c : Bool). cond (not c) (Some n) (last_outside scenario n)) here) ∙ is in
     let same : n ≡ u = cc in
-    ap (λ (c : Bool). served_after c (cond (run scenario n).inside (served scenario n) (entered_by (next_step scenario (run scenario n))))) within
+    ap (λ (c : Bool). served_after c (cond (run scenario n).inside (served scenario n)
+    (entered_by (next_step scenario (run scenario n))))) within
     ∙ ap (λ (c : Bool). cond c (served scenario n) (entered_by (next_step scenario (run scenario n)))) here
     ∙ ap (λ t. entered_by (next_step scenario (run scenario t))) same
 

@@ -73,7 +73,8 @@ interrupts_told scenario p xs = levels_from 0 0 (whole_chain scenario p xs).leve
 
 -- this is told, or memory runs out
 abbrev pub tells_inputs : SymbolTable → Subject → Desk → Reply
-tells_inputs symbols subject d = tried_by (addition_to_come d.additions) d (inputs_told symbols d.scenario d.position (subject_spots subject))
+tells_inputs symbols subject d = tried_by (addition_to_come d.additions) d
+    (inputs_told symbols d.scenario d.position (subject_spots subject))
 
 abbrev pub tells_interrupts : Subject → Desk → Reply
 tells_interrupts subject d = tried_by (addition_to_come d.additions) d (interrupts_told d.scenario d.position (subject_spots subject))
