@@ -72,13 +72,13 @@ const tests = new Editor($("tests"), "tests", { edited() { S.isOwn = true; keepS
 const machine = new Machine($("state"), { why, seek, astray: () => astray()?.step ?? null, toAstray, curve: chooseCell, context: (event, name) => openContext(event, event.target.closest("button"), wordMenu(name)), lineText: (line) => editor.lines[editor.shownLine(line) - 1] });
 const chain = new Why($("why"), {
   seek, starts, nameOf: (cell) => S.names.of(cell), isRope: (cell) => S.names.isRope(cell), more: () => why(S.chosen ?? "", (chain.asked?.count || 16) * 4),
-  point(t) { axis.pointed = t; axis.draw(); editor.mark({ pointed: chain.asked?.steps[t]?.line || 0 }); },
+  point(t) { axis.pointed = t; axis.draw(); editor.mark({ pointed: chain.asked?.steps[t]?.line || 0 }); }, way, hasWays: () => session.can("why", "step"), folded: () => chain.stand(S.picture.p),
 });
 const dsky = new Dsky($("tab-dsky"), { press, undo: undoKey });
 const panes = { steps: new Steps($("tab-steps"), { seek, why }), output: new Put($("tab-output"), { until: (cycles) => move("until", cycles), why }), memory: new Memory($("tab-memory"), { why, nameAt: (at) => S.names.byPlace.get(at) }), console: new Console($("tab-console"), { command }) };
 const badge = (name, text, isBad) => document.querySelector(`[data-tab="${name}"]`).replaceChildren(T.tabs[name], text ? el("i", { class: isBad ? "bad" : "good" }, text) : "");
 const compare = new Compare($("tab-compare"), {
-  seek, why, until: (cycles) => move("until", cycles), now: () => (S.isBuilt && session.n ? present() : null), reader: (run) => session.reader(run), progress: (at, of) => busy(of ? (100 * at) / of : null), counted: (text, isBad) => badge("compare", text, isBad),
+  seek, why, until: (cycles) => move("until", cycles), now: () => (S.isBuilt && session.n ? present() : null), reader: (run) => session.reader(run), cell: () => cell(), timeline: (run, from, to) => session.timeline(run, from, to, cell()), parting: (old, now, n) => session.parting(old, now, n), progress: (at, of) => busy(of ? (100 * at) / of : null), counted: (text, isBad) => badge("compare", text, isBad),
   keep() { compare.take({ ...present(), label: T.keptRun }, true); say(T.runKept); compare.show(S.tab === "compare"); },
   restore(run) {
     if (run.name !== S.name) return openDoc({ ...run, steps: run.n });
@@ -339,7 +339,7 @@ async function toNearest(text, isBack, none) {
 function wordMenu(name) {
   const word = machine.wordOf(name), channel = channelOf(name), stop = channel === null ? `word ${name} ${word}` : `chan ${octal(channel, 3)} ${word}`;
   return [
-    { name: T.word.why, note: "W", work: () => why(name) }, { name: T.word.curve, work: () => chooseCell(name) }, { name: T.word.back, work: () => toNearest(`change ${name}`, true, T.noChangeBack(name)) }, { name: T.word.on, work: () => toNearest(`change ${name}`, false, T.noChangeOn(name)) }, "-",
+    { name: T.word.why, note: "W", work: () => why(name) }, ...["inputs", "interrupts"].filter((it) => session.can("why", it)).map((it) => ({ name: T.word[it], work: () => told(T.word[it], `why ${name} ${it}`) })), { name: T.word.curve, work: () => chooseCell(name) }, { name: T.word.back, work: () => toNearest(`change ${name}`, true, T.noChangeBack(name)) }, { name: T.word.on, work: () => toNearest(`change ${name}`, false, T.noChangeOn(name)) }, "-",
     { name: T.word.stopChange, work: () => addStop(`change ${name}`) }, ...(word?.length === 5 ? [{ name: T.word.stopWord(decimalOf(word)), note: word, work: () => addStop(stop) }] : []),
   ];
 }
@@ -350,6 +350,7 @@ function lineMenu(line) {
 }
 // Why a line is never executed: the last before it that is, which always goes elsewhere. Or why not again: where it was executed last. And which interrupt waits.
 async function whyNever(row) {
+  const lines = session.has.has("never") ? await session.lines(`never ${row.place}`) : [];
   const later = await during(() => session.nearest(`at ${row.place}`, false));
   if (later !== null) { if (typeof later === "number") { await seek(later); say(T.comesLater); } return; }
   const { regs } = S.picture, isAsked = regs.ASKED && regs.ASKED !== "NONE", waits = isAsked && (regs.INH === "1" ? T.inhibited(regs.ASKED) : regs.INT === "1" ? T.served(regs.ASKED) : "");
@@ -359,7 +360,8 @@ async function whyNever(row) {
   const code = codeOf(editor.lines[editor.shownLine(before.line) - 1] || "").join(" "), text = mine ? T.neverAgain(code, row.line, group(mine[0])) : T.neverCome(code, before.line, group(counts.get(before.line)[0]), row.line);
   say(text, true);
   S.chosen = null;
-  chain.tell(mine ? T.neverAgainWhy(row.line) : T.neverWhy(row.line), [text, waits].filter(Boolean).join(" "), T.toLine(before.line), () => { document.body.dataset.room = "source"; showFile("source"); editor.pointAt(editor.shownLine(before.line)); });
+  const toLine = () => { document.body.dataset.room = "source"; showFile("source"); editor.pointAt(editor.shownLine(before.line)); };
+  chain.answer(mine ? T.neverAgainWhy(row.line) : T.neverWhy(row.line), el("p", {}, [text, waits].filter(Boolean).join(" ")), /^E\d|^$/.test(lines[0] || "") ? "" : el("pre", { class: "rope" }, lines.join("\n")), el("button", { class: "small", onclick: toLine }, T.toLine(before.line)));
   document.body.dataset.room = "why";
 }
 // The menu of what has the keyboard: a word, or the next line.
@@ -424,17 +426,54 @@ async function why(place, count = 16) {
   S.chosen = place; machine.chosen = place;
   const asked = await during(() => session.why(place, count, true));
   if (!asked || asked === "stopped") return;
-  chain.show({ ...asked, word: place ? machine.wordOf(place) : null });
-  chain.stand(S.picture.p);
+  // (of more of the same chain the same is open)
+  const { ways, opened } = chain.asked?.place === place && chain.asked.p === asked.p ? chain.asked : {};
+  showChain({ ...asked, ways, opened, word: place ? machine.wordOf(place) : null });
   machine.show(S.picture, S.old, S.names);
-  const links = new Map();
-  for (const it of Object.values(asked.steps)) if (it.line) links.set(it.line, it.t);
-  editor.mark({ links });
-  axis.chain = chain.links.map((it) => ({ t: it.t, text: it.text }));
-  axis.draw();
   if (place && place !== cell() && S.names.erasable.some((it) => it.name === place)) chooseCell(place);
   document.body.dataset.room = "why";
   if (document.documentElement.classList.contains("lecture")) document.body.classList.remove("unfolded");
+}
+function showChain(asked) {
+  chain.show(asked);
+  chain.stand(S.picture.p);
+  const links = new Map();
+  for (const it of Object.values(asked.steps)) if (it.line) links.set(it.line, it.t);
+  editor.mark({ links });
+  axis.chain = [...chain.links.map((it) => ({ t: it.t, text: it.text })), ...chain.ways.map((it) => ({ t: it.t, text: it.text, isWay: true }))];
+  axis.draw();
+}
+// The choice by which a step of the chain was reached becomes part of the chain; once more, and it goes.
+async function way(t) {
+  const { asked } = chain;
+  if (!asked || !session.can("why", "step")) return;
+  if (!asked.ways.delete(t)) {
+    const told = await during(() => session.way(t));
+    if (!told || told === "stopped" || chain.asked !== asked) return;
+    if (!/^WAY /.test(told.lines[0])) { say(T.noChoice); return; }
+    asked.ways.set(t, told.lines);
+    Object.assign(asked.steps, told.steps);
+  }
+  showChain(asked);
+}
+// The same of the step that has the keyboard; else of the position, by itself.
+async function choice() {
+  const at = document.activeElement.closest?.(".why .step-of")?.querySelector(".link").dataset.t;
+  if (at) { await way(Number(at)); return; }
+  if (!session.can("why", "step")) return;
+  S.chosen = null; machine.chosen = null;
+  const asked = await during(() => session.way(session.p + 1));
+  if (!asked || asked === "stopped") return;
+  showChain({ ...asked, word: null });
+  document.body.dataset.room = "why";
+}
+// What the program tells in lines.
+async function told(title, text) {
+  const lines = await during(() => session.lines(text));
+  if (!lines || lines === "stopped") return;
+  S.chosen = null; machine.chosen = null;
+  chain.answer(title, el("pre", { class: "rope" }, lines.join("\n").replace(/^E\d+ (COMMAND )?/, "")));
+  document.body.dataset.room = "why";
 }
 
 // The curve.
@@ -749,7 +788,7 @@ function shape() {
   document.body.classList.toggle("low", isLow);
   document.body.classList.toggle("roomed", isLow || width <= 70);
 }
-function scaled() { shape(); for (const it of [editor, feed, tests]) it.scaled(); axis.draw(); if (chain.asked) chain.show(chain.asked); if (S.tab === "steps") showSteps(); }
+function scaled() { shape(); for (const it of [editor, feed, tests]) it.scaled(); axis.draw(); if (chain.asked) chain.show(chain.asked); if (S.tab === "steps") showSteps(); if (S.tab === "compare") compare.show(true); }
 
 // What is clicked.
 
@@ -810,8 +849,8 @@ function bind() {
   for (const name of ["dragleave", "drop", "dragend"]) addEventListener(name, () => document.body.classList.remove("dropping"));
   addEventListener("drop", (event) => { event.preventDefault(); if (event.dataTransfer.files.length) openPicked(event.dataTransfer.files); });
   addEventListener("hashchange", openLink);
-  addEventListener("resize", () => { const was = isRoomed(); shape(); if (was !== isRoomed()) scaled(); });
-  bindKeys({ go, run, stop, pace, seek, showTab(name) { document.body.classList.add("unfolded"); showTab(name); }, tabs: TABS, closeMenus, isBusy: () => S.isMoving || S.isPacing, isBuilt: () => S.isBuilt, why: () => why(S.chosen || cell()), toggleBreak: () => toggleBreak(document.activeElement === editor.area ? editor.builtLine(editor.caretLine()) : S.picture?.where.line), edit: () => { showFile("source"); editor.enter(); }, find, menu: ownMenu, theme: () => setTheme(document.documentElement.dataset.theme === "dark" ? "light" : "dark"), lecture, save: saveSource, dsky: (event) => S.tab === "dsky" && dsky.key(event) });
+  addEventListener("resize", () => { const was = isRoomed(); shape(); if (was !== isRoomed()) scaled(); else if (S.tab === "compare") soon("lines", 150, () => compare.show(true)); });
+  bindKeys({ go, run, stop, pace, seek, showTab(name) { document.body.classList.add("unfolded"); showTab(name); }, tabs: TABS, closeMenus, isBusy: () => S.isMoving || S.isPacing, isBuilt: () => S.isBuilt, why: () => why(S.chosen || cell()), choice, toggleBreak: () => toggleBreak(document.activeElement === editor.area ? editor.builtLine(editor.caretLine()) : S.picture?.where.line), edit: () => { showFile("source"); editor.enter(); }, find, menu: ownMenu, theme: () => setTheme(document.documentElement.dataset.theme === "dark" ? "light" : "dark"), lecture, save: saveSource, dsky: (event) => S.tab === "dsky" && dsky.key(event) });
 }
 async function begin() {
   setTheme(setting.get("theme") || (matchMedia("(prefers-color-scheme: dark)").matches ? "dark" : "light"), false);

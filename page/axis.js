@@ -155,8 +155,13 @@ export class Axis {
     if (this.n === 0) { c.fillStyle = colour("soft"); c.textAlign = "left"; font(13); c.fillText(T.noSteps, left + 14 * u, height / 2, right - left - 20 * u); }
     c.fillStyle = colour("odd");
     for (const it of this.notes) { const x = this.x(it.step); if (x >= left - 2 && x <= right + 2) { c.beginPath(); c.moveTo(x, bottom - 13 * u); c.lineTo(x + 4 * u, bottom - 9 * u); c.lineTo(x, bottom - 5 * u); c.lineTo(x - 4 * u, bottom - 9 * u); c.closePath(); c.fill(); } }
-    c.fillStyle = colour("chain");
-    for (const it of this.chain) { const x = this.x(it.t); if (x >= left - 2 && x <= right + 2) { c.beginPath(); c.arc(x, bottom, 3.2 * u, 0, 7); c.fill(); } }
+    for (const it of this.chain) {
+      const x = this.x(it.t);
+      if (x < left - 2 || x > right + 2) continue;
+      c.fillStyle = colour(it.isWay ? "way" : "chain"); c.beginPath();
+      if (it.isWay) { c.moveTo(x, bottom - 5 * u); c.lineTo(x + 4.5 * u, bottom); c.lineTo(x, bottom + 5 * u); c.lineTo(x - 4.5 * u, bottom); c.closePath(); } else c.arc(x, bottom, 3.2 * u, 0, 7);
+      c.fill();
+    }
     if (this.pointed != null) {
       const x = this.x(this.pointed);
       c.strokeStyle = colour("chain"); c.lineWidth = 2; c.beginPath(); c.arc(x, bottom, 6 * u, 0, 7); c.stroke(); c.lineWidth = 1;

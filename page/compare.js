@@ -2,10 +2,13 @@
 import { el } from './dom.js';
 import { channelName, decimalOf, group, octal } from './words.js';
 import { Ended } from './session.js';
+import { drawBoth } from './both.js';
 import { T } from './texts.js';
 
 // The most steps that are read of two runs; how many stand before and after the one at which they part; the most words that are told.
 const MOST_READ = 500_000, BEFORE = 4, AFTER = 14, MOST_WORDS = 40;
+// The most steps whose lines of time are drawn: of longer runs those around where they part, or the last.
+const MOST_DRAWN = 60_000;
 const bits15 = (word) => word.slice(-5);
 
 // Which places of one program are those of another: of lines that stand in both.
@@ -33,7 +36,7 @@ function samenessOf(old, now) {
   const number = (text) => (/^[+-]?[0-7]{4,6}$/.test(text) ? text.replace(/^[+-]/, "").padStart(5, "0") : null), part = (a, b) => a === b || places.get(a) === b || (number(a) !== null && number(b) !== null && word(number(a), number(b)));
   const did = (a, b) => { if (a.text === b.text) return true; const [one, other] = [a, b].map((it) => it.text.split(" ")); return one.length === other.length && one.every((it, i) => part(it, other[i])); };
   return {
-    word, did,
+    word, did, isMoved: places.size > 0,
     is: (a, b) => did(a, b) && a.written.length === b.written.length && a.written.every(([cell, one], i) => old.names.of(cell) === now.names.of(b.written[i][0]) && word(one, b.written[i][1])) && a.output?.channel === b.output?.channel && a.output?.word === b.output?.word,
   };
 }
@@ -110,6 +113,10 @@ export class Compare {
       if (mine !== this.turn) return;
       const names = old.names.erasable.filter((it) => now.names.erasableNumber(it.name) !== null).map(({ name, at: place }) => [name, words[0][place], words[1][now.names.erasableNumber(name)]]).filter(([, a, b]) => a !== undefined && b !== undefined && !same.word(a, b));
       Object.assign(told, { steps: true, apart, near, least, isWhole: ends[0] === old.n && ends[1] === now.n, rows: apart ? paired(near[0], near[1], same.did) : [], same, names });
+      const all = Math.max(old.n, now.n), from = all <= MOST_DRAWN ? 0 : Math.max(0, Math.min(apart ? apart - MOST_DRAWN / 2 : all, least - MOST_DRAWN)), to = from + MOST_DRAWN;
+      // (words and places are compared by the program, so nothing may have moved)
+      const [lines, outside] = await Promise.all([Promise.all([old, now].map((it) => this.heard.timeline(it, from, to))), same.isMoved || !apart ? null : this.heard.parting(old, now, least)]);
+      if (mine === this.turn) Object.assign(told, { lines, outside });
     } catch (failed) { if (!(failed instanceof Ended)) throw failed; } finally { this.isReading = false; this.heard.progress(null); for (const it of sides) it.end(); }
   }
   draw(now) {
@@ -118,8 +125,18 @@ export class Compare {
     if (!old || !now) { root.replaceChildren(el("div", { class: "empty-tab" }, el("p", {}, T.noOther), keep || (heard.now() ? small(T.keepRun, () => heard.keep()) : ""))); return; }
     const head = el("div", { class: "tests-head" }, el("span", { class: "other" }, el("b", {}, old.isKept ? T.keptRun : old.label), ` ${old.name}, ${T.someSteps(old.n, group(old.n))}`), keep, small(T.openOther, () => heard.restore(old)), small(T.dropOther, () => { this.old = null; this.forget(); this.draw(now); }));
     const facts = el("div", { class: "facts" }, el("div", { class: "tests" }, this.wordRow(told.word), ...(told.steps ? [this.stepRow(told)] : [el("p", { class: "quiet" }, T.reading)])));
-    root.replaceChildren(head, el("div", { class: "both" }, facts, told.rows?.length ? this.pairs(told) : ""));
+    const beside = el("div", { class: "beside" }, told.rows?.length ? this.pairs(told) : "");
+    root.replaceChildren(head, el("div", { class: "both" }, facts, beside));
+    // (where one stands below the other they come after what is told)
+    const isBelow = beside.offsetTop > facts.offsetTop, room = isBelow ? facts.clientWidth : beside.clientWidth;
+    if (told.lines?.every(Boolean) && room) (isBelow ? facts : beside).insertBefore(this.lines(told, room), isBelow ? facts.children[1] || null : beside.firstChild);
     if (told.names?.length) facts.append(this.ends(told, now));
+  }
+  // Both lines of time, and where they part: the first step, the first outside of interrupts, the first other word.
+  lines({ lines, apart, near, outside, word }, width) {
+    const { old, heard } = this, names = [old.isKept ? T.keptRun : old.label, T.nowRun], at = near.map((list) => list.find((it) => it.t === apart)), put = word && (word.b || word.a), of = (one, i) => (one ? lines[i].outputs.findIndex(([cycles]) => cycles === one.cycles) : -1);
+    const flags = [apart && { kind: 0, cycles: (at[1] || at[0]).cycles, text: T.partFlag(group(apart)) }, outside && { kind: 1, cycles: (outside[1] || outside[0]).cycles, text: T.outsideFlag(group((outside[1] || outside[0]).t)) }, put && { kind: 2, cycles: put.cycles, text: T.putFlag(group(word.number)) }].filter(Boolean);
+    return drawBoth({ runs: lines.map((it, i) => ({ ...it, name: names[i], first: of(word?.[i ? "b" : "a"], i) })), flags, width, cell: heard.cell(), go: (cycles) => heard.until(cycles) });
   }
   row(isSame, head, text, work) {
     const inside = [el("b", { "aria-hidden": "true" }, isSame ? "=" : "\u2260"), el("span", {}, head), el("em", {}, text)];

@@ -22,6 +22,7 @@ export function svgOf(chain) {
     group.append(drawn("text", { x: Math.round((isRight ? at.right : at.left) - whole.left) + (part.matches(".v") ? 24 : part.matches(".s") ? -10 : 0), y: Math.round(at.top - whole.top + at.height / 2 + 4), fill: style.color, "text-anchor": isRight ? "end" : "start" }, [...part.childNodes].map((it) => it.textContent.trim()).filter(Boolean).join("  ")));
   }
   svg.append(group);
+  if (chain.ways.length) svg.append(drawn("text", { x: 14, y: Math.round(whole.height) + 44, fill: colour("way") }, `\u25c6 ${T.wayLegend}`));
   return `<?xml version="1.0" encoding="UTF-8"?>\n${new XMLSerializer().serializeToString(svg)}\n`;
 }
 

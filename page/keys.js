@@ -46,7 +46,7 @@ export function bindKeys(on) {
     if (on.dsky(event)) return event.preventDefault();
     if (event.target.closest?.('[role="tab"], [role="menu"], [role="separator"]') && /^Arrow|Home|End/.test(event.key)) return null;
     const name = event.key.length === 1 ? event.key.toLowerCase() : event.key;
-    const by = { ArrowLeft: event.shiftKey ? on.go.back10 : on.go.back, ArrowRight: event.shiftKey ? on.go.step10 : on.go.step, Home: on.go.first, End: on.go.last, p: on.go.prev, n: on.go.next, o: on.go.over, u: on.go.out, r: on.run, t: on.pace, w: on.why, b: on.toggleBreak, m: on.menu, ...(document.documentElement.classList.contains("lecture") && { PageUp: on.go.back, PageDown: on.go.step }) }, always = { "/": on.find, g: () => $("position").focus(), e: on.edit, d: on.theme, l: on.lecture, "?": showSheet };
+    const by = { ArrowLeft: event.shiftKey ? on.go.back10 : on.go.back, ArrowRight: event.shiftKey ? on.go.step10 : on.go.step, Home: on.go.first, End: on.go.last, p: on.go.prev, n: on.go.next, o: on.go.over, u: on.go.out, r: on.run, t: on.pace, w: on.why, c: on.choice, b: on.toggleBreak, m: on.menu, ...(document.documentElement.classList.contains("lecture") && { PageUp: on.go.back, PageDown: on.go.step }) }, always = { "/": on.find, g: () => $("position").focus(), e: on.edit, d: on.theme, l: on.lecture, "?": showSheet };
     if (/^[1-7]$/.test(name)) return take(() => on.showTab(on.tabs[Number(name) - 1]));
     if (always[name]) return take(always[name]);
     if (by[name] && on.isBuilt()) return take(by[name]);

@@ -63,6 +63,13 @@ function stepOf(line) {
   const told = /CH ([0-7]{3}) ([0-7]{5})/.exec(output || "");
   return { t: Number(t), cycles: Number(cycles), place, word, text: text.trim(), written: pairs, output: told ? { channel: parseInt(told[1], 8), word: told[2] } : null };
 }
+// After how many of these lines of a trace nothing but one and the same instruction is executed.
+function idleIn(lines) {
+  const of = (line) => line?.replace(/^\S+ +\S+ +/, ""), last = of(lines[lines.length - 1]);
+  let idle = lines.length;
+  if (/ TCF? .* -$/.test(last)) while (idle > 0 && of(lines[idle - 1]) === last) idle -= 1;
+  return idle;
+}
 // What `check` tells, fault by fault.
 function faultsOf(text) {
   const found = [];
@@ -190,7 +197,9 @@ export class Session {
       for (const it of this.rows) if (it.word && !this.at.has(it.place)) this.at.set(it.place, it);
       this.vectors = VECTORS.filter((it) => this.at.has(`02,${octalPlace(it)}`));
       this.main = new Line(this.engine, this.words, this.files);
-      this.has = new Set((await this.main.ask("help"))[0].match(/^(?:HELP )?[a-z]+/gm)?.map((it) => it.replace("HELP ", "")) || []);
+      const [help] = await this.main.ask("help");
+      this.forms = linesOf(help).map((it) => it.replace("HELP ", ""));
+      this.has = new Set(this.forms.map((it) => it.split(" ")[0]));
       return { faults, rows: this.rows, symbols: this.symbols };
     });
   }
@@ -436,22 +445,30 @@ export class Session {
     return where;
   }
   // How a word came about: what wrote it, what that read, and so on; with the place of each step, as far as these are found soon.
-  why(place, count, isIndexed) {
+  why(place, count, isIndexed) { return this.asking(place ? `why ${place} ${Math.min(count, 999)}${isIndexed ? " index" : ""}` : `why${isIndexed ? " index" : ""}`, { place, count }); }
+  // What decided that a step was come to: the last choice before it, and how what that was made by came about.
+  way(t) { return this.asking("why step", { count: 16, isWay: true }, t - 1); }
+  asking(text, more, at = this.p) {
     return this.alone(() => this.guarded(async () => {
       const line = await this.view(), { p } = this;
-      const [reply] = await line.ask(place ? `why ${place} ${Math.min(count, 999)}${isIndexed ? " index" : ""}` : `why${isIndexed ? " index" : ""}`);
-      const lines = linesOf(reply), wanted = new Set(), steps = {};
-      for (const it of lines) for (const [, t] of it.matchAll(/^BY (\d+)| IN STEP (\d+)$/g)) if (t) wanted.add(Number(t));
-      for (const it of lines) { const within = / IN STEP (\d+)$/.exec(it); if (within) wanted.add(Number(within[1])); }
-      const order = [...wanted].sort((a, b) => b - a), until = performance.now() + 1500;
-      for (let i = 0; i < order.length && performance.now() < until; i += 8) {
-        const some = order.slice(i, i + 8), replies = await line.ask(...some.flatMap((t) => [`goto ${t}`, "trace 1"]));
-        some.forEach((t, k) => { const told = replies[2 * k + 1]; if (/^\d/.test(told)) steps[t] = this.placed(stepOf(told.trimEnd())); });
-      }
+      const lines = linesOf((await line.ask(...(at === p ? [] : [`goto ${at}`]), text)).pop()), steps = await this.stepsOf(line, lines);
       await line.ask(`goto ${p}`);
-      return { lines, steps, p, place, count };
+      return { lines, steps, p, at, ...more };
     }));
   }
+  // The steps that the lines of a chain name, as far as they are found soon.
+  async stepsOf(line, lines) {
+    const wanted = new Set(), steps = {};
+    for (const it of lines) for (const [, t, within] of it.matchAll(/^BY (\d+)| IN STEP (\d+)$/g)) wanted.add(Number(t ?? within));
+    const order = [...wanted].sort((a, b) => b - a), until = performance.now() + 1500;
+    for (let i = 0; i < order.length && performance.now() < until; i += 8) {
+      const some = order.slice(i, i + 8), replies = await line.ask(...some.flatMap((t) => [`goto ${t}`, "trace 1"]));
+      some.forEach((t, k) => { const told = replies[2 * k + 1]; if (/^\d/.test(told)) steps[t] = this.placed(stepOf(told.trimEnd())); });
+    }
+    return steps;
+  }
+  // What the program tells of a command, as lines of its own.
+  lines(text) { return this.alone(() => this.guarded(async () => linesOf((await (await this.view()).ask(text))[0]))); }
   // The first steps of the run, each with what it read for each cell that it wrote.
   record(most) {
     return this.alone(() => this.guarded(async () => {
@@ -475,6 +492,8 @@ export class Session {
     }));
   }
   clearBreak(number) { return this.alone(() => this.guarded(async () => this.told((await this.main.ask(number ? `clear ${number}` : "clear"))[0]))); }
+  // Whether a command takes some word, as why takes step.
+  can(command, word) { return Boolean(this.forms?.some((it) => it.startsWith(`${command} takes `) && it.split(": ")[0].match(/[a-z]+/g).slice(2).includes(word))); }
   async told(reply) {
     this.breaks = linesOf((await this.main.ask("breaks"))[0]).filter((it) => it.startsWith("BREAK ")).map((it) => it.replace(/^BREAK \d+ /, ""));
     return /^E\d/.test(reply) ? reply.trim() : "";
@@ -616,11 +635,7 @@ export class Session {
         if (at >= 0) { const now = /^[0-7]+/.exec(line.slice(at + wanted.length))[0]; if (now !== word) { word = now; curve.push([step, word]); } }
       }
     }
-    // (from where on nothing but one and the same instruction is executed)
-    let idle = to;
-    const of = (line) => line?.replace(/^\S+ +\S+ +/, ""), last = of(lines[lines.length - 1]);
-    if (/ TCF? .* -$/.test(last)) while (idle > from && of(lines[idle - from - 1]) === last) idle -= 1;
-    return { kind: "exact", interrupts, inputs, outputs, curve, cycles, idle };
+    return { kind: "exact", interrupts, inputs, outputs, curve, cycles, idle: from + idleIn(lines) };
   }
   // Of as many steps each: how many interrupts, inputs and words put out, and the least, the greatest and the last word. Nothing is passed over.
   async summed(from, to, cell, buckets, isOver, told) {
@@ -718,6 +733,29 @@ export class Session {
   }
   // A run from its first step on, of this program or of another, read by a session of its own.
   reader({ source, feed, flight }) { return new Reader(new Line(this.engine, [...(flight ? ["--flight"] : []), SOURCE, FEED], { [SOURCE]: source, [FEED]: feed })); }
+  // What happens in a run, of this program or of another, after a step and up to another, by its cycles: interrupts, inputs, words put out, and the words of a cell; and where it idles.
+  async timeline({ source, feed, flight, n }, from, to, cell) {
+    const told = await this.engine.call(["trace", ...(flight ? ["--flight"] : []), SOURCE, FEED, String(Math.min(n, to)), "--from", String(from + 1)], { [SOURCE]: source, [FEED]: feed }, "");
+    if (told.status || !told.output) return null;
+    const lines = linesOf(told.output), wanted = ` ${this.traced(cell)}=`, cyclesOf = (line) => Number(line.split(/ {2,}/)[1]), ends = [lines[0], lines[lines.length - 1]].map(cyclesOf), found = { from: from ? ends[0] : 0, to: ends[1], interrupts: [], inputs: [], outputs: [], curve: [] };
+    let open = null;
+    for (const [i, line] of lines.entries()) {
+      // (a page draws between two parts of it)
+      if (i % 8000 === 7999) await new Promise((done) => { setTimeout(done); });
+      if (line.includes("  INPUT  ")) found.inputs.push([cyclesOf(line), line.split(/ {2,}/)[4]]);
+      else if (line.includes("  ENTRY  ")) { open = [cyclesOf(line), ends[1]]; found.interrupts.push(open); } else if (open && line.includes("  RESUME ")) { open[1] = cyclesOf(line); open = null; }
+      const put = / CH ([0-7]{3}) ([0-7]{5})$/.exec(line), at = line.indexOf(wanted);
+      if (put) found.outputs.push([cyclesOf(line), parseInt(put[1], 8), put[2]]);
+      if (at >= 0) found.curve.push([cyclesOf(line), /^[0-7]+/.exec(line.slice(at + wanted.length))[0]]);
+    }
+    return { ...found, idle: cyclesOf(lines[Math.min(idleIn(lines), lines.length - 1)]) };
+  }
+  // The first step outside of interrupts at which two runs part, in each, as the program tells it; null where there is none.
+  async parting(old, now, n) {
+    const told = await this.engine.call(["differ", ...(now.flight ? ["--flight"] : []), "old.agc", "old.feed", String(n), "--with", SOURCE, FEED], { "old.agc": old.source, "old.feed": old.feed, [SOURCE]: now.source, [FEED]: now.feed }, "");
+    const lines = linesOf(told.output), at = lines.indexOf("FIRST STEP");
+    return told.status || at < 0 ? null : lines.slice(at + 1, at + 3).map((it) => (/^\d/.test(it) ? stepOf(it) : null));
+  }
   // What the program tells of a rope image, and of two.
   async rope(command, image, other) {
     const told = await this.engine.call([command, "a.rope", ...(other ? ["b.rope"] : [])], { "a.rope": image, ...(other ? { "b.rope": other } : {}) }, "");

@@ -382,7 +382,84 @@ class Beside(Workbench):
         self.assertRegex(self.browser.text("#tab-compare .tests"), r"They part at step 3\d: .* before, CHAN 015 00007 .*now")
 
 
+    def test_both_runs_stand_over_one_scale_with_where_they_part(self):
+        browser = self.browser
+        self.example("lost_sum")
+        # (the pulse comes at 27, as step 16; without it TS SUM is step 17, and the word put out comes at 77: the manual has these)
+        browser.click('[data-file="feed"]')
+        self.js("workbench.feed.area.focus(); workbench.feed.area.select(); document.execCommand('insertText', false, ' ')")
+        self.wait("return document.getElementById('run').textContent.startsWith('Build')")
+        browser.click("#run")
+        self.wait("return workbench.session.n === 60 && workbench.session.feed.trim() === '' && !workbench.S.isMoving")
+        browser.click('[data-tab="compare"]')
+        self.wait("return document.querySelector('#tab-compare .lines')")
+        self.assertEqual(self.js("return [...document.querySelectorAll('#tab-compare .lines .t-ink')].map(it => it.textContent)"), ["they part: step 16", "outside of interrupts: step 17", "another word put out: word 1"])
+        self.assertEqual(self.js("return ['.f-in', '.f-out', 'rect.f-rupt', 'circle'].map(it => document.querySelectorAll(`#tab-compare .lines ${it}`).length)"), [1, 2, 1, 2])
+        # (the same cycle of both stands below one another)
+        self.assertEqual(self.js("const of = (i) => document.querySelectorAll('#tab-compare .lines .f-out')[i].getBoundingClientRect().left; return Math.sign(of(0) - of(1))"), 1)
+
+
+class Reached(Workbench):
+    """Choices and rounds of a loop in the chain."""
+
+    LINKS = "return [...document.querySelectorAll('.why .link[data-t]')].map(it => Number(it.dataset.t))"
+
+    def test_the_choice_that_led_to_a_step_becomes_part_of_its_chain(self):
+        browser = self.browser
+        browser.click('#words [data-cell="SUM"]')
+        self.wait("return document.querySelector('.why .ask-way')")
+        before = self.js(self.LINKS)
+        browser.click(".why .ask-way")
+        self.wait("return document.querySelector('.why .fork')")
+        # (as the manual has it: step 37 chose by COUNT, which steps 32 to 5 had made so)
+        self.assertRegex(browser.text(".why .fork"), r"37\s*CCS COUNT\s*to LOOP \+6\s*COUNT 1")
+        self.assertEqual(self.js(self.LINKS), sorted([*before, 37, 32, 30, 25, 23, 13, 11, 6, 5], reverse=True))
+        self.assertIn("a choice of the program", browser.text(".why .legend"))
+        self.assertEqual(self.js("return document.activeElement.classList.contains('ask-way') && document.activeElement.getAttribute('aria-pressed')"), "true")
+        browser.click(".why .fork")
+        self.wait("return workbench.session.p === 37 && document.querySelector('.why .fork').classList.contains('at')")
+        browser.click(".why .ask-way")
+        self.wait("return !document.querySelector('.why .fork')")
+        self.assertEqual(self.js(self.LINKS), before)
+        self.js("document.querySelector('.why .link[data-t=\"20\"]').focus()")
+        browser.keys("c")
+        self.wait("return document.querySelector('.why .fork')?.textContent.includes('INTERRUPT 3')")
+
+    def test_what_led_to_the_position_is_asked_by_a_key(self):
+        self.js("await workbench.seek(43); document.activeElement.blur()")
+        self.browser.keys("c")
+        self.wait("return document.querySelector('.why h2')?.textContent === 'Why did it come here, after step 43?'")
+        # (step 44 is CCS COUNT, of the round to which step 37 led)
+        self.assertEqual(self.js(self.LINKS)[0], 37)
+
+    def test_rounds_of_a_loop_are_one_row_that_a_click_opens(self):
+        browser = self.browser
+        self.take(ENDLESS, 60)
+        browser.click('#words [data-cell="COUNT"]')
+        self.wait("return document.querySelector('.why .rounds')")
+        # (a round is CA, AD, TS and TCF, and the pulse of the feed is step 16: so TS are steps 60 to 20 by four, and 15 to 3)
+        self.assertRegex(browser.text(".why .rounds"), r"rounds 2 to 5 of 3 links\s*56 to 42")
+        self.assertEqual(self.js(self.LINKS), [60, 59, 58, 40])
+        browser.click(".why .rounds")
+        self.wait("return document.querySelector('.why .rounds').getAttribute('aria-expanded') === 'true'")
+        self.assertEqual(self.js(self.LINKS), [60, 59, 58, 56, 55, 54, 52, 51, 50, 48, 47, 46, 44, 43, 42, 40])
+        browser.click(".why .more")
+        # (what is open stays so)
+        self.wait("return document.querySelector('.why .rounds')?.getAttribute('aria-expanded') === 'true' && workbench.chain.links.length === 45")
+        self.assertRegex(browser.text(".why .rounds"), r"rounds 2 to 15 of 3 links\s*56 to 1")
+
+
 class Asked(Workbench):
+    def test_what_the_program_cannot_tell_is_not_offered(self):
+        has = self.js("return ['inputs', 'interrupts'].map(it => workbench.session.can('why', it))")
+        self.js("document.querySelector('#words [data-cell=\"SUM\"]').dispatchEvent(new MouseEvent('contextmenu', {bubbles: true, cancelable: true}))")
+        self.wait("return !document.getElementById('context').hidden")
+        names = self.js("return [...document.querySelectorAll('#context b')].map(it => it.textContent)")
+        self.assertEqual([it in names for it in ("What does it come from?", "What did interrupts do to it?")], has)
+        if has[0]:
+            self.js("[...document.querySelectorAll('#context button')].find(it => it.textContent.startsWith('What does it')).click()")
+            self.wait("return document.querySelector('.why pre')?.textContent.includes('TIME3') || document.querySelector('.why pre')?.textContent.includes('ONE')")
+
     def test_a_name_a_place_and_a_text_are_found(self):
         browser = self.browser
         browser.keys("/")
@@ -946,9 +1023,9 @@ class Reach(Workbench):
                     self.assertEqual(self.js(RULES), [])
                 self.js("document.getElementById('dialog').close?.(); document.body.click()")
 
-    def test_those_who_see_some_colours_alike_tell_the_five_meanings_apart(self):
+    def test_those_who_see_some_colours_alike_tell_the_six_meanings_apart(self):
         for theme in ("light", "dark"):
-            told = self.js("document.documentElement.dataset.theme = arguments[0]; const style = getComputedStyle(document.documentElement); return ['now', 'rupt', 'in', 'out', 'chain'].map(it => style.getPropertyValue(`--${it}`).trim())", theme)
+            told = self.js("document.documentElement.dataset.theme = arguments[0]; const style = getComputedStyle(document.documentElement); return ['now', 'rupt', 'in', 'out', 'chain', 'way'].map(it => style.getPropertyValue(`--${it}`).trim())", theme)
             for eyes, matrix in EYES.items():
                 seen = [lab(it, matrix) for it in told]
                 least = min(math.dist(a, b) for a, b in itertools.combinations(seen, 2))
