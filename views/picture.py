@@ -85,6 +85,7 @@ class Picture:
         elif row.is_same and row.links[0]:
             parts += self.step(row.links[0], range(self.count), y)
         else:
+            self.common(row.links, y)
             for run, link in enumerate(row.links):
                 parts += [f'<g class="{RUNS[run]}">', *self.step(link, [run], y), "</g>"] if link else []
         parts += self.choice(row.way, y) if row.way else []
@@ -123,6 +124,18 @@ class Picture:
             self.last[run].update((place, (self.x(place, runs), y)) for place in cells)
             self.unwritten[run].difference_update(cells)
         return [self.word("box", place, word, runs, y) for place, word in link.written]
+
+    def common(self, links, y):
+        """What both of two links read, where neither run has written it, is told once."""
+        if not all(links) or len(links) < 2:
+            return
+        cells = {place for link in links for place, _ in link.written}
+        for place, word in links[0].read:
+            if (place, word) in links[1].read and not any(place in it for it in self.last) and place not in cells:
+                for run in range(self.count):
+                    self.last[run][place] = self.x(place, range(self.count)), y
+                    self.unwritten[run].add(place)
+                self.words.append(self.word("never", place, word, range(self.count), y))
 
     def fold(self, rounds, y):
         """Rounds of a loop: the last words that they write, of each run by itself where these are not the same."""
