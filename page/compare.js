@@ -127,13 +127,9 @@ export class Compare {
     const facts = el("div", { class: "facts" }, el("div", { class: "tests" }, this.wordRow(told.word), ...(told.steps ? [this.stepRow(told)] : [el("p", { class: "quiet" }, T.reading)])));
     const beside = el("div", { class: "beside" }, told.rows?.length ? this.pairs(told) : "");
     root.replaceChildren(head, el("div", { class: "both" }, facts, beside));
-<<<<<<< HEAD
-    if (told.lines?.every(Boolean) && beside.clientWidth) beside.prepend(this.lines(told, beside.clientWidth));
-=======
     // (where one stands below the other they come after what is told)
     const isBelow = beside.offsetTop > facts.offsetTop, room = isBelow ? facts.clientWidth : beside.clientWidth;
     if (told.lines?.every(Boolean) && room) (isBelow ? facts : beside).insertBefore(this.lines(told, room), isBelow ? facts.children[1] || null : beside.firstChild);
->>>>>>> a59bcd26168e895650d0b58721b4f389406d3dee
     if (told.names?.length) facts.append(this.ends(told, now));
   }
   // Both lines of time, and where they part: the first step, the first outside of interrupts, the first other word.
