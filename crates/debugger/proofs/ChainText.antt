@@ -1,5 +1,5 @@
 -- The text of a chain link by link.
-use Rattle.std.proofs.Common.{◌≡◌, ℕ, suc, ◌==◌, false, true, List, length}
+use Rattle.std.proofs.Common.{◌++◌, ◌≡◌, ℕ, suc, ◌==◌, false, true, List, length}
 use Rattle.std.proofs.Common.{Some, None, Option, refl, ap, ◌∙◌, arith, append_assoc}
 use Rattle.std.proofs.lemmas.Bool.Decides.{nat_tests}
 use Rattle.symbols.specs.Values.{SymbolTable}
