@@ -8,7 +8,7 @@ loop-number-init c = record { count = executed_none (figures_at c.args.tally.now
 
 pub loop-number-preserved : goal.loop-number-preserved
 loop-number-preserved c = record {
-  count = executed_more (figures_at c.args.tally.now) c.args.rope.now c.loop-number.number c.loop-number.count c.executed_at.result
-      c.loop-number.invariant.count c.executed_at.ensures.value;
-  few = omega (arith, c.loop-number.invariant.few, c.executed_at.ensures.few);
+  count = executed_more (figures_at c.args.tally.now) c.args.rope.now c.loop-number.number c.loop-number.count c.executed_at-count.result
+      c.loop-number.invariant.count c.executed_at-count.ensures.value;
+  few = omega (arith, c.loop-number.invariant.few, c.executed_at-count.ensures.few);
 }
