@@ -1,7 +1,11 @@
 -- What an engine that judges a run has read, and what it has written.
-use Rattle.std.proofs.Common.{◌≡◌, ℕ, List, Result, Ok, Err, refl, subst, inl, inr}
+use Rattle.std.proofs.Common.{◌≡◌, ℕ, List, [], ◌++◌, Result, Ok, Err, refl, subst, inl, inr}
 use Rattle.std.specs.Prelude.{IfOk}
 use Rattle.feed.specs.declared.entry.Entry.{Entry}
+use Rattle.json_text.specs.declared.notation.Notation.TheVariants.{Text}
+use Rattle.notes.specs.RunNotes.{notes_text}
+use Rattle.symbols.specs.Values.{SymbolTable}
+use Rattle.yayul.specs.Named.{Named}
 use Rattle.cpu.specs.State.{Scenario}
 use Rattle.expect.specs.Verdicts.{are_all_met, verdicts}
 use Rattle.expect.specs.Watches.{all_judged}
@@ -63,3 +67,8 @@ judges_all task subject scenario claims notes r executed settled before after re
     let all : settled ≡ all_judged (facts task subject claims scenario) scenario task.steps claims = rw same at is in
     let text : WritesText (verdicts (facts task subject claims scenario) 0 settled task.tests) before after result = rw same at writes in
     inr (rw all at text, rw all at met)
+
+-- notes that are written to nothing
+pub notes_are : (symbols : SymbolTable) (named given : Named) (scenario : Scenario) (n : ℕ) (old new : List ℕ) → old ≡ []
+    → named ≡ given → new ≡ old ++ notes_text Text symbols named scenario n → new ≡ notes_text Text symbols given scenario n
+notes_are symbols named given scenario n old new none same written = rw (none, same) at written

@@ -16,3 +16,4 @@ mod NotedSteps
 mod NotesWritten
 mod AccessCounts
 mod JudgedRuns
+mod ExecutedWords

@@ -10,11 +10,14 @@ use Rattle.cover.specs.Tallies.{Profile, profile_of}
 abbrev pub is_executed : Profile → Words → ℕ → ℕ → Bool
 is_executed profile words bank offset = stands words bank offset && nat_lt 0 (profile (Place (Fixed bank offset))).count
 
--- of the first so many places, bank by bank
+-- the same of the place of a number, bank by bank: 1 where it was, else 0
+abbrev pub executed_at : Profile → Words → ℕ → ℕ
+executed_at profile words k = if is_executed profile words (k / bank_words) (k % bank_words) then 1 else 0
+
+-- of the first so many places
 unfoldable pub executed_before : Profile → Words → ℕ → ℕ
 executed_before profile words zero = 0
-executed_before profile words (suc k) =
-    executed_before profile words k + (if is_executed profile words (k / bank_words) (k % bank_words) then 1 else 0)
+executed_before profile words (suc k) = executed_before profile words k + executed_at profile words k
 
 -- of all, in the first n steps of a run
 abbrev pub executed : Scenario → ℕ → ℕ

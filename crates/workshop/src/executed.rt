@@ -2,7 +2,7 @@
 
 ghost use Rattle.std.specs.Prelude.{◌≡◌, ◌≤◌, ◌<◌, ◌-◌, ◌^◌, ◌/◌, ◌%◌, IfOk};
 ghost use Rattle.cover.specs.Tallies.{figures_at};
-ghost use Rattle.workshop.specs.Executed.{executed, executed_before, is_executed};
+ghost use Rattle.workshop.specs.Executed.{executed, executed_at, executed_before, is_executed};
 
 use crate::fault::WorkshopFault;
 use cover::Tally;
@@ -38,11 +38,22 @@ fn executed_of(tally: &Tally, rope: &Rope) -> u64
 {
     let mut count = 0;
     for number in 0..FIXED_PLACES {
-        if is_executed(tally, rope, number) {
-            count += 1;
-        }
+        count += executed_at(tally, rope, number);
     }
     count
+}
+
+/// 1 for the place of a number whose word was executed, 0 for another.
+fn executed_at(tally: &Tally, rope: &Rope, number: u16) -> u64
+    requires { number < 0o110000 }
+    ensures value { result ≡ executed_at (figures_at tally.now) rope.now number }
+    ensures few { result ≤ 1 }
+{
+    if is_executed(tally, rope, number) {
+        1
+    } else {
+        0
+    }
 }
 
 /// Whether a word stands at the place of a number and was executed.

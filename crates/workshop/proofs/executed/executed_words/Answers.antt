@@ -1,4 +1,5 @@
-use Rattle.std.proofs.Common.{◌∙◌, ap}
+use Rattle.std.proofs.Common.{◌∙◌, ap, sym}
+use Rattle.cpu.proofs.RunLaws.{run-zero}
 use Rattle.rope.specs.Places.{fixed_places}
 use Rattle.cover.specs.Tallies.{profile_of}
 use Rattle.cover.proofs.Counting.{profile_is}
@@ -12,3 +13,6 @@ returns-clause-count c =
     (profile_is c.args.processor.now.scenario c.args.steps c.make_steps.new.self c.make_steps.ensures.counts)
     ∙ ap (λ w. executed_before (profile_of c.args.processor.now.scenario c.args.steps) w fixed_places)
     (c.rope.ensures ∙ ap (λ s. s.rope) c.make_steps.ensures.scenario)
+
+pub make_steps-requires-clause-state : goal.make_steps-requires-clause-state
+make_steps-requires-clause-state c = c.start-machine.ensures.start ∙ sym (run-zero c.args.processor.now.scenario)

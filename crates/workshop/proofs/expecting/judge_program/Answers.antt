@@ -7,4 +7,4 @@ pub returns : goal.returns
 returns g c =
     judges_by _ _ _ (c.in_ok-text.text.items, c.in_ok-text.program) c.in_ok-feed.feed _ _ _
     (ap (result_map_both (λ r. (r.0.items, r.1)) (λ fault. fault)) c.in_ok-text.was) c.in_ok-feed.was
-    c.read_source.ensures c.read_feed.ensures c.judge_source.ensures
+    c.read_source.ensures c.read_feed.ensures (rw c.deref.ensures.value at c.judge_source.ensures)
