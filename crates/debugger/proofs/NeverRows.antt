@@ -1,8 +1,9 @@
 -- What kept a program from a place, worked out by hand.
-use Rattle.std.proofs.Common.{◌≡◌, ℕ, true, false, List, [], ◌∷◌, ◌++◌, None, Some, map, refl}
+use Rattle.std.proofs.Common.{◌≡◌, ℕ, true, false, List, [], ◌∷◌, ◌++◌, None, Some, map, refl, ◌∙◌}
 use Rattle.std.specs.Prelude.{codes}
 use Rattle.std.specs.Fmt.{digits}
 use Rattle.std.specs.FinSet as set
+use Rattle.std.specs.Cmp.{nat_cmp_total}
 use Rattle.std.specs.Ordering.{nat_cmp}
 use Rattle.space.specs.declared.place.Linear.TheVariants.{Erasable, Fixed}
 use Rattle.cpu.specs.State.{State, start}
@@ -33,25 +34,31 @@ comings = refl
 abbrev asked : State
 asked = record start { requests = set.insert set.empty 3 }
 
+three_asked : set.contains (set.insert (set.empty {R = nat_cmp}) 3) 3 ≡ true
+three_asked = set.contains-insert nat_cmp_total set.empty 3 3
+
+ten_not_asked : set.contains (set.insert (set.empty {R = nat_cmp}) 3) 10 ≡ false
+ten_not_asked = set.contains-insert nat_cmp_total set.empty 3 10 ∙ set.contains-empty nat_cmp 10
+
 none_asked : kept_away None start (Some 3) ≡ codes "INTERRUPT 3 NOT ASKED\n"
 unfolding start digits
-none_asked = refl
+none_asked = rw (set.contains-empty nat_cmp 3) refl
 
 inhibited : kept_away None asked (Some 3) ++ kept_away (Some 6) asked (Some 3) ≡ codes "INTERRUPT 3 INHIBITED\nINTERRUPT 3 INHIBITED\n"
 unfolding start digits
-inhibited = refl
+inhibited = rw three_asked refl
 
 another : kept_away None asked (Some 10) ≡ codes "INTERRUPT 10 NOT ASKED\n"
 unfolding start digits
-another = refl
+another = rw ten_not_asked refl
 
 served : kept_away None (record asked { inside = true }) (Some 3) ≡ codes "INTERRUPT 3 INSIDE\n"
 unfolding start digits
-served = refl
+served = rw three_asked refl
 
 free : kept_away None (record asked { inhibit = false }) (Some 3) ≡ codes "INTERRUPT 3 ASKED\n"
 unfolding start digits
-free = refl
+free = rw three_asked refl
 
 -- no entry leads there: that no choice led away is told where no step came there
 nothing : kept_away None start None ++ kept_away (Some 6) start None ≡ codes "NO CHOICE LED AWAY\n"
