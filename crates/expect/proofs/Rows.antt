@@ -10,7 +10,8 @@ use Rattle.expect.specs.Kinds.{first_other}
 use Rattle.expect.specs.Lines.{claims_of, kinds_at, most_cycles, words_at}
 use Rattle.expect.specs.Statements.{before_return}
 use Rattle.expect.specs.Texts.{claims_after, heading_of, in_test}
-use Rattle.expect.specs.declared.claim.Claim.TheVariants.{Puts, PutsNoMore, Always, Never, AtEnd, At, Calls, CallsWithin, Notes, Check, Covered}
+use Rattle.expect.specs.declared.claim.Claim.TheVariants.{Puts, PutsNoMore, Always, Never, AtEnd, At, Calls, CallsWithin}
+use Rattle.expect.specs.declared.claim.Claim.TheVariants.{Notes, Check, Covered}
 use Rattle.expect.specs.declared.claim.Relation.TheVariants.{Same, Other, Less, Greater, AtMost, AtLeast}
 use Rattle.expect.specs.declared.refusal.Asked.TheVariants as asked
 use Rattle.space.specs.declared.place.Linear.TheVariants.{Fixed}

@@ -15,7 +15,8 @@ use Rattle.cpu.specs.Profiles.{account_of}
 use Rattle.cpu.specs.Run.{run, out}
 use Rattle.cpu.specs.State.{State, Scenario}
 use Rattle.expect.specs.declared.claim.Claim.{Claim}
-use Rattle.expect.specs.declared.claim.Claim.TheVariants.{Puts, PutsNoMore, Always, Never, AtEnd, At, Calls, CallsWithin, Notes, Check, Covered}
+use Rattle.expect.specs.declared.claim.Claim.TheVariants.{Puts, PutsNoMore, Always, Never, AtEnd, At, Calls, CallsWithin}
+use Rattle.expect.specs.declared.claim.Claim.TheVariants.{Notes, Check, Covered}
 use Rattle.expect.specs.declared.claim.Condition.{Condition}
 use Rattle.expect.specs.declared.claim.Relation.{Relation}
 use Rattle.expect.specs.declared.claim.Relation.TheVariants.{Same, Other, Less, Greater, AtMost, AtLeast}

@@ -9,7 +9,8 @@ use Rattle.commands.specs.NamedPlaces.{begins_with_plus, named_place}
 use Rattle.expect.specs.Fields.{moved_in, relation_in, value_in}
 use Rattle.expect.specs.Kinds.{kind_in, with_kind}
 use Rattle.expect.specs.declared.claim.Claim.{Claim}
-use Rattle.expect.specs.declared.claim.Claim.TheVariants.{Puts, PutsNoMore, Always, Never, AtEnd, At, Calls, CallsWithin, Notes, Check, Covered}
+use Rattle.expect.specs.declared.claim.Claim.TheVariants.{Puts, PutsNoMore, Always, Never, AtEnd, At, Calls, CallsWithin}
+use Rattle.expect.specs.declared.claim.Claim.TheVariants.{Notes, Check, Covered}
 use Rattle.expect.specs.declared.claim.Condition.{Condition}
 use Rattle.expect.specs.declared.claim.Relation.{Relation}
 use Rattle.expect.specs.declared.refusal.Asked.{Asked}

@@ -14,8 +14,9 @@ use crate::watch::Watch;
 use cpu::{Machine, Output, Processor, make_step};
 use std::alloc::{AllocError, Global};
 
-/// Makes some steps of a run from its start, where the machine stands, each once, and tells of each claim whether they bear it out, and if not
-/// where it fails first. Of notes and of what `check` tells `settle` judges afterwards.
+/// Makes some steps of a run from its start, where the machine stands, each once, and tells of each claim whether they
+/// bear it out, and if not where it fails first. Of notes, of what `check` tells and of words executed `settle` judges
+/// afterwards.
 ///
 /// Memory is taken once, before the first step; where it is refused no step is made.
 pub fn judge(

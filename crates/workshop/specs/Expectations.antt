@@ -49,7 +49,8 @@ noted claims symbols named scenario n = if ask_for_notes claims then notes_text 
 
 -- what `check` tells of a source of a name, and how many errors and warnings that are
 abbrev pub checked : List ℕ → List ℕ → List ℕ × Tally
-checked name source = (report Text Standard name source (told Standard source) (warnings Standard false source), tally Standard false source)
+checked name source =
+    (report Text Standard name source (told Standard source) (warnings Standard false source), tally Standard false source)
 
 -- the same where some claim asks for it
 abbrev pub checked_for : List Stated → List ℕ → List ℕ → List ℕ × Tally
