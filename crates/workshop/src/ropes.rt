@@ -299,8 +299,8 @@ pub fn parity_engine<R: Read, W: Write>(
 }
 
 /// Reads the bytes of a rope image to their end, and writes what is damaged in it, bank by bank: what the words, their
-/// parities and the sums tell together; or in which ways it stands otherwise. Then it writes of how many banks or ways it
-/// told, the parity of the whole image counted as one, and answers that.
+/// parities and the sums tell together; or in which ways it stands otherwise. Then it writes of how many banks or ways
+/// it told, the parity of the whole image counted as one, and answers that.
 ///
 /// An image that is short or long is refused, and then nothing is written.
 pub fn damages_engine<R: Read, W: Write>(
