@@ -1,11 +1,12 @@
 """Sessions of `agcws debug`, through pipes and at a terminal."""
 import os
 import random
+import re
 import subprocess
 import time
 import unittest
 
-from common import EXAMPLES, PROGRAM, Case, agcws, read, write
+from common import EXAMPLES, PROGRAM, Case, agcws, read, text_of, write
 from session import WAIT, Session, asked
 from terminal import CTRL_C, Terminal
 
@@ -155,6 +156,16 @@ class Debug(Case):
         ran = subprocess.run([PROGRAM, "debug", source, feed], input=b"".join(typed.splitlines(True)[:-1]) + b"run 20\n", capture_output=True, timeout=WAIT)
         with self.subTest("a session made anew"):
             self.assertAnswer((ran.returncode, ran.stdout, ran.stderr), 0, b"BREAK 1\nHIT 1\nAT 2 4 4002\n7 CH 010 00012\nHIT 1\nAT 7 12 4002\n")
+
+    def test_each_command_is_told(self):
+        """Each command that `help` tells of stands in the help of `agcws debug`, and in a table of section 7 of the manual."""
+        names = re.findall(r"^HELP (\w+) takes", replies_of(f"{EXAMPLES}/lost_sum.agc", f"{EXAMPLES}/empty.feed", ["help"])[0], re.M)
+        section = re.search(r"^## 7\. .*?(?=^## 8\. )", text_of("docs/MANUAL.md"), re.M | re.S)[0]
+        for it in [*names, "frob"]:
+            with self.subTest(f"{it} in tests/help/debug.txt"):
+                self.assertEqual(bool(re.search(rf"^  (?:[a-z]+, )?{it}\b", text_of("tests/help/debug.txt"), re.M)), it != "frob")
+            with self.subTest(f"{it} in the manual"):
+                self.assertEqual(bool(re.search(rf"^\|.*`{it}[` ]", section, re.M)), it != "frob")
 
     def test_likely_mistakes(self):
         """What section 8 of the manual says of an operand that is an address, and of an interrupt that enters where no handler stands."""
