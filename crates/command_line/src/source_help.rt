@@ -115,7 +115,7 @@ pub const EXPECT_HELP: &str = "Files:
         NOTES NONE                      run --notes tells nothing
         NOTES KIND ..                   nothing but of these kinds, as SKIP
         CHECK                           check tells no error and no warning
-        COVERED N                       N words of the program are executed, or more
+        COVERED N                       N words or more are executed
         Besides = there are <> < > <= >=. A PLACE is erasable: a symbol, a
         register, a counter, or an octal number; +n after it, as after LABEL,
         is n words on, in octal. A WORD is octal, or decimal where D ends it,
