@@ -314,7 +314,8 @@ fn asked_text(asked: Asked) -> &'static str {
         Asked::Source => "SOURCE and a path are asked for",
         Asked::Steps => "STEPS and a number of steps, at most 1099511627774, are asked for",
         Asked::Test => "TEST and a name are asked for, before what is claimed",
-        Asked::Claim => "TEST, CHANNEL, AT, ALWAYS, NEVER, CALLS, NOTES, CHECK or COVERED is asked for",
+        Asked::Claim =>
+            "TEST, CHANNEL, AT, ALWAYS, NEVER, CALLS, NOTES, CHECK or COVERED is asked for",
         Asked::Name => "the name of the test is asked for",
         Asked::Channel => "a channel, 0 to 777 in octal, is asked for",
         Asked::Put => "a word or NOTHING is asked for; octal, or decimal where D ends it",
