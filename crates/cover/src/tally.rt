@@ -77,6 +77,7 @@ impl Tally {
     }
 
     /// Makes more steps of a run of which some are done, and counts each. What they put out is passed over.
+    #[inline(never)]
     pub fn make_steps(
         &mut self,
         processor: &mut Processor,
