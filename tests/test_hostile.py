@@ -123,7 +123,9 @@ MEANINGS = {
 
 
 def refused(words, path, error):
-    """What a call says of a file that is refused: `check`, `compare`, `align` and `find` name it."""
+    """What a call says of a file that is refused: `check`, `compare`, `align` and `find` name it, and `differ` those of the other run."""
+    if words[0] == "differ" and path in words[-2:] and path not in words[1:3]:
+        return b"%s or %s: %s\n" % (words[-2].encode(), words[-1].encode(), error)
     return b"%s: error %s: %s\n" % (path.encode(), error, MEANINGS[error]) if words[0] in ("check", "compare", "align", "find") and "--symbols" not in words else b"agcws: %s\n" % error
 
 
@@ -153,6 +155,8 @@ REFUSED = re.compile(rb"agcws: E(\d+)(?: LINE [1-9]\d*)?\n")
 REFUSED_COMPARED = re.compile(rb"(?:agcws: E(\d+) LINE [1-9]\d*|[^\n]+/(?:case|twin): error E(\d+): [^\n]+)\n")
 REFUSED_WHERE = re.compile(rb"agcws: E(?:(5)\nagcws: BYTE \d*[02468] [0-4][0-7],[2-7][0-7]{3}\n|([34])\n)")
 REFUSED_TRIED = re.compile(rb"(?:agcws|[^\n]+/case): E(\d+)(?: LINE [1-9]\d*)?\n")
+# (of the other run `differ` names the file, or both where it does not know which)
+REFUSED_BESIDE = re.compile(rb"(?:agcws|[^\n]+/(?:case|twin)|[^\n]+ or [^\n]+): E(\d+)(?: LINE [1-9]\d*)?\n")
 NO_SERIES = b"error: a line of TRIALS begins with EVERY: each input that is tried has a line of its own\n"
 NO_ROOM = re.compile(rb"agcws: bank [0-4][0-7] has no room for check words: they take 3 places after its last word\n")
 
@@ -198,7 +202,7 @@ class Worker:
     def why(self, kind, words, status, out, err):
         has_made = os.path.exists(self.made)
         if status == 1 and words[0] in ("compare", "parity", "damages") and not err:
-            return "" if re.search(rb"(^|\n)COUNT [1-9]\d*\n$", out) else "no difference is told"
+            return "" if re.search(rb"(^|\n)COUNT [1-9]\d*\n(UNCERTAIN .*\n(FORM .*\n)*)?$", out) else "no difference is told"
         if status == 0:
             is_made = has_made and os.path.getsize(self.made) == IMAGE_BYTES if "made" in words else not has_made
             is_silent = re.fullmatch(rb"END STEPS \d+ CYCLES \d+ OUTPUTS \d+ Z [0-7]{4}\n", err) if "--end" in words else not err
@@ -207,7 +211,7 @@ class Worker:
             return "" if not out and not has_made else "refused, with some output"
         if words[0] == "whatif" and (status, err) == (2, NO_SERIES):
             return "refused, with some output" if out else ""
-        forms = {"compare": REFUSED_COMPARED, "whatif": REFUSED_TRIED}
+        forms = {"compare": REFUSED_COMPARED, "whatif": REFUSED_TRIED, "differ": REFUSED_BESIDE}
         number = (REFUSED_WHERE if "--where" in words else forms.get(words[0], REFUSED)).fullmatch(err)
         refusals = cases.TABLE_REFUSALS if "--symbols" in words and kind != "image" else REFUSALS[kind]
         if status != 1 or not number or int(number[number.lastindex]) not in refusals:
@@ -658,7 +662,7 @@ class Devices(HostileCase):
     def few_of_the_system(self, writing):
         """No memory is to be had beyond what the program starts with; and no second file."""
         for words in writing:
-            ran = limited(words, resource.RLIMIT_DATA, 6 << 15)
+            ran = limited(words, resource.RLIMIT_DATA, 52 << 12)
             with self.subTest(f"devices: {name_of(words)}, with little memory"):
                 self.assertEqual(ran, (3, b"", b"agcws: E2\n"))
             paths = [it for it in words if "/" in it]
