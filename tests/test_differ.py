@@ -35,11 +35,8 @@ BUMP    INCR    KEYS
         RETURN
 ONE     OCT     1
 """
-# Waits for a key, in rounds of CCS and TCF, and puts out a word then.
-WAITS = """\
-ARUPT   EQUALS  10
-        SETLOC  100
-FLAG    ERASE
+# An interrupt of a key sets FLAG; outside of it the program begins.
+KEY_SETS_FLAG = """\
         SETLOC  4000
         TCF     START
         SETLOC  4024
@@ -49,7 +46,13 @@ FLAG    ERASE
         TCF     REST
         SETLOC  4100
 START   RELINT
-WAIT    CCS     FLAG
+"""
+# Waits for a key, in rounds of CCS and TCF, and puts out a word then.
+WAITS = f"""\
+ARUPT   EQUALS  10
+        SETLOC  100
+FLAG    ERASE
+{KEY_SETS_FLAG}WAIT    CCS     FLAG
         TCF     GO
         TCF     WAIT
 GO      CA      ONE
@@ -62,21 +65,12 @@ ONE     OCT     1
 """
 # Tests what its interrupt sets: CCS leaves 0 in A of 1 and of 0. TCF NEXT is step 3, at cycle 3. A key then is step 4, its interrupt steps 5 to 11, of which 8 is
 # TS FLAG, so that CCS is step 12 and TCF SET 13; without it CCS is step 4, and TCF CLEAR 5.
-TESTS = """\
+TESTS = f"""\
 ARUPT   EQUALS  10
         SETLOC  100
 FLAG    ERASE
 KEPT    ERASE
-        SETLOC  4000
-        TCF     START
-        SETLOC  4024
-        DXCH    ARUPT
-        CA      ONE
-        TS      FLAG
-        TCF     REST
-        SETLOC  4100
-START   RELINT
-        TCF     NEXT
+{KEY_SETS_FLAG}        TCF     NEXT
 NEXT    CCS     FLAG
         TCF     SET
         TCF     CLEAR
