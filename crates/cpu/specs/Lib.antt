@@ -5,6 +5,8 @@ pub mod Representation
 pub mod Effects
 pub mod Inputs
 pub mod Next
+pub mod Restarts
+pub mod InputsLeft
 pub mod Texts
 pub mod Run
 pub mod Silent

@@ -22,6 +22,7 @@ mod operand;
 mod output;
 mod processor;
 mod reads;
+mod restart;
 mod spot;
 mod stepping;
 mod targets;

@@ -8,7 +8,7 @@ ghost use Rattle.cpu.specs.Representation.{HasRoom};
 ghost use Rattle.cpu.specs.Effects.{change, changes, next_address, place_in, erasable_in, value_at, operand, edits};
 ghost use Rattle.cpu.specs.Effects.Change.{AtPlace, OnChannel, Inhibits, Serves, WaitsWithSum, WaitsWithWord};
 ghost use Rattle.cpu.specs.Next.{least_request};
-ghost use Rattle.std.specs.FinSet.{contains, insert, remove};
+ghost use Rattle.std.specs.FinSet.{contains, empty, insert, remove};
 ghost use Rattle.words.specs.Numbers.{correct};
 ghost use Rattle.feed.specs.CountsTaken.{counts_after};
 
@@ -304,6 +304,16 @@ impl Machine {
         ensures { self.new ≡ record self.old { requests = remove self.old.requests request } }
     {
         self.requests[request.index()] = false;
+        self.asks = true;
+        self.asks = self.least_request().is_some();
+    }
+
+    /// No interrupt is asked for any more.
+    #[tactic(auto, unfolding(crate::specs::Representation::requests_of))]
+    pub(crate) fn withdraw_all(&mut self)
+        ensures { self.new ≡ record self.old { requests = empty } }
+    {
+        self.requests = [false; INTERRUPTS];
         self.asks = true;
         self.asks = self.least_request().is_some();
     }

@@ -6,6 +6,7 @@ ghost use Rattle.feed.specs.Added.{AddsLast, TakenBelow};
 ghost use Rattle.feed.specs.CountsTaken.{is_from};
 ghost use Rattle.feed.specs.Merged.{due, plain_entry};
 ghost use Rattle.cpu.specs.State.{State, FitsRun};
+ghost use Rattle.cpu.specs.InputsLeft.{has_input_left};
 ghost use Rattle.cpu.specs.Additions.{AddsInput, AreAlikeUpTo, plain_inputs, most_plain_inputs};
 ghost use Rattle.cpu.specs.Run.{out, run};
 ghost use Rattle.cpu.specs.Silent.{IsSilent};
@@ -458,6 +459,16 @@ impl Processor {
     {
         self.feed
             .peek(machine.taken(), machine.counts(), machine.cycles())
+    }
+
+    /// Whether an input that the machine has not taken yet is still to come.
+    pub fn has_input_left(&self, machine: &Machine) -> bool
+        ensures { FitsRun self.now.scenario machine.now
+            → result ≡ has_input_left self.now.scenario machine.now }
+    {
+        self.feed
+            .peek(machine.taken(), machine.counts(), MOST_CYCLES)
+            .is_some()
     }
 
     /// The word that a machine executes next, unless an interrupt is entered, and whether extracode is in force for it.
