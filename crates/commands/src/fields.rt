@@ -13,22 +13,22 @@ const COUNT_DIGITS: usize = 15;
 /// The most digits of places, channels and words.
 pub(crate) const OCTAL_DIGITS: usize = 5;
 
-// Whether a field is a word.
-pub(crate) fn is_word(field: &[u8], word: &str) -> bool
+/// Whether a field is a word.
+pub fn is_word(field: &[u8], word: &str) -> bool
     ensures { result ≡ same_name field.now word.now }
 {
     field == word.as_bytes()
 }
 
-// A step, or a number of steps.
-pub(crate) fn count_in(field: &[u8]) -> Option<u64>
+/// A step, or a number of steps.
+pub fn count_in(field: &[u8]) -> Option<u64>
     ensures { result ≡ count_in field.now }
 {
     decimal(field, COUNT_DIGITS)
 }
 
-// A channel.
-pub(crate) fn channel_in(field: &[u8]) -> Option<Chan>
+/// A channel.
+pub fn channel_in(field: &[u8]) -> Option<Chan>
     ensures { result ≡ channel_in field.now }
 {
     match octal(field, OCTAL_DIGITS) {

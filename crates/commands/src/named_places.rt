@@ -221,8 +221,8 @@ fn words_on(field: &[u8]) -> Option<u64>
     octal(&field[1..], OCTAL_DIGITS)
 }
 
-// The place so many words on, in the same bank.
-fn moved_on(words: u64, place: Linear) -> Option<Linear>
+/// The place so many words on, in the same bank.
+pub fn moved_on(words: u64, place: Linear) -> Option<Linear>
     ensures { result ≡ moved_on words place }
 {
     match place {

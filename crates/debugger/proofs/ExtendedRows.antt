@@ -41,7 +41,8 @@ use Rattle.yayul.specs.PlaceRows.{no_source}
 use Rattle.yayul.specs.Program.{Source}
 use Rattle.yayul.specs.declared.language.Language.TheVariants.{Standard}
 use Rattle.trace.specs.TraceLines.{symbol_at}
-use Rattle.debugger.specs.Standing.{nearest_symbol, nearest_text, place_line, where_line, found_text, words_text, rows_text}
+use Rattle.debugger.specs.Standing.{nearest_text, place_line, where_line, found_text, words_text, rows_text}
+use Rattle.names.specs.NamedLines.{nearest_name}
 use Rattle.debugger.specs.Rows.{based_text, list_row, plain_row, numbers_text as numbers_row, row_text}
 use Rattle.debugger.specs.declared.rows.RowKind.TheVariants.{Instruction, Number}
 use Rattle.commands.specs.Commands.{forms}
@@ -254,9 +255,9 @@ table =
     (codes "FIVE", Fixed 2 5) ∷ (codes "SIX", Fixed 2 6) ∷ (codes "ALSO", Fixed 2 5) ∷ (codes "SUM", Erasable 0o101)
     ∷ (codes "LOW", Num 0o4007) ∷ []
 
-near : nearest_text (nearest_symbol table (linear.Fixed 2 4)) ++ nearest_text (nearest_symbol table (linear.Fixed 2 5))
-    ++ nearest_text (nearest_symbol table (linear.Fixed 2 0o20)) ++ nearest_text (nearest_symbol table (linear.Fixed 3 6))
-    ++ nearest_text (nearest_symbol table (linear.Erasable 0o103))
+near : nearest_text (nearest_name table (linear.Fixed 2 4)) ++ nearest_text (nearest_name table (linear.Fixed 2 5))
+    ++ nearest_text (nearest_name table (linear.Fixed 2 0o20)) ++ nearest_text (nearest_name table (linear.Fixed 3 6))
+    ++ nearest_text (nearest_name table (linear.Erasable 0o103))
     ≡ codes " FIVE SIX +12 SUM +2"
 unfolding symbol_at octal_text
 near = refl

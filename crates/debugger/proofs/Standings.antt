@@ -19,7 +19,8 @@ use Rattle.debugger.specs.declared.rows.RowKind.{RowKind}
 use Rattle.debugger.specs.History.{Sight, History, history, sight}
 use Rattle.debugger.specs.Rows.{list_row, plain_row, row_text}
 use Rattle.debugger.specs.Replies.{line, memory_word}
-use Rattle.debugger.specs.Standing.{place_before, nearest, begins_with, found_line, found_from, place_after, word_there, words_from}
+use Rattle.debugger.specs.Standing.{begins_with, found_line, found_from, place_after, word_there, words_from}
+use Rattle.names.specs.NamedLines.{place_before, nearest}
 
 -- one place further before
 nearest_more : (symbols : SymbolTable) (place : Linear) (d more : ℕ) → 0 < more

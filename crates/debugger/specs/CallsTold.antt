@@ -6,12 +6,13 @@ use Rattle.yayul.specs.Listing.{place_text}
 use Rattle.cpu.specs.State.{Scenario}
 use Rattle.debugger.specs.Replies.{line}
 use Rattle.debugger.specs.Routines.{routines, routines_inside}
-use Rattle.debugger.specs.Standing.{nearest_symbol, nearest_text, inside_text}
+use Rattle.debugger.specs.Standing.{nearest_text, inside_text}
+use Rattle.names.specs.NamedLines.{nearest_name}
 use Rattle.debugger.specs.declared.routines.Call.{Call}
 
 -- a place as a listing has it, and by a symbol
 abbrev pub spot_text : SymbolTable → Linear → List ℕ
-spot_text symbols place = place_text place ++ nearest_text (nearest_symbol symbols place)
+spot_text symbols place = place_text place ++ nearest_text (nearest_name symbols place)
 
 -- the line of a call: its step, where it stands, and the routine
 abbrev pub call_line : SymbolTable → Call → List ℕ

@@ -15,7 +15,8 @@ use Rattle.yayul.specs.Program.{Source}
 use Rattle.cpu.specs.State.{State, Scenario}
 use Rattle.cpu.specs.Next.{instruction_word}
 use Rattle.cpu.specs.Run.{run}
-use Rattle.trace.specs.TraceLines.{symbol_at, short_octal, word_text}
+use Rattle.trace.specs.TraceLines.{symbol_at, word_text}
+use Rattle.names.specs.NamedLines.{distance_text, nearest_name}
 use Rattle.debugger.specs.declared.rows.RowKind.{RowKind}
 use Rattle.debugger.specs.History.{Sight, History, history, sight}
 use Rattle.debugger.specs.Replies.{line, memory_word}
@@ -23,36 +24,14 @@ use Rattle.debugger.specs.Rows.{list_row, row_text}
 use Rattle.calls.specs.Waiting.{standing_place}
 use Rattle.debugger.specs.Whys.{kind_part, last_outside}
 
--- how many places stand before a place, in its bank or in erasable memory; and the place so many before it
-abbrev pub places_before : Linear → ℕ
-places_before (Erasable p) = p
-places_before (Fixed bank offset) = offset
-
-abbrev pub place_before : Linear → ℕ → Linear
-place_before (Erasable p) d = Erasable (p - d)
-place_before (Fixed bank offset) d = Fixed bank (offset - d)
-
--- the first symbol that stands nearest before a place, sought from so many places before on; and how far before it stands
-abbrev pub nearest : SymbolTable → Linear → ℕ → ℕ → Option (List ℕ × ℕ)
-nearest symbols place d zero = None
-nearest symbols place d (suc more) = option_or (option_map (λ name. (name, d)) (symbol_at symbols (place_before place d)))
-    (nearest symbols place (d + 1) more)
-
-abbrev pub nearest_symbol : SymbolTable → Linear → Option (List ℕ × ℕ)
-nearest_symbol symbols place = nearest symbols place 0 (places_before place + 1)
-
--- how far before, as it is added to a symbol
-abbrev pub distance_text : ℕ → List ℕ
-distance_text zero = []
-distance_text (suc d) = codes " +" ++ short_octal (suc d)
-
+-- the symbol that stands nearest before a place, and how far before, as it is added to a line
 abbrev pub nearest_text : Option (List ℕ × ℕ) → List ℕ
 nearest_text None = []
 nearest_text (Some symbol) = codes " " ++ symbol.0 ++ distance_text symbol.1
 
 -- the line of a place: as a listing has it, and by a symbol
 abbrev pub place_line : SymbolTable → Linear → List ℕ
-place_line symbols place = line (codes "WHERE " ++ place_text place ++ nearest_text (nearest_symbol symbols place))
+place_line symbols place = line (codes "WHERE " ++ place_text place ++ nearest_text (nearest_name symbols place))
 
 -- the line of a word that waits in BRUPT, with the instruction that it is
 abbrev pub waiting_line : SymbolTable → Words → State → List ℕ

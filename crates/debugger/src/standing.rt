@@ -4,11 +4,11 @@ ghost use Rattle.std.specs.Prelude.{◌≡◌, ◌+◌, ◌-◌, ◌*◌, ◌<�
 ghost use Rattle.arrayvec.specs.ArrayVec.{array_vec_len};
 ghost use Rattle.words.specs.Devices.{Writes, failures_after};
 ghost use Rattle.cpu.specs.Run.{run};
-ghost use Rattle.trace.specs.TraceLines.{octal_digits};
+ghost use Rattle.names.specs.NamedLines.{nearest_name};
 ghost use Rattle.debugger.specs.History.{history, sight};
 ghost use Rattle.debugger.specs.Replies.{memory_word};
 ghost use Rattle.debugger.specs.Whys.{kind_part, last_outside};
-ghost use Rattle.debugger.specs.Standing.{places_before, place_before, nearest_symbol, distance_text, nearest_text};
+ghost use Rattle.debugger.specs.Standing.{nearest_text};
 ghost use Rattle.debugger.specs.Standing.{place_line, waiting_line, where_line, entered_line, entered_text};
 ghost use Rattle.debugger.specs.Standing.{inside_text, where_text, begins_with, found_line, found_text, places_from};
 ghost use Rattle.debugger.specs.Standing.{place_after, word_there, words_from, words_text, standing_text, rows_text};
@@ -23,6 +23,7 @@ use crate::texts::{Text, number_line};
 use arrayvec::ArrayVec;
 use calls::standing_place;
 use cpu::{Fetched, Machine, Processor};
+use names::{place_before, places_before, push_distance};
 use replay::{Keeper, Session};
 use space::place::Linear;
 use space::{Eras, Offset};
@@ -278,7 +279,7 @@ fn place_line(symbols: &Symbols, place: &Linear) -> Text
 /// Appends the symbol that stands nearest before a place, and how far before.
 pub(crate) fn push_nearest(text: &mut Text, symbols: &Symbols, place: &Linear)
     requires { array_vec_len text.old ≤ 20 }
-    ensures items { text.new.items ≡ text.old.items ++ nearest_text (nearest_symbol symbols.now place.now) }
+    ensures items { text.new.items ≡ text.old.items ++ nearest_text (nearest_name symbols.now place.now) }
     ensures short { array_vec_len text.new ≤ array_vec_len text.old + 16 }
 {
     for distance in 0..places_before(place) + 1 {
@@ -288,58 +289,6 @@ pub(crate) fn push_nearest(text: &mut Text, symbols: &Symbols, place: &Linear)
             push_distance(text, distance);
             return;
         }
-    }
-}
-
-/// How many places stand before a place.
-fn places_before(place: &Linear) -> u16
-    ensures value { result ≡ places_before place.now }
-    ensures few { result < 0o4000 }
-{
-    match place {
-        Linear::Erasable(place) => place.number(),
-        Linear::Fixed(_, offset) => offset.number(),
-    }
-}
-
-/// The place so many before a place.
-fn place_before(place: &Linear, distance: u16) -> Linear
-    requires { distance ≤ places_before place.now }
-    ensures { result ≡ place_before place.now distance }
-{
-    match place {
-        Linear::Erasable(place) => Linear::Erasable(Eras::of_low_bits(place.number() - distance)),
-        Linear::Fixed(bank, offset) => {
-            Linear::Fixed(*bank, Offset::of_low_bits(offset.number() - distance))
-        }
-    }
-}
-
-/// Appends a distance as it is added to a symbol.
-#[tactic(auto, unfolding(trace::specs::TraceLines::short_octal))]
-fn push_distance(text: &mut Text, distance: u16)
-    requires room { array_vec_len text.old ≤ 100 }
-    requires few { distance < 0o4000 }
-    ensures items { text.new.items ≡ text.old.items ++ distance_text distance }
-    ensures short { array_vec_len text.new ≤ array_vec_len text.old + 6 }
-{
-    if distance > 0 {
-        push_all(text, b" +");
-        push_octal(text, octal_digits(distance), distance);
-    }
-}
-
-/// How many octal digits a number has.
-fn octal_digits(number: u16) -> usize
-    requires { number < 0o4000 }
-    ensures digits { result ≡ octal_digits number }
-    ensures few { result ≤ 4 }
-{
-    match number {
-        0..0o10 => 1,
-        0o10..0o100 => 2,
-        0o100..0o1000 => 3,
-        _ => 4,
     }
 }
 

@@ -26,5 +26,5 @@ pub use merge::MOST_SERIES;
 pub use names::counter_of;
 pub use reading::read;
 pub use slip::{Slip, Why, is_cycle, line_slip};
-pub use statement::{parse_line, word_in};
+pub use statement::{long_input, parse_line, short_input, word_in};
 pub use words::MOST_BYTES;

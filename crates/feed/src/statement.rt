@@ -194,8 +194,8 @@ fn input_in(text: &[u8]) -> Result<Input, LineFault>
     }
 }
 
-// An interrupt that is asked for, or a pulse of a counter.
-fn short_input(name: &[u8], argument: &[u8]) -> Result<Input, LineFault>
+/// An interrupt that is asked for, `RUPT k`, or a pulse of a counter, `counter sequence`, by its two fields.
+pub fn short_input(name: &[u8], argument: &[u8]) -> Result<Input, LineFault>
     ensures { result ≡ short_input name.now argument.now }
 {
     if name == "RUPT".as_bytes() {
@@ -205,8 +205,8 @@ fn short_input(name: &[u8], argument: &[u8]) -> Result<Input, LineFault>
     }
 }
 
-// A word on a channel.
-fn long_input(name: &[u8], channel: &[u8], word: &[u8]) -> Result<Input, LineFault>
+/// A word on a channel, `CHAN channel word`, by its three fields.
+pub fn long_input(name: &[u8], channel: &[u8], word: &[u8]) -> Result<Input, LineFault>
     ensures { result ≡ long_input name.now channel.now word.now }
 {
     if name != "CHAN".as_bytes() {

@@ -8,6 +8,7 @@ ghost use Rattle.names.specs.NamedLines.{place_before, place_told, places_before
 ghost use Rattle.space.specs.declared.place.Linear.TheVariants.{Fixed};
 
 use crate::lines::Line;
+use arrayvec::ArrayVec;
 use space::{Addr12, Bank, Eras, Linear, Offset};
 use symbols::FixedBank;
 use trace::{Names, place_name};
@@ -117,8 +118,8 @@ fn needs_no_fb(bank: Bank) -> bool
     bank.number() == 2 || bank.number() == 3
 }
 
-/// How many places stand before a place.
-fn places_before(place: &Linear) -> u16
+/// How many places stand before a place, in its bank or in erasable memory.
+pub fn places_before(place: &Linear) -> u16
     ensures value { result ≡ places_before place.now }
     ensures few { result < 0o4000 }
 {
@@ -129,7 +130,7 @@ fn places_before(place: &Linear) -> u16
 }
 
 /// The place so many before a place.
-fn place_before(place: &Linear, distance: u16) -> Linear
+pub fn place_before(place: &Linear, distance: u16) -> Linear
     requires { distance ≤ places_before place.now }
     ensures { result ≡ place_before place.now distance }
 {
@@ -141,10 +142,10 @@ fn place_before(place: &Linear, distance: u16) -> Linear
     }
 }
 
-/// Appends a distance as it is added to a name.
+/// Appends a distance as it is added to a name, as ` +12`: at most 6 bytes.
 #[tactic(auto, unfolding(trace::specs::TraceLines::short_octal))]
-fn push_distance(line: &mut Line, distance: u16)
-    requires room { array_vec_len line.old ≤ 40 }
+pub fn push_distance<const N: usize>(line: &mut ArrayVec<u8, N>, distance: u16)
+    requires room { array_vec_len line.old + 6 ≤ N }
     requires few { distance < 0o4000 }
     ensures items { line.new.items ≡ line.old.items ++ distance_text distance }
     ensures len { array_vec_len line.new ≤ array_vec_len line.old + 6 }

@@ -1,7 +1,6 @@
 //! What happens in a run that is seldom meant.
 #![tactic(auto)]
 
-mod division;
 mod keys;
 mod kind;
 pub mod laws;

@@ -6,7 +6,6 @@ ghost use Rattle.notes.specs.Notes.{divides, happens_in, has_word, is_code_in_er
 ghost use Rattle.notes.specs.Notes.{is_z, names_z, skips};
 ghost use Rattle.notes.specs.RunNotes.{where_of};
 
-use crate::division::quotient_fits;
 use crate::keys::overwrites;
 use crate::kind::Kind;
 use crate::other_bank::{names_erasable, place_at, reaches_other};
@@ -17,7 +16,7 @@ use cpu::{Account, Fetched, Machine, NextStep, Processor, instruction_name, name
 use feed::interrupt::Interrupt;
 use rope::Rope;
 use space::{Eras, Linear};
-use trace::entry_place;
+use trace::{entry_place, quotient_fits};
 use words::Overflow;
 use yayul::NamedPlaces;
 

@@ -7,11 +7,11 @@ ghost use Rattle.say.specs.Sentences.{is_editing, is_from_q, is_place, is_q, lea
 ghost use Rattle.say.specs.Sentences.{rand, relint, resume, ror, rxor, tc, ts, ts_overflowing, ts_plain, wand, wor};
 ghost use Rattle.say.specs.Sentences.{write};
 
-use crate::division::quotient_fits;
 use crate::places::Places;
 use crate::values::Values;
 use cpu::{Fetched, Instruction};
 use space::{Chan, Eras, Linear};
+use trace::quotient_fits;
 use words::{Overflow, Wide};
 
 /// How many addresses there are.

@@ -2,7 +2,6 @@
 #![tactic(auto)]
 
 mod called;
-mod division;
 mod executed;
 mod form;
 mod inputs;

@@ -1,6 +1,7 @@
 //! A run as text: a line for each step, and what a step is as JSON.
 #![tactic(auto)]
 
+mod division;
 mod fields;
 mod inputs;
 mod line;
@@ -11,6 +12,7 @@ mod read;
 mod steps;
 mod written;
 
+pub use division::quotient_fits;
 pub use fields::{StepFields, Text, decimal_text, place_text};
 pub use inputs::{input_text, interrupt_name};
 pub use line::trace_step;

@@ -1,6 +1,6 @@
 use Rattle.std.proofs.Common.{◌∙◌, ◌+◌, ap, arith}
 use Rattle.trace.specs.TraceLines.{symbol_at}
-use Rattle.debugger.specs.Standing.{places_before}
+use Rattle.names.specs.NamedLines.{places_before}
 use Rattle.debugger.proofs.Standings.{nearest_passed}
 use Rattle.debugger.proofs.standing.push_nearest.Goals as goal
 

@@ -13,7 +13,7 @@ const SIGN: u16 = 0o40000;
 const GREATEST_WORD: u16 = 0o77777;
 
 /// Whether the quotient of the dividend (a, l) by k has 14 bits.
-pub(crate) fn quotient_fits(a: Word, l: Word, k: Word) -> bool
+pub fn quotient_fits(a: Word, l: Word, k: Word) -> bool
     ensures { result ≡ quotient_fits a l k }
 {
     dividend(a, l).unsigned_abs() < u32::from(magnitude(k)) * 0o40000
