@@ -61,6 +61,11 @@ good = (
       (2, 0, 0o22363) ∷ (2, 1, 0o11643) ∷ (2, 2, 0o65)
           ∷ (2, 3, 0o1265) ∷ (2, 4, 0o74631) ∷ (2, 5, 0o63145) ∷ (2, 6, 0o22437) ∷ (2, 7, 0o16067) ∷ [],
     )
+    ∷ (
+      codes " 2DEC 60000; 2DEC -1; 2DEC +268435455",
+      (2, 0, 3) ∷ (2, 1, 0o25140) ∷ (2, 2, 0o77777) ∷ (2, 3, 0o77776)
+          ∷ (2, 4, 0o37777) ∷ (2, 5, 0o37777) ∷ [],
+    )
     ∷ (codes " VN 0633; VN 9999; VN 0000", (2, 0, 0o1441) ∷ (2, 1, 0o30743) ∷ (2, 2, 0) ∷ [])
     ∷ (
       codes " -1DNADR 100; -2DNADR 400; -3DNADR 400; -4DNADR 400; -5DNADR 400; -6DNADR 154",
@@ -152,7 +157,8 @@ faulty =
     ∷ (codes " OCT -100000", 1, OutOfRange)
     ∷ (codes " 2OCT 123", 1, BadOperand)
     ∷ (codes " 2DEC", 1, BadOperand)
-    ∷ (codes " 2DEC 2160000", 1, BadOperand)
+    ∷ (codes " 2DEC 268435456", 1, OutOfRange)
+    ∷ (codes " 2DEC 5 E3", 1, BadOperand)
     ∷ (codes " DEC 5 E3", 1, BadOperand)
     ∷ (codes " 2DEC .5 B-1 E1", 1, BadOperand)
     ∷ (codes " 2DEC .5 E1 B-1 B-1", 1, BadOperand)
@@ -222,7 +228,7 @@ abbrev taken_forms : List (List ℕ)
 taken_forms =
     codes "+3 OCT 1" ∷ codes " +3 OCT 1" ∷ codes " -1" ∷ codes " COUNT* $$/EXEC" ∷ codes " BNKSUM 05" ∷ codes " SUBRO X"
     ∷ codes " MEMORY 120000 - 167777" ∷ codes "TAG EQUALS" ∷ codes "N = M" ∷
-    codes " BANK" ∷ codes " BLOCK" ∷ codes " BANK 77777" ∷ codes " 2DEC .57735027" ∷ codes " DEC 1.0 E4 B-14" ∷ codes " 1DNADR X"
+    codes " BANK" ∷ codes " BLOCK" ∷ codes " BANK 77777" ∷ codes " 2DEC .57735027" ∷ codes " 2DEC 5" ∷ codes " DEC 1.0 E4 B-14" ∷ codes " 1DNADR X"
     ∷ codes " -6DNADR 154" ∷ codes " BBCON X" ∷ codes " GENADR X" ∷
     codes " VN 0633" ∷ codes " DNCHAN 34" ∷ codes "-PHASE1 ERASE" ∷ codes " OCT -20000" ∷ codes " OCTAL 37777" ∷ codes " 2OCT 0000500000"
     ∷ codes " AD -MAXADRS" ∷ codes "X CA FIVE +1 # it" ∷
@@ -235,7 +241,7 @@ all_are_taken = refl
 -- and lines whose form it does not take
 abbrev refused_forms : List (List ℕ)
 refused_forms =
-    codes " MM 37" ∷ codes " 2DEC 5" ∷ codes " 2DEC 1.5" ∷ codes " DEC 16384" ∷ codes " OCT -100000" ∷ codes " FROB" ∷ codes " OCT 9"
+    codes " MM 37" ∷ codes " 2DEC 5 E3" ∷ codes " 2DEC 1.5" ∷ codes " DEC 16384" ∷ codes " OCT -100000" ∷ codes " FROB" ∷ codes " OCT 9"
     ∷ codes " EQUALS 5" ∷ codes "X BANK 5" ∷ codes "X BANK" ∷ codes "X SETLOC 4000" ∷ codes "X EBANK= 100" ∷ codes " SETLOC" ∷
     codes " ERASE 0 - 7" ∷ codes "$FILE.agc" ∷ codes "LONGLABEL CA X" ∷ codes " CA FIVE // it" ∷ codes " CA" ∷ codes " CALL"
     ∷ codes " TFC LOOP" ∷ codes " VN 12" ∷ (replicate 120 0o40 ++ codes "CA X") ∷ []

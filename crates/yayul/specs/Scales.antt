@@ -1,5 +1,5 @@
 -- Decimal constants of flight programs: with a point and powers of ten and of two, in one word or two.
-use Rattle.std.specs.Prelude.{ℕ, ◌+◌, ◌*◌, ◌/◌, ◌%◌, ◌^◌, ◌==◌, ◌||◌, Bool, true, false, nat_le, nat_lt, List, [], ◌∷◌, length, drop}
+use Rattle.std.specs.Prelude.{ℕ, ◌+◌, ◌*◌, ◌/◌, ◌%◌, ◌^◌, ◌==◌, ◌&&◌, ◌||◌, not, Bool, true, false, nat_le, nat_lt, List, [], ◌∷◌, length, drop}
 use Rattle.std.specs.Prelude.{Option, None, Some, is_some, option_map, option_and_then, if◌then◌else◌}
 use Rattle.std.specs.Option.{option_or}
 use Rattle.words.specs.Numbers.{neg}
@@ -48,6 +48,10 @@ scales_of (text ∷ []) =
 scales_of (first ∷ second ∷ []) = option_and_then (λ ten. option_map (λ two. scaled_by ten (Some two)) (power_of_two_in second))
     (power_of_ten_in first)
 scales_of _ = None
+
+-- the scales of a whole number in units of the lower of two words
+abbrev pub lower_word : Scales
+lower_word = scaled_by (raised 0) (Some (lowered 28))
 
 -- ## Quantities
 -- some digits in all, the last of which are decimals: below 10 ^ 11
@@ -107,9 +111,18 @@ words_of Two minus q scales = two_words minus (magnitude_of 28 q scales.ten (pow
 abbrev pub quantity_content : Precision → Bool → Quantity → Scales → Option Content
 quantity_content precision minus q scales = if q.pointed || is_some scales.two then Some (words_of precision minus q scales) else None
 
+abbrev pub no_field : List (List ℕ) → Bool
+no_field [] = true
+no_field (text ∷ rest) = false
+
+-- the scales beside a quantity: of one in two words that has no point, where none stand, those of a whole number
+abbrev pub scales_beside : Precision → Bool → List (List ℕ) → Option Scales
+scales_beside One pointed scales = scales_of scales
+scales_beside Two pointed scales = if no_field scales && not pointed then Some lower_word else scales_of scales
+
 abbrev pub magnitude_content : Precision → Bool → List ℕ → List (List ℕ) → Option Content
 magnitude_content precision minus text scales =
-    option_and_then (λ q. option_and_then (quantity_content precision minus q) (scales_of scales)) (quantity_in text)
+    option_and_then (λ q. option_and_then (quantity_content precision minus q) (scales_beside precision q.pointed scales)) (quantity_in text)
 
 -- a sign or none, a quantity and its scales
 abbrev pub scaled_content : Precision → List ℕ → List (List ℕ) → Option Content
@@ -117,10 +130,6 @@ scaled_content precision text scales =
     if first_is (λ byte. byte == 0o53) text then magnitude_content precision false (drop 1 text) scales
     else if first_is (λ byte. byte == 0o55) text then magnitude_content precision true (drop 1 text) scales
     else magnitude_content precision false text scales
-
-abbrev pub no_field : List (List ℕ) → Bool
-no_field [] = true
-no_field (text ∷ rest) = false
 
 -- a decimal constant of one word without scales, as in the standard language; else one with scales, or of two words
 abbrev pub decimal_content : Precision → List ℕ → List (List ℕ) → Option Content
