@@ -31,7 +31,7 @@ good = (
   (2, 0, 5) ∷ (2, 1, 6) ∷ (2, 2, 0o52006) ∷ (2, 3, 1)
       ∷ (2, 4, 0o34004) ∷ [],
 )
-    ∷ (codes " COUNT* $$/EXEC; COUNT 05; BNKSUM 05; SUBRO; MEMORY 120000 - 167777; OCT 1", (2, 0, 1) ∷ [])
+    ∷ (codes " COUNT* $$/EXEC; COUNT 05; BNKSUM 05; SUBRO; MEMORY 120000 - 167777; CHECK= X +5; OCT 1", (2, 0, 1) ∷ [])
     ∷ (
       codes " SETLOC 4005;X EQUALS;Y =; OCT 1; CA X; CA Y;Z EQUALS X +1; CA Z",
       (2, 5, 1) ∷ (2, 6, 0o34005) ∷ (2, 7, 0o34005)
@@ -49,6 +49,8 @@ good = (
       (2, 0, 0o00100) ∷ (2, 1, 0o04400)
           ∷ (2, 2, 0o10400) ∷ (2, 3, 0o14400) ∷ (2, 4, 0o20400) ∷ (2, 5, 0o24154) ∷ (2, 6, 0o34030) ∷ [],
     )
+    ∷ (codes " -DNCHAN 30; DEC* -1 B-14*; 2DEC 5 B-28*", (2, 0, 0o43747) ∷ (2, 1, 0o77776) ∷ (2, 2, 0) ∷ (2, 3, 5) ∷ [])
+    ∷ (codes " 2DEC* 3.986032 E10 B-36*; 2DEC* 5", (2, 0, 0o22437) ∷ (2, 1, 0o16067) ∷ (2, 2, 0) ∷ (2, 3, 5) ∷ [])
     ∷ (codes " OCT -20000; OCTAL +5; OCT -0; OCT 5", (2, 0, 0o57777) ∷ (2, 1, 5) ∷ (2, 2, 0o77777) ∷ (2, 3, 5) ∷ [])
     ∷ (codes " 2OCT 0000500000; 2OCT 1234567012", (2, 0, 5) ∷ (2, 1, 0) ∷ (2, 2, 0o12345) ∷ (2, 3, 0o67012) ∷ [])
     ∷ (
@@ -161,6 +163,10 @@ faulty =
     ∷ (codes " 2DEC 5 E3", 1, BadOperand)
     ∷ (codes " DEC 5 E3", 1, BadOperand)
     ∷ (codes " 2DEC .5 B-1 E1", 1, BadOperand)
+    ∷ (codes " 2DEC* .5 B-1**", 1, BadOperand)
+    ∷ (codes " 2DEC* .5 E1*", 1, BadOperand)
+    ∷ (codes " -DNCHAN 1000", 1, WrongKindOfAddress)
+    ∷ (codes "X CHECK= 5;X OCT 1", 2, TwiceDefined)
     ∷ (codes " 2DEC .5 E1 B-1 B-1", 1, BadOperand)
     ∷ (codes " 2DEC .5 E12", 1, BadOperand)
     ∷ (codes " 2DEC 1 B-51", 1, BadOperand)
@@ -226,7 +232,8 @@ each_refused = refl
 -- lines whose form the language takes, whatever their symbols are; most of them the standard language refuses
 abbrev taken_forms : List (List ℕ)
 taken_forms =
-    codes "+3 OCT 1" ∷ codes " +3 OCT 1" ∷ codes " -1" ∷ codes " COUNT* $$/EXEC" ∷ codes " BNKSUM 05" ∷ codes " SUBRO X"
+    codes " CHECK= X" ∷ codes " -DNCHAN 34" ∷ codes " 2DEC* 1.5 B-2*" ∷ codes " DEC* .5"
+    ∷ codes "+3 OCT 1" ∷ codes " +3 OCT 1" ∷ codes " -1" ∷ codes " COUNT* $$/EXEC" ∷ codes " BNKSUM 05" ∷ codes " SUBRO X"
     ∷ codes " MEMORY 120000 - 167777" ∷ codes "TAG EQUALS" ∷ codes "N = M" ∷
     codes " BANK" ∷ codes " BLOCK" ∷ codes " BANK 77777" ∷ codes " 2DEC .57735027" ∷ codes " 2DEC 5" ∷ codes " DEC 1.0 E4 B-14" ∷ codes " 1DNADR X"
     ∷ codes " -6DNADR 154" ∷ codes " BBCON X" ∷ codes " GENADR X" ∷

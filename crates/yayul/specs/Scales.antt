@@ -1,7 +1,7 @@
 -- Decimal constants of flight programs: with a point and powers of ten and of two, in one word or two.
-use Rattle.std.specs.Prelude.{ℕ, ◌+◌, ◌*◌, ◌/◌, ◌%◌, ◌^◌, ◌==◌, ◌&&◌, ◌||◌, not, Bool, true, false, nat_le, nat_lt, List, [], ◌∷◌, length, drop}
+use Rattle.std.specs.Prelude.{ℕ, ◌+◌, ◌-◌, ◌*◌, ◌/◌, ◌%◌, ◌^◌, ◌==◌, ◌&&◌, ◌||◌, not, Bool, true, false, nat_le, nat_lt, List, [], ◌∷◌, length, take, drop, slice_get}
 use Rattle.std.specs.Prelude.{Option, None, Some, is_some, option_map, option_and_then, if◌then◌else◌}
-use Rattle.std.specs.Option.{option_or}
+use Rattle.std.specs.Option.{option_map_or, option_or}
 use Rattle.words.specs.Numbers.{neg}
 use Rattle.agc_text.specs.Digits.{number_of}
 use Rattle.yayul.specs.Forms.{first_is, before_point, greatest_magnitude, decimal_in, with_form}
@@ -32,9 +32,17 @@ signed_power up down text =
 abbrev pub power_of_ten_in : List ℕ → Option Power
 power_of_ten_in text = if first_is (λ byte. byte == 0o105) text then signed_power 11 12 (drop 1 text) else None
 
--- a `B` and a power of two
+-- a star stands last
+abbrev pub ends_in_star : List ℕ → Bool
+ends_in_star text = option_map_or (λ byte. byte == 0o52) (slice_get text (length text - 1)) false
+
+-- a text without a star at its end
+abbrev pub without_star : List ℕ → List ℕ
+without_star text = if ends_in_star text then take (length text - 1) text else text
+
+-- a `B` and a power of two, perhaps with a star behind it
 abbrev pub power_of_two_in : List ℕ → Option Power
-power_of_two_in text = if first_is (λ byte. byte == 0o102) text then signed_power 24 50 (drop 1 text) else None
+power_of_two_in text = if first_is (λ byte. byte == 0o102) text then signed_power 24 50 (without_star (drop 1 text)) else None
 
 abbrev pub scaled_by : Power → Option Power → Scales
 scaled_by ten two = record { ten = ten; two = two }

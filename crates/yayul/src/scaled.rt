@@ -5,10 +5,11 @@ ghost use Rattle.agc_text.specs.Fields.{texts, fields};
 ghost use Rattle.yayul.specs.Scales.{count_to, signed_power, power_of_ten_in, power_of_two_in, scales_of, raised};
 ghost use Rattle.yayul.specs.Scales.{quantity_of, whole_digits, pointed_in, quantity_in, nearest, power_or_none};
 ghost use Rattle.yayul.specs.Scales.{magnitude_of, signed_word, one_word, two_words, words_of, quantity_content};
-ghost use Rattle.yayul.specs.Scales.{magnitude_content, scaled_content, no_field, scales_beside, decimal_content};
+ghost use Rattle.yayul.specs.Scales.{magnitude_content, scaled_content, no_field, scales_beside, ends_in_star, without_star, decimal_content};
 
 use crate::decimal::{before_point, decimal_in};
 use crate::language::{Content, DoubleWord, Precision};
+use crate::number::without_last;
 use crate::statement::constant_of;
 use agc_text::{before_comment, decimal, split_field};
 use words::Word;
@@ -393,6 +394,26 @@ fn one_scale(text: &[u8]) -> Option<Scales>
     })
 }
 
+// A text without a star at its end.
+fn without_star(text: &[u8]) -> &[u8]
+    ensures { result.now ≡ without_star text.now }
+{
+    if ends_in_star(text) {
+        without_last(text)
+    } else {
+        text
+    }
+}
+
+fn ends_in_star(text: &[u8]) -> bool
+    ensures { result ≡ ends_in_star text.now }
+{
+    match text.last() {
+        Some(byte) => *byte == b'*',
+        None => false,
+    }
+}
+
 // An `E` and a power of ten.
 fn power_of_ten_in(text: &[u8]) -> Option<Power>
     ensures value { result ≡ power_of_ten_in text.now }
@@ -405,14 +426,14 @@ fn power_of_ten_in(text: &[u8]) -> Option<Power>
     }
 }
 
-// A `B` and a power of two.
+// A `B` and a power of two, perhaps with a star behind it.
 fn power_of_two_in(text: &[u8]) -> Option<Power>
     ensures value { result ≡ power_of_two_in text.now }
     ensures up { IfSome result (λ p. p.up ≤ 24) }
     ensures down { IfSome result (λ p. p.down ≤ 50) }
 {
     match text {
-        [b'B', power @ ..] => signed_power(24, 50, power),
+        [b'B', power @ ..] => signed_power(24, 50, without_star(power)),
         _ => None,
     }
 }
