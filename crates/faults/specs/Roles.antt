@@ -71,11 +71,6 @@ abbrev pub is_decimal : Option Role → Bool
 is_decimal (Some Role.Decimal) = true
 is_decimal _ = false
 
--- a decimal constant of two words
-abbrev pub is_decimal_pair : Option Role → Bool
-is_decimal_pair (Some Role.DecimalPair) = true
-is_decimal_pair _ = false
-
 -- a decimal constant
 abbrev pub takes_decimal : Option Role → Bool
 takes_decimal (Some Role.Decimal) = true

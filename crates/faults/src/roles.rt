@@ -2,7 +2,7 @@
 
 ghost use Rattle.std.specs.Prelude.{◌≡◌};
 ghost use Rattle.faults.specs.Roles.{leads_on_to, subtracts, gives_two, is_block, is_constant, is_count_complement};
-ghost use Rattle.faults.specs.Roles.{is_decimal, is_decimal_pair, is_equals, is_erase, is_index, is_leaving, is_octal};
+ghost use Rattle.faults.specs.Roles.{is_decimal, is_equals, is_erase, is_index, is_leaving, is_octal};
 ghost use Rattle.faults.specs.Roles.{is_octal_pair, is_read_fixed, is_setloc, is_verb_noun, keeps_location};
 ghost use Rattle.faults.specs.Roles.{leads_to_fixed, moves_location, names_bank, reads, reads_erasable, reads_word};
 ghost use Rattle.faults.specs.Roles.{refuses_label, sets_bank, stores, takes_channel, takes_decimal};
@@ -99,13 +99,6 @@ pub(crate) fn is_decimal(role: Option<Role>) -> bool
     ensures { result ≡ is_decimal role }
 {
     matches!(role, Some(Role::Decimal))
-}
-
-/// A decimal constant of two words.
-pub(crate) fn is_decimal_pair(role: Option<Role>) -> bool
-    ensures { result ≡ is_decimal_pair role }
-{
-    matches!(role, Some(Role::DecimalPair))
 }
 
 /// A decimal constant.
