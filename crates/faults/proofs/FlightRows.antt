@@ -199,13 +199,6 @@ lines_with_causes =
       (codes "Y has no value: no line defines it, or names wait for one another in a circle, or in a chain of more than eight", []),
     )
     ∷ ((codes " SETLOC Y", UsedTooEarly), (codes "SETLOC needs the value of Y here, and no earlier line defines it", []))
-    ∷ (
-      (codes " CAF 0", WrongKindOfAddress),
-      (
-        codes "CAF of an erasable place is not taken: what yaYUL makes of it is not known for sure",
-        codes "CA 0",
-      ),
-    )
     ∷ ((codes " CAF X", WrongKindOfAddress), (codes "CAF takes a fixed place, and X is none", []))
     ∷ (
       (codes " BBCON X", WrongKindOfAddress),

@@ -12,7 +12,7 @@ use Rattle.yayul.specs.declared.faults.FaultKind.TheVariants.{UsedTooEarly, Wron
 use Rattle.yayul.specs.declared.finding.Finding.{Finding}
 use Rattle.yayul.specs.declared.language.Language.{Language}
 use Rattle.yayul.specs.declared.language.Language.TheVariants.{Flight, Standard}
-use Rattle.faults.specs.Roles.{is_count_complement, is_equals, is_erase, is_octal, is_octal_pair, is_read_fixed}
+use Rattle.faults.specs.Roles.{is_count_complement, is_equals, is_erase, is_octal, is_octal_pair}
 use Rattle.faults.specs.Roles.{is_verb_noun, names_bank, refuses_label, takes_decimal, takes_low_bank}
 use Rattle.yayul.specs.Readings.{Parts}
 use Rattle.faults.specs.Causes.{Cause, begins, cured, fault_cause, has_foreign_comment, holds, is_signed, said, symbol_cause, text_of}
@@ -96,9 +96,7 @@ waiting_cause near parts = symbol_cause
 -- E25 of operators that flight sources alone have
 abbrev pub flight_kind_cause : Bool → List ℕ → Parts → Finding → Cause
 flight_kind_cause near text parts f =
-    if is_read_fixed parts.role && is_some (digits_value 8 (text_of parts.operand)) then
-    cured (codes "CAF of an erasable place is not taken: what yaYUL makes of it is not known for sure") (codes "CA @")
-    else if takes_low_bank parts.role then said
+    if takes_low_bank parts.role then said
     (codes "% takes a fixed place of a bank below 30, and @^ is none: what yaYUL adds from bank 30 on is not known for sure")
     else if is_count_complement parts.role then said (codes "% takes a word of erasable memory, and @^ is not there")
     else fault_cause near text parts f

@@ -18,7 +18,7 @@ use crate::causes::{
 use crate::names::is_short;
 use crate::roles::{
     is_count_complement, is_equals, is_erase, is_octal, is_octal_pair,
-    is_read_fixed, is_verb_noun, names_bank, refuses_label, takes_decimal, takes_low_bank,
+    is_verb_noun, names_bank, refuses_label, takes_decimal, takes_low_bank,
 };
 use agc_text::{Number, decimal_value, octal_value};
 use yayul::{FaultKind, Finding, Language, Reading, has_flight_form, is_count};
@@ -263,12 +263,7 @@ fn waiting_cause(near: bool, parts: &Reading<'_>) -> Cause
 fn flight_kind_cause(near: bool, text: &[u8], parts: &Reading<'_>, finding: &Finding) -> Cause
     ensures { cause_in result ≡ flight_kind_cause near text.now (parts_in parts.now) finding.now }
 {
-    if is_read_fixed(parts.role) && octal_value(text_of(parts.operand)).is_some() {
-        Cause::cured(
-            b"CAF of an erasable place is not taken: what yaYUL makes of it is not known for sure",
-            b"CA @",
-        )
-    } else if takes_low_bank(parts.role) {
+    if takes_low_bank(parts.role) {
         Cause::said(
             b"% takes a fixed place of a bank below 30, and @^ is none: what yaYUL adds from bank 30 on is not known \
                 for sure",

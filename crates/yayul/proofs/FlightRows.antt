@@ -49,6 +49,11 @@ good = (
       (2, 0, 0o00100) ∷ (2, 1, 0o04400)
           ∷ (2, 2, 0o10400) ∷ (2, 3, 0o14400) ∷ (2, 4, 0o20400) ∷ (2, 5, 0o24154) ∷ (2, 6, 0o34030) ∷ [],
     )
+    ∷ (
+      codes " CAF 0; CAF 1777 +1; CAF 4005; CAF 12000; SETLOC 4005;X OCT 1; CAF X",
+      (2, 0, 0o30000) ∷ (2, 1, 0o32000) ∷ (2, 2, 0o34005)
+          ∷ (2, 3, 0o32000) ∷ (2, 5, 1) ∷ (2, 6, 0o34005) ∷ [],
+    )
     ∷ (codes " -DNCHAN 30; DEC* -1 B-14*; 2DEC 5 B-28*", (2, 0, 0o43747) ∷ (2, 1, 0o77776) ∷ (2, 2, 0) ∷ (2, 3, 5) ∷ [])
     ∷ (codes " 2DEC* 3.986032 E10 B-36*; 2DEC* 5", (2, 0, 0o22437) ∷ (2, 1, 0o16067) ∷ (2, 2, 0) ∷ (2, 3, 5) ∷ [])
     ∷ (codes " OCT -20000; OCTAL +5; OCT -0; OCT 5", (2, 0, 0o57777) ∷ (2, 1, 5) ∷ (2, 2, 0o77777) ∷ (2, 3, 5) ∷ [])
@@ -166,6 +171,7 @@ faulty =
     ∷ (codes " 2DEC* .5 B-1**", 1, BadOperand)
     ∷ (codes " 2DEC* .5 E1*", 1, BadOperand)
     ∷ (codes " -DNCHAN 1000", 1, WrongKindOfAddress)
+    ∷ (codes " CAF X;X EQUALS 5", 1, WrongKindOfAddress)
     ∷ (codes "X CHECK= 5;X OCT 1", 2, TwiceDefined)
     ∷ (codes " 2DEC .5 E1 B-1 B-1", 1, BadOperand)
     ∷ (codes " 2DEC .5 E12", 1, BadOperand)

@@ -11,9 +11,9 @@ use Rattle.yayul.specs.Forms.{is_sign, first_is, is_digits, greatest_number, alo
 use Rattle.yayul.specs.Forms.{moved_by, operand_in, operation_of, label_in, statement_of}
 use Rattle.yayul.specs.Scales.{decimal_content}
 use Rattle.yayul.specs.Language.{Address, Addressed, All, Bank, BankRange, BankWord, Channel, Complemented, Constant, Constants, Content}
-use Rattle.yayul.specs.Language.{Ebank, Equals, ErasablePlace, FarAddress, FarComplement, FixedPlace, Flight, FlightOperator, Gives, Is}
+use Rattle.yayul.specs.Language.{Ebank, Equals, ErasablePlace, FarAddress, FarComplement, FixedAddress, FixedPlace, Flight, FlightOperator, Gives, Is}
 use Rattle.yayul.specs.Language.{Label, Language, Location, Minus, Missing, Named, Nine, No, NoForm, Nothing, Numeral, Octals, One, Operand}
-use Rattle.yayul.specs.Language.{Operation, Operator, PassedOver, Plus, Setloc, Shift, Standard, Statement, Ten, Term, Twelve, Two}
+use Rattle.yayul.specs.Language.{Operation, Operator, PassedOver, Plus, Setloc, Shift, Standard, Statement, Takes, Ten, Term, Twelve, Two}
 use Rattle.yayul.specs.Language.{TwoOrThree, Unknown, VerbNoun}
 
 abbrev pub is_flight : Language → Bool
@@ -132,6 +132,7 @@ flight_operators =
     ∷ (codes "-5DNADR", FlightOperator.Complemented (code 0o20000 Twelve No ErasablePlace))
     ∷ (codes "-6DNADR", FlightOperator.Complemented (code 0o24000 Twelve No ErasablePlace))
     ∷ (codes "-DNCHAN", FlightOperator.Complemented (code 0o34000 Nine No Channel))
+    ∷ (codes "CAF", FlightOperator.ReadFixed)
     ∷ (codes "GENADR", FlightOperator.Standard (addressed 0 Twelve No Address))
     ∷ (codes "REMADR", FlightOperator.Standard (addressed 0 Twelve No Address))
     ∷ (codes "1DNADR", FlightOperator.Standard (addressed 0 Twelve No ErasablePlace))
@@ -188,6 +189,15 @@ abbrev pub scales_after : List ℕ → Option Piece → List (List ℕ)
 scales_after line None = []
 scales_after line (Some operand) = texts (fields (after_field line operand))
 
+-- what CAF takes: a number may be an address of erasable memory, as one that INDEX adds to is
+abbrev pub read_fixed_takes : Term → Takes
+read_fixed_takes (Term.Number n) = Address
+read_fixed_takes _ = FixedAddress
+
+-- the word of CAF
+abbrev pub fixed_reading : Operand → Content
+fixed_reading operand = Addressed (code 0o30000 Twelve No (read_fixed_takes operand.term)) operand
+
 -- what an operator of the standard language says with the fields after it
 abbrev pub standard_operation_of : Operator → List (List ℕ) → Operation
 standard_operation_of Operator.Setloc rest = Setloc (address_in rest)
@@ -210,6 +220,7 @@ flight_operation_of here scales (Some (FlightOperator.Decimal precision)) (text 
 flight_operation_of here scales (Some (FlightOperator.Complemented i)) rest = Gives (option_map (Complemented i) (address_in rest))
 flight_operation_of here scales (Some FlightOperator.FarComplement) rest = Gives (option_map FarComplement (address_in rest))
 flight_operation_of here scales (Some FlightOperator.BankWord) rest = Gives (option_map BankWord (address_in rest))
+flight_operation_of here scales (Some FlightOperator.ReadFixed) rest = Gives (option_map fixed_reading (address_in rest))
 flight_operation_of here scales (Some (FlightOperator.Standard operator)) rest = standard_operation_of operator rest
 
 -- ## Statements

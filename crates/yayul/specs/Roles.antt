@@ -116,6 +116,7 @@ flight_roles =
     ∷ (codes "-5DNADR", Role.Downlist)
     ∷ (codes "-6DNADR", Role.Downlist)
     ∷ (codes "-DNCHAN", Role.DownlistChannel)
+    ∷ (codes "CAF", Role.ReadFixed)
     ∷ (codes "GENADR", Role.Address)
     ∷ (codes "REMADR", Role.Address)
     ∷ (codes "1DNADR", Role.Downlist)

@@ -9,7 +9,7 @@ ghost use Rattle.yayul.specs.Flight.{most_lines, measured, is_count, without_cou
 ghost use Rattle.yayul.specs.Flight.{flight_label_in, named_operand, flight_operand_in, is_pseudo_address};
 ghost use Rattle.yayul.specs.Flight.{pseudo_place, placed, with_place, address_in, flight_operators, flight_operator};
 ghost use Rattle.yayul.specs.Flight.{operand_or_here, scales_after, signed_octal_in, both, octals_in, verb_noun_in};
-ghost use Rattle.yayul.specs.Flight.{bank_at, bank_or_here, standard_operation_of, flight_operation_of};
+ghost use Rattle.yayul.specs.Flight.{bank_at, bank_or_here, fixed_reading, standard_operation_of, flight_operation_of};
 ghost use Rattle.yayul.specs.Flight.{uncounted_statement};
 ghost use Rattle.yayul.specs.Forms.{alone};
 ghost use Rattle.yayul.specs.Scales.{decimal_content};
@@ -19,8 +19,9 @@ ghost use Rattle.yayul.specs.Inside.Representation.{text_of, arguments_of, fligh
 use crate::decimal::complemented;
 use crate::instruction::AddressedInstruction;
 use crate::language::{
-    BankRange, Content, DoubleWord, FlightOperator, Label, Language, Location, Numeral, Operand,
-    Operation, Operator, Precision, Shift, Statement, Term,
+    AddressedCode, BankRange, Bits, Content, DoubleWord, Extracode, FlightOperator, Label,
+    Language, Location, Numeral, Operand, Operation, Operator, Precision, Shift, Statement, Takes,
+    Term,
 };
 use crate::name::holds_dollar_sign;
 use crate::number::{begins_with_sign, is_digits, octal_in};
@@ -190,8 +191,29 @@ fn flight_operation_of(
             Some(operand) => Some(Content::BankWord(operand)),
             None => None,
         }),
+        Some(FlightOperator::ReadFixed) => Operation::Gives(match address_in(line) {
+            Some(operand) => Some(fixed_reading(operand)),
+            None => None,
+        }),
         Some(FlightOperator::Standard(operator)) => standard_operation_of(operator, line),
     }
+}
+
+/// The word of CAF: a number may be an address of erasable memory, as one that INDEX adds to is.
+pub(crate) fn fixed_reading(operand: Operand) -> Content
+    ensures { result ≡ fixed_reading operand }
+{
+    let takes = match &operand.term {
+        Term::Number(_) => Takes::Address,
+        Term::Named(_) | Term::Place(..) | Term::Here => Takes::FixedAddress,
+    };
+    let code = AddressedCode {
+        least: 0o30000,
+        bits: Bits::Twelve,
+        extracode: Extracode::No,
+        takes,
+    };
+    Content::Addressed(AddressedInstruction::new(code), operand)
 }
 
 // What an operator of the standard language says with the fields after it.

@@ -242,7 +242,7 @@ const ROWS_OF_SIX: [(&str, (Operator, Role)); 11] = [
 ];
 
 // Each operator that the standard language lacks, or has with fewer forms.
-const FLIGHT_ROWS: [(&str, (FlightOperator, Role)); 39] = [
+const FLIGHT_ROWS: [(&str, (FlightOperator, Role)); 40] = [
     row!("EQUALS", FlightOperator::Equals, Equals),
     row!("=", FlightOperator::Equals, Equals),
     row!("BANK", FlightOperator::Bank(BankRange::All), Bank),
@@ -305,6 +305,7 @@ const FLIGHT_ROWS: [(&str, (FlightOperator, Role)); 39] = [
         complement!(0o34000, Nine, Channel),
         DownlistChannel
     ),
+    row!("CAF", FlightOperator::ReadFixed, ReadFixed),
     row!(
         "GENADR",
         FlightOperator::Standard(constant!(Address)),
