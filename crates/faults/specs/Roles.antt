@@ -143,11 +143,6 @@ abbrev pub is_count_complement : Option Role → Bool
 is_count_complement (Some Role.CountComplement) = true
 is_count_complement _ = false
 
--- it reads a word of fixed memory
-abbrev pub is_read_fixed : Option Role → Bool
-is_read_fixed (Some Role.ReadFixed) = true
-is_read_fixed _ = false
-
 -- it goes on at an address of fixed memory, or may
 abbrev pub leads_to_fixed : Option Role → Bool
 leads_to_fixed (Some Role.Jump) = true
