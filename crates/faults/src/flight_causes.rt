@@ -17,8 +17,8 @@ use crate::causes::{
 };
 use crate::names::is_short;
 use crate::roles::{
-    is_count_complement, is_equals, is_erase, is_octal, is_octal_pair,
-    is_verb_noun, names_bank, refuses_label, takes_decimal, takes_low_bank,
+    is_count_complement, is_equals, is_erase, is_octal, is_octal_pair, is_verb_noun, names_bank,
+    refuses_label, takes_decimal, takes_low_bank,
 };
 use agc_text::{Number, decimal_value, octal_value};
 use yayul::{FaultKind, Finding, Language, Reading, has_flight_form, is_count};
