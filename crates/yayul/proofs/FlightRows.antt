@@ -54,6 +54,11 @@ good = (
       (2, 0, 0o30000) ∷ (2, 1, 0o32000) ∷ (2, 2, 0o34005)
           ∷ (2, 3, 0o32000) ∷ (2, 5, 1) ∷ (2, 6, 0o34005) ∷ [],
     )
+    ∷ (
+      codes " LXCH 0 -1; CA 0 -1; CAF 1 -2; DXCH 0 -1; CS 5 -5; INDEX 0 -2",
+      (2, 0, 0o21777) ∷ (2, 1, 0o27777) ∷ (2, 2, 0o27777)
+          ∷ (2, 3, 0o52000) ∷ (2, 4, 0o40000) ∷ (2, 5, 0o47776) ∷ [],
+    )
     ∷ (codes " -DNCHAN 30; DEC* -1 B-14*; 2DEC 5 B-28*", (2, 0, 0o43747) ∷ (2, 1, 0o77776) ∷ (2, 2, 0) ∷ (2, 3, 5) ∷ [])
     ∷ (codes " 2DEC* 3.986032 E10 B-36*; 2DEC* 5", (2, 0, 0o22437) ∷ (2, 1, 0o16067) ∷ (2, 2, 0) ∷ (2, 3, 5) ∷ [])
     ∷ (codes " OCT -20000; OCTAL +5; OCT -0; OCT 5", (2, 0, 0o57777) ∷ (2, 1, 5) ∷ (2, 2, 0o77777) ∷ (2, 3, 5) ∷ [])
@@ -171,6 +176,10 @@ faulty =
     ∷ (codes " 2DEC* .5 B-1**", 1, BadOperand)
     ∷ (codes " 2DEC* .5 E1*", 1, BadOperand)
     ∷ (codes " -DNCHAN 1000", 1, WrongKindOfAddress)
+    ∷ (codes " TC 0 -1", 1, OutOfRange)
+    ∷ (codes " CA 0 -2000", 1, OutOfRange)
+    ∷ (codes " ECADR 0 -1", 1, OutOfRange)
+    ∷ (codes " TCF 0 -1", 1, OutOfRange)
     ∷ (codes " CAF X;X EQUALS 5", 1, WrongKindOfAddress)
     ∷ (codes "X CHECK= 5;X OCT 1", 2, TwiceDefined)
     ∷ (codes " 2DEC .5 E1 B-1 B-1", 1, BadOperand)
