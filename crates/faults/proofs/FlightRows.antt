@@ -208,7 +208,7 @@ lines_with_causes =
     ∷ ((codes " DNCHAN 1000", WrongKindOfAddress), (codes "DNCHAN takes a channel, 0 to 777, and 1000 is none", []))
     ∷ ((codes " -CADR 100", WrongKindOfAddress), (codes "-CADR takes a fixed place, and 100 is none", []))
     ∷ ((codes " -CCS X", WrongKindOfAddress), (codes "-CCS takes a word of erasable memory, and X is not there", []))
-    ∷ ((codes " LXCH 0 -1", OutOfRange), (codes "an address below 0 is not taken: what yaYUL makes of it is not known for sure", []))
+    ∷ ((codes " TC 0 -1", OutOfRange), (codes "an address below 0 is not taken: what yaYUL makes of it is not known for sure", []))
     ∷ ((codes " TC X -1", OutOfRange), (codes "this leads out of its bank, or of the numbers", []))
     ∷ (
       (codes " TC 14000", OutOfRange),
