@@ -161,7 +161,6 @@ lines_with_causes =
       ),
     )
     ∷ ((codes " SBANK= X", UnknownOperator), (codes "SBANK= is not taken: what yaYUL makes of it is not known for sure", []))
-    ∷ ((codes "Y CHECK= X", UnknownOperator), (codes "CHECK= is not taken", codes "SYMBOLS in the listing has the values of Y and X"))
     ∷ ((codes " TFC LOOP", UnknownOperator), (codes "TFC is no operator", codes "did you mean TCF?"))
     ∷ ((codes "-LONGNAME OCT 1", BadLabel), (codes "-LONGNAME has more than 8 characters, the most of a label", []))
     ∷ ((codes "+ OCT 1", BadLabel), (codes "+ is a sign alone, and no label", []))
@@ -175,19 +174,13 @@ lines_with_causes =
     )
     ∷ ((codes " BANK", BadOperand), (codes "BANK without a bank goes on in that of the location, which is in erasable memory", []))
     ∷ (
-      (codes " 2DEC 5", BadOperand),
+      (codes "+3 2DEC 5 E3", BadOperand),
       (
-        codes "2DEC without a point and without B is not taken: what yaYUL makes of it is not known for sure",
-        codes "B-28 behind 5 makes 5 the lower word",
+        codes "digits with E need a point or B: whether yaYUL makes a whole number of them or a fraction is not known for sure",
+        codes "B-28 last makes a whole number of two words, B-14 of one",
       ),
     )
-    ∷ (
-      (codes "+3 2DEC 5 B-36*", BadOperand),
-      (
-        codes "a scale with a star is not taken: what yaYUL makes of it is not known for sure",
-        codes "work the constant out, and write it by OCT",
-      ),
-    )
+    ∷ ((codes " 2DEC* 5 B-36**", BadOperand), (codes "this is no decimal constant, as .75, 5 B-14 and 1.5 E3 B-14 are", []))
     ∷ ((codes " DEC 5 B", BadOperand), (codes "this is no decimal constant, as .75, 5 B-14 and 1.5 E3 B-14 are", []))
     ∷ (
       (codes " OCT -9", BadOperand),
@@ -206,13 +199,6 @@ lines_with_causes =
       (codes "Y has no value: no line defines it, or names wait for one another in a circle, or in a chain of more than eight", []),
     )
     ∷ ((codes " SETLOC Y", UsedTooEarly), (codes "SETLOC needs the value of Y here, and no earlier line defines it", []))
-    ∷ (
-      (codes " CAF 0", WrongKindOfAddress),
-      (
-        codes "CAF of an erasable place is not taken: what yaYUL makes of it is not known for sure",
-        codes "CA 0",
-      ),
-    )
     ∷ ((codes " CAF X", WrongKindOfAddress), (codes "CAF takes a fixed place, and X is none", []))
     ∷ (
       (codes " BBCON X", WrongKindOfAddress),
@@ -222,7 +208,7 @@ lines_with_causes =
     ∷ ((codes " DNCHAN 1000", WrongKindOfAddress), (codes "DNCHAN takes a channel, 0 to 777, and 1000 is none", []))
     ∷ ((codes " -CADR 100", WrongKindOfAddress), (codes "-CADR takes a fixed place, and 100 is none", []))
     ∷ ((codes " -CCS X", WrongKindOfAddress), (codes "-CCS takes a word of erasable memory, and X is not there", []))
-    ∷ ((codes " LXCH 0 -1", OutOfRange), (codes "an address below 0 is not taken: what yaYUL makes of it is not known for sure", []))
+    ∷ ((codes " TC 0 -1", OutOfRange), (codes "an address below 0 is not taken: what yaYUL makes of it is not known for sure", []))
     ∷ ((codes " TC X -1", OutOfRange), (codes "this leads out of its bank, or of the numbers", []))
     ∷ (
       (codes " TC 14000", OutOfRange),
@@ -243,7 +229,7 @@ unfolding cause_of_kind runs operators digits roles flight_roles
 each_cause = refl
 
 -- none is one that is not taken
-none_is_one : list_any (λ name. is_some (flight_operator name)) (codes "CHECK=" ∷ map (λ e. e.0) unsure_operators) ≡ false
+none_is_one : list_any (λ name. is_some (flight_operator name)) (map (λ e. e.0) unsure_operators) ≡ false
 unfolding operators flight_operators
 none_is_one = refl
 
@@ -256,7 +242,9 @@ cure_row r = cure_text (parts_for Standard r.0) [] (told_cause Standard false r.
 abbrev lines_with_cures : List ((List ℕ × FaultKind) × List ℕ)
 lines_with_cures =
     ((codes " 2DEC .5", UnknownOperator), codes "      = two words: a DEC for each; with --flight this is taken\n")
-    ∷ ((codes " 2DEC 5", UnknownOperator), codes "      = two words: a DEC for each\n")
+    ∷ ((codes " 2DEC 5", UnknownOperator), codes "      = two words: a DEC for each; with --flight this is taken\n")
+    ∷ ((codes " 2DEC 5 E3", UnknownOperator), codes "      = two words: a DEC for each\n")
+    ∷ ((codes " CHECK= X", UnknownOperator), codes "      = with --flight this is taken\n")
     ∷ ((codes " COUNT* $$/EXEC", UnknownOperator), codes "      = with --flight this is taken\n")
     ∷ ((codes "+3 OCT 1", BadLabel), codes "      = with --flight this is taken\n")
     ∷ (

@@ -3,7 +3,7 @@
 use Rattle.std.specs.Prelude.{ℕ, ◌&&◌, not, Bool, true, false, nat_le, nat_lt, List, [], ◌∷◌, codes, is_some, unwrap_or, if◌then◌else◌}
 use Rattle.std.specs.Option.{option_map_or}
 use Rattle.agc_text.specs.Digits.{digits_value}
-use Rattle.agc_text.specs.Tables.{same_name, value_in}
+use Rattle.agc_text.specs.Tables.{value_in}
 use Rattle.yayul.specs.Flight.{is_count}
 use Rattle.yayul.specs.FlightForms.{has_flight_form}
 use Rattle.yayul.specs.declared.faults.FaultKind.{FaultKind}
@@ -12,7 +12,7 @@ use Rattle.yayul.specs.declared.faults.FaultKind.TheVariants.{UsedTooEarly, Wron
 use Rattle.yayul.specs.declared.finding.Finding.{Finding}
 use Rattle.yayul.specs.declared.language.Language.{Language}
 use Rattle.yayul.specs.declared.language.Language.TheVariants.{Flight, Standard}
-use Rattle.faults.specs.Roles.{is_count_complement, is_decimal_pair, is_equals, is_erase, is_octal, is_octal_pair, is_read_fixed}
+use Rattle.faults.specs.Roles.{is_count_complement, is_equals, is_erase, is_octal, is_octal_pair}
 use Rattle.faults.specs.Roles.{is_verb_noun, names_bank, refuses_label, takes_decimal, takes_low_bank}
 use Rattle.yayul.specs.Readings.{Parts}
 use Rattle.faults.specs.Causes.{Cause, begins, cured, fault_cause, has_foreign_comment, holds, is_signed, said, symbol_cause, text_of}
@@ -29,17 +29,11 @@ unsure_operators =
     ∷ (codes "2FCADR", codes "OCT makes a word")
     ∷ (codes "2BCADR", codes "OCT makes a word")
     ∷ (codes "BBCON*", codes "OCT makes a word")
-    ∷ (codes "DEC*", codes "OCT makes a word")
-    ∷ (codes "2DEC*", codes "OCT makes a word")
     ∷ (codes "=ECADR", codes "EQUALS gives & a value")
     ∷ (codes "=MINUS", codes "EQUALS gives & a value")
     ∷ (codes "=PLUS", codes "EQUALS gives & a value")
     ∷ (codes "SBANK=", [])
     ∷ []
-
--- that which compares
-abbrev pub compares : Parts → Bool
-compares parts = same_name (text_of parts.operator) (codes "CHECK=")
 
 -- ## Causes
 -- E13: a label that has a sign and no name's form
@@ -51,14 +45,16 @@ signed_label_cause parts =
 abbrev pub has_signed_label : Parts → Bool
 has_signed_label parts = is_signed (text_of parts.label) && not (refuses_label parts.role) && not (holds 0o44 (text_of parts.label))
 
+-- decimal digits, and an `E` after them
+abbrev pub has_ten_alone : Parts → Bool
+has_ten_alone parts = is_some (digits_value 10 (text_of parts.operand)) && begins 0o105 (text_of parts.offset)
+
 -- E16 of a decimal constant
 abbrev pub decimal_cause : Parts → Cause
 decimal_cause parts =
-    if holds 0o52 (text_of parts.offset) then cured (codes "a scale with a star is not taken: what yaYUL makes of it is not known for sure")
-    (codes "work the constant out, and write it by OCT")
-    else if is_decimal_pair parts.role && is_some (digits_value 10 (text_of parts.operand)) && not (is_some parts.offset) then
-    cured (codes "2DEC without a point and without B is not taken: what yaYUL makes of it is not known for sure")
-    (codes "B-28 behind @ makes @ the lower word")
+    if has_ten_alone parts then
+    cured (codes "digits with E need a point or B: whether yaYUL makes a whole number of them or a fraction is not known for sure")
+    (codes "B-28 last makes a whole number of two words, B-14 of one")
     else said (codes "this is no decimal constant, as .75, 5 B-14 and 1.5 E3 B-14 are")
 
 -- an operator that takes octal digits, without an offset
@@ -100,9 +96,7 @@ waiting_cause near parts = symbol_cause
 -- E25 of operators that flight sources alone have
 abbrev pub flight_kind_cause : Bool → List ℕ → Parts → Finding → Cause
 flight_kind_cause near text parts f =
-    if is_read_fixed parts.role && is_some (digits_value 8 (text_of parts.operand)) then
-    cured (codes "CAF of an erasable place is not taken: what yaYUL makes of it is not known for sure") (codes "CA @")
-    else if takes_low_bank parts.role then said
+    if takes_low_bank parts.role then said
     (codes "% takes a fixed place of a bank below 30, and @^ is none: what yaYUL adds from bank 30 on is not known for sure")
     else if is_count_complement parts.role then said (codes "% takes a word of erasable memory, and @^ is not there")
     else fault_cause near text parts f
@@ -136,7 +130,6 @@ flight_operator_cause near text parts f =
     if is_some (value_in unsure_operators (text_of parts.operator)) then
     cured (codes "% is not taken: what yaYUL makes of it is not known for sure")
     (unwrap_or (value_in unsure_operators (text_of parts.operator)) [])
-    else if compares parts then cured (codes "% is not taken") (codes "SYMBOLS in the listing has the values of & and @")
     else fault_cause near text parts f
 
 -- E18: a symbol that has no value where it is asked for

@@ -71,11 +71,6 @@ abbrev pub is_decimal : Option Role → Bool
 is_decimal (Some Role.Decimal) = true
 is_decimal _ = false
 
--- a decimal constant of two words
-abbrev pub is_decimal_pair : Option Role → Bool
-is_decimal_pair (Some Role.DecimalPair) = true
-is_decimal_pair _ = false
-
 -- a decimal constant
 abbrev pub takes_decimal : Option Role → Bool
 takes_decimal (Some Role.Decimal) = true
@@ -147,11 +142,6 @@ takes_low_bank _ = false
 abbrev pub is_count_complement : Option Role → Bool
 is_count_complement (Some Role.CountComplement) = true
 is_count_complement _ = false
-
--- it reads a word of fixed memory
-abbrev pub is_read_fixed : Option Role → Bool
-is_read_fixed (Some Role.ReadFixed) = true
-is_read_fixed _ = false
 
 -- it goes on at an address of fixed memory, or may
 abbrev pub leads_to_fixed : Option Role → Bool

@@ -2,7 +2,7 @@
 
 ghost use Rattle.std.specs.Prelude.{◌≡◌};
 ghost use Rattle.yayul.specs.Readings.{parts_in};
-ghost use Rattle.faults.specs.FlightCauses.{unsure_operators, compares, form_cause, signed_label_cause};
+ghost use Rattle.faults.specs.FlightCauses.{unsure_operators, form_cause, has_ten_alone, signed_label_cause};
 ghost use Rattle.faults.specs.FlightCauses.{has_signed_label, has_octal_alone, has_signed_alone, decimal_cause};
 ghost use Rattle.faults.specs.FlightCauses.{flight_operand_cause, flight_label_cause, flight_operator_cause};
 ghost use Rattle.faults.specs.FlightCauses.{flight_early_cause, waiting_cause, flight_kind_cause, is_moved_back};
@@ -17,8 +17,8 @@ use crate::causes::{
 };
 use crate::names::is_short;
 use crate::roles::{
-    is_count_complement, is_decimal_pair, is_equals, is_erase, is_octal, is_octal_pair,
-    is_read_fixed, is_verb_noun, names_bank, refuses_label, takes_decimal, takes_low_bank,
+    is_count_complement, is_equals, is_erase, is_octal, is_octal_pair, is_verb_noun, names_bank,
+    refuses_label, takes_decimal, takes_low_bank,
 };
 use agc_text::{Number, decimal_value, octal_value};
 use yayul::{FaultKind, Finding, Language, Reading, has_flight_form, is_count};
@@ -132,11 +132,6 @@ fn flight_operator_cause(near: bool, text: &[u8], parts: &Reading<'_>, finding: 
             b"% is not taken: what yaYUL makes of it is not known for sure",
             cure,
         )
-    } else if compares(parts) {
-        Cause::cured(
-            b"% is not taken",
-            b"SYMBOLS in the listing has the values of & and @",
-        )
     } else {
         fault_cause(text, parts, near, finding)
     }
@@ -172,22 +167,22 @@ fn has_signed_label(parts: &Reading<'_>) -> bool
         && !holds(b'$', text_of(parts.label))
 }
 
+// Decimal digits, and an `E` after them.
+fn has_ten_alone(parts: &Reading<'_>) -> bool
+    ensures { result ≡ has_ten_alone (parts_in parts.now) }
+{
+    decimal_value(text_of(parts.operand)).is_some() && begins(b'E', text_of(parts.offset))
+}
+
 // E16 of a decimal constant.
 fn decimal_cause(parts: &Reading<'_>) -> Cause
     ensures { cause_in result ≡ decimal_cause (parts_in parts.now) }
 {
-    if holds(b'*', text_of(parts.offset)) {
+    if has_ten_alone(parts) {
         Cause::cured(
-            b"a scale with a star is not taken: what yaYUL makes of it is not known for sure",
-            b"work the constant out, and write it by OCT",
-        )
-    } else if is_decimal_pair(parts.role)
-        && decimal_value(text_of(parts.operand)).is_some()
-        && parts.offset.is_none()
-    {
-        Cause::cured(
-            b"2DEC without a point and without B is not taken: what yaYUL makes of it is not known for sure",
-            b"B-28 behind @ makes @ the lower word",
+            b"digits with E need a point or B: whether yaYUL makes a whole number of them or a fraction is not known for \
+                sure",
+            b"B-28 last makes a whole number of two words, B-14 of one",
         )
     } else {
         Cause::said(b"this is no decimal constant, as .75, 5 B-14 and 1.5 E3 B-14 are")
@@ -268,12 +263,7 @@ fn waiting_cause(near: bool, parts: &Reading<'_>) -> Cause
 fn flight_kind_cause(near: bool, text: &[u8], parts: &Reading<'_>, finding: &Finding) -> Cause
     ensures { cause_in result ≡ flight_kind_cause near text.now (parts_in parts.now) finding.now }
 {
-    if is_read_fixed(parts.role) && octal_value(text_of(parts.operand)).is_some() {
-        Cause::cured(
-            b"CAF of an erasable place is not taken: what yaYUL makes of it is not known for sure",
-            b"CA @",
-        )
-    } else if takes_low_bank(parts.role) {
+    if takes_low_bank(parts.role) {
         Cause::said(
             b"% takes a fixed place of a bank below 30, and @^ is none: what yaYUL adds from bank 30 on is not known \
                 for sure",
@@ -324,14 +314,7 @@ fn is_between_banks(parts: &Reading<'_>) -> bool
     is_between && parts.offset.is_none()
 }
 
-// That which compares.
-fn compares(parts: &Reading<'_>) -> bool
-    ensures { result ≡ compares (parts_in parts.now) }
-{
-    text_of(parts.operator) == b"CHECK=".as_slice()
-}
-
-const UNSURE_OPERATORS: [(&str, &str); 13] = [
+const UNSURE_OPERATORS: [(&str, &str); 11] = [
     ("MM", "OCT makes a word"),
     ("EDRUPT", "OCT makes a word"),
     ("DNPTR", "OCT makes a word"),
@@ -339,8 +322,6 @@ const UNSURE_OPERATORS: [(&str, &str); 13] = [
     ("2FCADR", "OCT makes a word"),
     ("2BCADR", "OCT makes a word"),
     ("BBCON*", "OCT makes a word"),
-    ("DEC*", "OCT makes a word"),
-    ("2DEC*", "OCT makes a word"),
     ("=ECADR", "EQUALS gives & a value"),
     ("=MINUS", "EQUALS gives & a value"),
     ("=PLUS", "EQUALS gives & a value"),

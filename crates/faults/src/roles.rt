@@ -2,8 +2,8 @@
 
 ghost use Rattle.std.specs.Prelude.{◌≡◌};
 ghost use Rattle.faults.specs.Roles.{leads_on_to, subtracts, gives_two, is_block, is_constant, is_count_complement};
-ghost use Rattle.faults.specs.Roles.{is_decimal, is_decimal_pair, is_equals, is_erase, is_index, is_leaving, is_octal};
-ghost use Rattle.faults.specs.Roles.{is_octal_pair, is_read_fixed, is_setloc, is_verb_noun, keeps_location};
+ghost use Rattle.faults.specs.Roles.{is_decimal, is_equals, is_erase, is_index, is_leaving, is_octal};
+ghost use Rattle.faults.specs.Roles.{is_octal_pair, is_setloc, is_verb_noun, keeps_location};
 ghost use Rattle.faults.specs.Roles.{leads_to_fixed, moves_location, names_bank, reads, reads_erasable, reads_word};
 ghost use Rattle.faults.specs.Roles.{refuses_label, sets_bank, stores, takes_channel, takes_decimal};
 ghost use Rattle.faults.specs.Roles.{takes_erasable_place, takes_fixed_place, takes_low_bank, takes_nothing};
@@ -101,13 +101,6 @@ pub(crate) fn is_decimal(role: Option<Role>) -> bool
     matches!(role, Some(Role::Decimal))
 }
 
-/// A decimal constant of two words.
-pub(crate) fn is_decimal_pair(role: Option<Role>) -> bool
-    ensures { result ≡ is_decimal_pair role }
-{
-    matches!(role, Some(Role::DecimalPair))
-}
-
 /// A decimal constant.
 pub(crate) fn takes_decimal(role: Option<Role>) -> bool
     ensures { result ≡ takes_decimal role }
@@ -197,13 +190,6 @@ pub(crate) fn is_count_complement(role: Option<Role>) -> bool
     ensures { result ≡ is_count_complement role }
 {
     matches!(role, Some(Role::CountComplement))
-}
-
-/// It reads a word of fixed memory.
-pub(crate) fn is_read_fixed(role: Option<Role>) -> bool
-    ensures { result ≡ is_read_fixed role }
-{
-    matches!(role, Some(Role::ReadFixed))
 }
 
 /// It goes on at an address of fixed memory, or may.

@@ -76,6 +76,7 @@ flight_many here scales (Some (FlightOperator.Decimal precision)) a b c d more o
 flight_many here scales (Some (FlightOperator.Complemented code)) a b c d more others = refl
 flight_many here scales (Some FlightOperator.FarComplement) a b c d more others = refl
 flight_many here scales (Some FlightOperator.BankWord) a b c d more others = refl
+flight_many here scales (Some FlightOperator.ReadFixed) a b c d more others = refl
 flight_many here scales (Some (FlightOperator.Standard operator)) a b c d more others = standard_many operator a b c d more others
 
 -- an operator says with fields what it says with the pieces after it

@@ -31,7 +31,7 @@ good = (
   (2, 0, 5) ∷ (2, 1, 6) ∷ (2, 2, 0o52006) ∷ (2, 3, 1)
       ∷ (2, 4, 0o34004) ∷ [],
 )
-    ∷ (codes " COUNT* $$/EXEC; COUNT 05; BNKSUM 05; SUBRO; MEMORY 120000 - 167777; OCT 1", (2, 0, 1) ∷ [])
+    ∷ (codes " COUNT* $$/EXEC; COUNT 05; BNKSUM 05; SUBRO; MEMORY 120000 - 167777; CHECK= X +5; OCT 1", (2, 0, 1) ∷ [])
     ∷ (
       codes " SETLOC 4005;X EQUALS;Y =; OCT 1; CA X; CA Y;Z EQUALS X +1; CA Z",
       (2, 5, 1) ∷ (2, 6, 0o34005) ∷ (2, 7, 0o34005)
@@ -49,6 +49,18 @@ good = (
       (2, 0, 0o00100) ∷ (2, 1, 0o04400)
           ∷ (2, 2, 0o10400) ∷ (2, 3, 0o14400) ∷ (2, 4, 0o20400) ∷ (2, 5, 0o24154) ∷ (2, 6, 0o34030) ∷ [],
     )
+    ∷ (
+      codes " CAF 0; CAF 1777 +1; CAF 4005; CAF 12000; SETLOC 4005;X OCT 1; CAF X",
+      (2, 0, 0o30000) ∷ (2, 1, 0o32000) ∷ (2, 2, 0o34005)
+          ∷ (2, 3, 0o32000) ∷ (2, 5, 1) ∷ (2, 6, 0o34005) ∷ [],
+    )
+    ∷ (
+      codes " LXCH 0 -1; CA 0 -1; CAF 1 -2; DXCH 0 -1; CS 5 -5; INDEX 0 -2",
+      (2, 0, 0o21777) ∷ (2, 1, 0o27777) ∷ (2, 2, 0o27777)
+          ∷ (2, 3, 0o52000) ∷ (2, 4, 0o40000) ∷ (2, 5, 0o47776) ∷ [],
+    )
+    ∷ (codes " -DNCHAN 30; DEC* -1 B-14*; 2DEC 5 B-28*", (2, 0, 0o43747) ∷ (2, 1, 0o77776) ∷ (2, 2, 0) ∷ (2, 3, 5) ∷ [])
+    ∷ (codes " 2DEC* 3.986032 E10 B-36*; 2DEC* 5", (2, 0, 0o22437) ∷ (2, 1, 0o16067) ∷ (2, 2, 0) ∷ (2, 3, 5) ∷ [])
     ∷ (codes " OCT -20000; OCTAL +5; OCT -0; OCT 5", (2, 0, 0o57777) ∷ (2, 1, 5) ∷ (2, 2, 0o77777) ∷ (2, 3, 5) ∷ [])
     ∷ (codes " 2OCT 0000500000; 2OCT 1234567012", (2, 0, 5) ∷ (2, 1, 0) ∷ (2, 2, 0o12345) ∷ (2, 3, 0o67012) ∷ [])
     ∷ (
@@ -60,6 +72,11 @@ good = (
       codes " 2DEC .57735027; 2DEC 1738090 B-29; 2DEC -.1; 2DEC 3.986032 E10 B-36",
       (2, 0, 0o22363) ∷ (2, 1, 0o11643) ∷ (2, 2, 0o65)
           ∷ (2, 3, 0o1265) ∷ (2, 4, 0o74631) ∷ (2, 5, 0o63145) ∷ (2, 6, 0o22437) ∷ (2, 7, 0o16067) ∷ [],
+    )
+    ∷ (
+      codes " 2DEC 60000; 2DEC -1; 2DEC +268435455",
+      (2, 0, 3) ∷ (2, 1, 0o25140) ∷ (2, 2, 0o77777) ∷ (2, 3, 0o77776)
+          ∷ (2, 4, 0o37777) ∷ (2, 5, 0o37777) ∷ [],
     )
     ∷ (codes " VN 0633; VN 9999; VN 0000", (2, 0, 0o1441) ∷ (2, 1, 0o30743) ∷ (2, 2, 0) ∷ [])
     ∷ (
@@ -152,9 +169,19 @@ faulty =
     ∷ (codes " OCT -100000", 1, OutOfRange)
     ∷ (codes " 2OCT 123", 1, BadOperand)
     ∷ (codes " 2DEC", 1, BadOperand)
-    ∷ (codes " 2DEC 2160000", 1, BadOperand)
+    ∷ (codes " 2DEC 268435456", 1, OutOfRange)
+    ∷ (codes " 2DEC 5 E3", 1, BadOperand)
     ∷ (codes " DEC 5 E3", 1, BadOperand)
     ∷ (codes " 2DEC .5 B-1 E1", 1, BadOperand)
+    ∷ (codes " 2DEC* .5 B-1**", 1, BadOperand)
+    ∷ (codes " 2DEC* .5 E1*", 1, BadOperand)
+    ∷ (codes " -DNCHAN 1000", 1, WrongKindOfAddress)
+    ∷ (codes " TC 0 -1", 1, OutOfRange)
+    ∷ (codes " CA 0 -2000", 1, OutOfRange)
+    ∷ (codes " ECADR 0 -1", 1, OutOfRange)
+    ∷ (codes " TCF 0 -1", 1, OutOfRange)
+    ∷ (codes " CAF X;X EQUALS 5", 1, WrongKindOfAddress)
+    ∷ (codes "X CHECK= 5;X OCT 1", 2, TwiceDefined)
     ∷ (codes " 2DEC .5 E1 B-1 B-1", 1, BadOperand)
     ∷ (codes " 2DEC .5 E12", 1, BadOperand)
     ∷ (codes " 2DEC 1 B-51", 1, BadOperand)
@@ -220,9 +247,10 @@ each_refused = refl
 -- lines whose form the language takes, whatever their symbols are; most of them the standard language refuses
 abbrev taken_forms : List (List ℕ)
 taken_forms =
-    codes "+3 OCT 1" ∷ codes " +3 OCT 1" ∷ codes " -1" ∷ codes " COUNT* $$/EXEC" ∷ codes " BNKSUM 05" ∷ codes " SUBRO X"
+    codes " CHECK= X" ∷ codes " -DNCHAN 34" ∷ codes " 2DEC* 1.5 B-2*" ∷ codes " DEC* .5"
+    ∷ codes "+3 OCT 1" ∷ codes " +3 OCT 1" ∷ codes " -1" ∷ codes " COUNT* $$/EXEC" ∷ codes " BNKSUM 05" ∷ codes " SUBRO X"
     ∷ codes " MEMORY 120000 - 167777" ∷ codes "TAG EQUALS" ∷ codes "N = M" ∷
-    codes " BANK" ∷ codes " BLOCK" ∷ codes " BANK 77777" ∷ codes " 2DEC .57735027" ∷ codes " DEC 1.0 E4 B-14" ∷ codes " 1DNADR X"
+    codes " BANK" ∷ codes " BLOCK" ∷ codes " BANK 77777" ∷ codes " 2DEC .57735027" ∷ codes " 2DEC 5" ∷ codes " DEC 1.0 E4 B-14" ∷ codes " 1DNADR X"
     ∷ codes " -6DNADR 154" ∷ codes " BBCON X" ∷ codes " GENADR X" ∷
     codes " VN 0633" ∷ codes " DNCHAN 34" ∷ codes "-PHASE1 ERASE" ∷ codes " OCT -20000" ∷ codes " OCTAL 37777" ∷ codes " 2OCT 0000500000"
     ∷ codes " AD -MAXADRS" ∷ codes "X CA FIVE +1 # it" ∷
@@ -235,7 +263,7 @@ all_are_taken = refl
 -- and lines whose form it does not take
 abbrev refused_forms : List (List ℕ)
 refused_forms =
-    codes " MM 37" ∷ codes " 2DEC 5" ∷ codes " 2DEC 1.5" ∷ codes " DEC 16384" ∷ codes " OCT -100000" ∷ codes " FROB" ∷ codes " OCT 9"
+    codes " MM 37" ∷ codes " 2DEC 5 E3" ∷ codes " 2DEC 1.5" ∷ codes " DEC 16384" ∷ codes " OCT -100000" ∷ codes " FROB" ∷ codes " OCT 9"
     ∷ codes " EQUALS 5" ∷ codes "X BANK 5" ∷ codes "X BANK" ∷ codes "X SETLOC 4000" ∷ codes "X EBANK= 100" ∷ codes " SETLOC" ∷
     codes " ERASE 0 - 7" ∷ codes "$FILE.agc" ∷ codes "LONGLABEL CA X" ∷ codes " CA FIVE // it" ∷ codes " CA" ∷ codes " CALL"
     ∷ codes " TFC LOOP" ∷ codes " VN 12" ∷ (replicate 120 0o40 ++ codes "CA X") ∷ []

@@ -10,10 +10,10 @@ use Rattle.yayul.specs.Operators.{operators, addressed, code}
 use Rattle.yayul.specs.Forms.{is_sign, first_is, is_digits, greatest_number, alone, complemented, number_in, octal_in, with_form, shift_in}
 use Rattle.yayul.specs.Forms.{moved_by, operand_in, operation_of, label_in, statement_of}
 use Rattle.yayul.specs.Scales.{decimal_content}
-use Rattle.yayul.specs.Language.{Address, Addressed, All, Bank, BankRange, BankWord, Channel, Complemented, Constant, Constants, Content}
-use Rattle.yayul.specs.Language.{Ebank, Equals, ErasablePlace, FarAddress, FarComplement, FixedPlace, Flight, FlightOperator, Gives, Is}
-use Rattle.yayul.specs.Language.{Label, Language, Location, Minus, Missing, Named, Nine, No, NoForm, Nothing, Numeral, Octals, One, Operand}
-use Rattle.yayul.specs.Language.{Operation, Operator, PassedOver, Plus, Setloc, Shift, Standard, Statement, Ten, Term, Twelve, Two}
+use Rattle.yayul.specs.Language.{Address, Addressed, AddressedCode, All, Bank, BankRange, BankWord, Channel, Complemented, Constant, Constants, Content}
+use Rattle.yayul.specs.Language.{Ebank, Equals, ErasablePlace, FarAddress, FarComplement, FixedAddress, FixedPlace, Flight, FlightOperator, Gives, Is}
+use Rattle.yayul.specs.Language.{Label, Language, Location, Minus, Missing, Named, Nine, No, NoForm, Nothing, Numeral, Octals, One, Operand, Pair}
+use Rattle.yayul.specs.Language.{Operation, Operator, PassedOver, Plus, Setloc, Shift, Standard, Statement, Takes, Ten, Term, Twelve, Two}
 use Rattle.yayul.specs.Language.{TwoOrThree, Unknown, VerbNoun}
 
 abbrev pub is_flight : Language → Bool
@@ -111,12 +111,15 @@ flight_operators =
     ∷ (codes "BNKSUM", PassedOver)
     ∷ (codes "SUBRO", PassedOver)
     ∷ (codes "MEMORY", PassedOver)
+    ∷ (codes "CHECK=", PassedOver)
     ∷ (codes "OCT", FlightOperator.Octal)
     ∷ (codes "OCTAL", FlightOperator.Octal)
     ∷ (codes "2OCT", Octals)
     ∷ (codes "VN", VerbNoun)
     ∷ (codes "DEC", FlightOperator.Decimal One)
     ∷ (codes "2DEC", FlightOperator.Decimal Two)
+    ∷ (codes "DEC*", FlightOperator.Decimal One)
+    ∷ (codes "2DEC*", FlightOperator.Decimal Two)
     ∷ (codes "BBCON", FlightOperator.BankWord)
     ∷ (codes "-2CADR", FlightOperator.FarComplement)
     ∷ (codes "-CADR", FlightOperator.Complemented (code 0 Twelve No FixedPlace))
@@ -128,6 +131,8 @@ flight_operators =
     ∷ (codes "-4DNADR", FlightOperator.Complemented (code 0o14000 Twelve No ErasablePlace))
     ∷ (codes "-5DNADR", FlightOperator.Complemented (code 0o20000 Twelve No ErasablePlace))
     ∷ (codes "-6DNADR", FlightOperator.Complemented (code 0o24000 Twelve No ErasablePlace))
+    ∷ (codes "-DNCHAN", FlightOperator.Complemented (code 0o34000 Nine No Channel))
+    ∷ (codes "CAF", FlightOperator.ReadFixed)
     ∷ (codes "GENADR", FlightOperator.Standard (addressed 0 Twelve No Address))
     ∷ (codes "REMADR", FlightOperator.Standard (addressed 0 Twelve No Address))
     ∷ (codes "1DNADR", FlightOperator.Standard (addressed 0 Twelve No ErasablePlace))
@@ -184,12 +189,47 @@ abbrev pub scales_after : List ℕ → Option Piece → List (List ℕ)
 scales_after line None = []
 scales_after line (Some operand) = texts (fields (after_field line operand))
 
+-- ## Addresses below 0
+-- what a field holds that is an address of any memory, or the next one
+abbrev pub takes_any : Takes → Bool
+takes_any Address = true
+takes_any Pair = true
+takes_any _ = false
+
+-- a code that leads with the field 0 to so many words less
+abbrev pub less : AddressedCode → ℕ → AddressedCode
+less i count = record i { least = i.least - count }
+
+-- a code with an address that is so many below 0, fewer than 02000: they are taken from the code
+abbrev pub below_zero : AddressedCode → Operand → ℕ → Content
+below_zero i operand count =
+    if takes_any i.takes && nat_lt count 0o2000 && nat_le count i.least then
+    Addressed (less i count) (moved_by (Term.Number (Some 0)) (Plus (Some 0)))
+    else Addressed i operand
+
+-- a code with an operand, which may lie below the address 0
+abbrev pub addressed_content : AddressedCode → Operand → Term → Shift → Content
+addressed_content i operand (Term.Number (Some n)) (Minus (Some count)) =
+    if nat_lt n count then below_zero i operand (count - n) else Addressed i operand
+addressed_content i operand _ _ = Addressed i operand
+
+-- ## CAF
+-- what CAF takes: a number may be an address of erasable memory, as one that INDEX adds to is
+abbrev pub read_fixed_takes : Term → Takes
+read_fixed_takes (Term.Number n) = Address
+read_fixed_takes _ = FixedAddress
+
+-- the word of CAF
+abbrev pub fixed_reading : Operand → Content
+fixed_reading operand = addressed_content (code 0o30000 Twelve No (read_fixed_takes operand.term)) operand operand.term operand.shift
+
 -- what an operator of the standard language says with the fields after it
 abbrev pub standard_operation_of : Operator → List (List ℕ) → Operation
 standard_operation_of Operator.Setloc rest = Setloc (address_in rest)
 standard_operation_of Operator.Ebank rest = Ebank (address_in rest)
 standard_operation_of Operator.FarAddress rest = Gives (option_map FarAddress (address_in rest))
-standard_operation_of (Operator.Addressed code) rest = Gives (option_map (Addressed code) (address_in rest))
+standard_operation_of (Operator.Addressed i) rest =
+    Gives (option_map (λ operand. addressed_content i operand operand.term operand.shift) (address_in rest))
 standard_operation_of operator rest = operation_of (Some operator) rest
 
 -- what an operator says with the fields after it, where it stands at a location, and where these stand after its operand
@@ -206,6 +246,7 @@ flight_operation_of here scales (Some (FlightOperator.Decimal precision)) (text 
 flight_operation_of here scales (Some (FlightOperator.Complemented i)) rest = Gives (option_map (Complemented i) (address_in rest))
 flight_operation_of here scales (Some FlightOperator.FarComplement) rest = Gives (option_map FarComplement (address_in rest))
 flight_operation_of here scales (Some FlightOperator.BankWord) rest = Gives (option_map BankWord (address_in rest))
+flight_operation_of here scales (Some FlightOperator.ReadFixed) rest = Gives (option_map fixed_reading (address_in rest))
 flight_operation_of here scales (Some (FlightOperator.Standard operator)) rest = standard_operation_of operator rest
 
 -- ## Statements

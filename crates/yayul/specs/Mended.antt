@@ -4,7 +4,7 @@ use Rattle.agc_text.specs.Fields.{Piece, fields, others_of}
 use Rattle.agc_text.specs.Tables.{value_in}
 use Rattle.yayul.specs.Operators.{operators}
 use Rattle.yayul.specs.Forms.{moved_by, next_location}
-use Rattle.yayul.specs.Flight.{flight_operator, uncounted}
+use Rattle.yayul.specs.Flight.{fixed_reading, flight_operator, uncounted}
 use Rattle.yayul.specs.Language.{Addressed, BankWord, Complemented, Constant, Constants, Content, FarAddress, FarComplement, Flight}
 use Rattle.yayul.specs.Language.{FlightOperator, Gives, Language, Octals, One, Operand, Operation, Operator, Plain, Plus, Precision}
 use Rattle.yayul.specs.Language.{Standard, Term, Two, VerbNoun}
@@ -56,6 +56,7 @@ flight_words_of (FlightOperator.Decimal precision) = Some (decimal_words precisi
 flight_words_of (FlightOperator.Complemented code) = Some (Complemented code any_operand)
 flight_words_of FlightOperator.FarComplement = Some (FarComplement any_operand)
 flight_words_of FlightOperator.BankWord = Some (BankWord any_operand)
+flight_words_of FlightOperator.ReadFixed = Some (fixed_reading any_operand)
 flight_words_of (FlightOperator.Standard operator) = words_of operator
 flight_words_of _ = None
 

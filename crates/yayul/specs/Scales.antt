@@ -1,7 +1,7 @@
 -- Decimal constants of flight programs: with a point and powers of ten and of two, in one word or two.
-use Rattle.std.specs.Prelude.{ℕ, ◌+◌, ◌*◌, ◌/◌, ◌%◌, ◌^◌, ◌==◌, ◌||◌, Bool, true, false, nat_le, nat_lt, List, [], ◌∷◌, length, drop}
+use Rattle.std.specs.Prelude.{ℕ, ◌+◌, ◌-◌, ◌*◌, ◌/◌, ◌%◌, ◌^◌, ◌==◌, ◌&&◌, ◌||◌, not, Bool, true, false, nat_le, nat_lt, List, [], ◌∷◌, length, take, drop, slice_get}
 use Rattle.std.specs.Prelude.{Option, None, Some, is_some, option_map, option_and_then, if◌then◌else◌}
-use Rattle.std.specs.Option.{option_or}
+use Rattle.std.specs.Option.{option_map_or, option_or}
 use Rattle.words.specs.Numbers.{neg}
 use Rattle.agc_text.specs.Digits.{number_of}
 use Rattle.yayul.specs.Forms.{first_is, before_point, greatest_magnitude, decimal_in, with_form}
@@ -32,9 +32,17 @@ signed_power up down text =
 abbrev pub power_of_ten_in : List ℕ → Option Power
 power_of_ten_in text = if first_is (λ byte. byte == 0o105) text then signed_power 11 12 (drop 1 text) else None
 
--- a `B` and a power of two
+-- a star stands last
+abbrev pub ends_in_star : List ℕ → Bool
+ends_in_star text = option_map_or (λ byte. byte == 0o52) (slice_get text (length text - 1)) false
+
+-- a text without a star at its end
+abbrev pub without_star : List ℕ → List ℕ
+without_star text = if ends_in_star text then take (length text - 1) text else text
+
+-- a `B` and a power of two, perhaps with a star behind it
 abbrev pub power_of_two_in : List ℕ → Option Power
-power_of_two_in text = if first_is (λ byte. byte == 0o102) text then signed_power 24 50 (drop 1 text) else None
+power_of_two_in text = if first_is (λ byte. byte == 0o102) text then signed_power 24 50 (without_star (drop 1 text)) else None
 
 abbrev pub scaled_by : Power → Option Power → Scales
 scaled_by ten two = record { ten = ten; two = two }
@@ -48,6 +56,10 @@ scales_of (text ∷ []) =
 scales_of (first ∷ second ∷ []) = option_and_then (λ ten. option_map (λ two. scaled_by ten (Some two)) (power_of_two_in second))
     (power_of_ten_in first)
 scales_of _ = None
+
+-- the scales of a whole number in units of the lower of two words
+abbrev pub lower_word : Scales
+lower_word = scaled_by (raised 0) (Some (lowered 28))
 
 -- ## Quantities
 -- some digits in all, the last of which are decimals: below 10 ^ 11
@@ -107,9 +119,18 @@ words_of Two minus q scales = two_words minus (magnitude_of 28 q scales.ten (pow
 abbrev pub quantity_content : Precision → Bool → Quantity → Scales → Option Content
 quantity_content precision minus q scales = if q.pointed || is_some scales.two then Some (words_of precision minus q scales) else None
 
+abbrev pub no_field : List (List ℕ) → Bool
+no_field [] = true
+no_field (text ∷ rest) = false
+
+-- the scales beside a quantity: of one in two words that has no point, where none stand, those of a whole number
+abbrev pub scales_beside : Precision → Bool → List (List ℕ) → Option Scales
+scales_beside One pointed scales = scales_of scales
+scales_beside Two pointed scales = if no_field scales && not pointed then Some lower_word else scales_of scales
+
 abbrev pub magnitude_content : Precision → Bool → List ℕ → List (List ℕ) → Option Content
 magnitude_content precision minus text scales =
-    option_and_then (λ q. option_and_then (quantity_content precision minus q) (scales_of scales)) (quantity_in text)
+    option_and_then (λ q. option_and_then (quantity_content precision minus q) (scales_beside precision q.pointed scales)) (quantity_in text)
 
 -- a sign or none, a quantity and its scales
 abbrev pub scaled_content : Precision → List ℕ → List (List ℕ) → Option Content
@@ -117,10 +138,6 @@ scaled_content precision text scales =
     if first_is (λ byte. byte == 0o53) text then magnitude_content precision false (drop 1 text) scales
     else if first_is (λ byte. byte == 0o55) text then magnitude_content precision true (drop 1 text) scales
     else magnitude_content precision false text scales
-
-abbrev pub no_field : List (List ℕ) → Bool
-no_field [] = true
-no_field (text ∷ rest) = false
 
 -- a decimal constant of one word without scales, as in the standard language; else one with scales, or of two words
 abbrev pub decimal_content : Precision → List ℕ → List (List ℕ) → Option Content

@@ -9,18 +9,20 @@ ghost use Rattle.yayul.specs.Flight.{most_lines, measured, is_count, without_cou
 ghost use Rattle.yayul.specs.Flight.{flight_label_in, named_operand, flight_operand_in, is_pseudo_address};
 ghost use Rattle.yayul.specs.Flight.{pseudo_place, placed, with_place, address_in, flight_operators, flight_operator};
 ghost use Rattle.yayul.specs.Flight.{operand_or_here, scales_after, signed_octal_in, both, octals_in, verb_noun_in};
-ghost use Rattle.yayul.specs.Flight.{bank_at, bank_or_here, standard_operation_of, flight_operation_of};
+ghost use Rattle.yayul.specs.Flight.{addressed_content, bank_at, bank_or_here, below_zero, fixed_reading};
+ghost use Rattle.yayul.specs.Flight.{less, takes_any, standard_operation_of, flight_operation_of};
 ghost use Rattle.yayul.specs.Flight.{uncounted_statement};
 ghost use Rattle.yayul.specs.Forms.{alone};
 ghost use Rattle.yayul.specs.Scales.{decimal_content};
-ghost use Rattle.yayul.specs.Inside.Codes.{has_room, flight_has_room};
+ghost use Rattle.yayul.specs.Inside.Codes.{greatest_code, greatest_with_field, has_room, flight_has_room};
 ghost use Rattle.yayul.specs.Inside.Representation.{text_of, arguments_of, flight_operation_by};
 
 use crate::decimal::complemented;
 use crate::instruction::AddressedInstruction;
 use crate::language::{
-    BankRange, Content, DoubleWord, FlightOperator, Label, Language, Location, Numeral, Operand,
-    Operation, Operator, Precision, Shift, Statement, Term,
+    AddressedCode, BankRange, Bits, Content, DoubleWord, Extracode, FlightOperator, Label,
+    Language, Location, Numeral, Operand, Operation, Operator, Precision, Shift, Statement, Takes,
+    Term,
 };
 use crate::name::holds_dollar_sign;
 use crate::number::{begins_with_sign, is_digits, octal_in};
@@ -190,8 +192,82 @@ fn flight_operation_of(
             Some(operand) => Some(Content::BankWord(operand)),
             None => None,
         }),
+        Some(FlightOperator::ReadFixed) => Operation::Gives(match address_in(line) {
+            Some(operand) => Some(fixed_reading(operand)),
+            None => None,
+        }),
         Some(FlightOperator::Standard(operator)) => standard_operation_of(operator, line),
     }
+}
+
+/// The word of CAF: a number may be an address of erasable memory, as one that INDEX adds to is.
+pub(crate) fn fixed_reading(operand: Operand) -> Content
+    ensures { result ≡ fixed_reading operand }
+{
+    let takes = match &operand.term {
+        Term::Number(_) => Takes::Address,
+        Term::Named(_) | Term::Place(..) | Term::Here => Takes::FixedAddress,
+    };
+    let code = AddressedCode {
+        least: 0o30000,
+        bits: Bits::Twelve,
+        extracode: Extracode::No,
+        takes,
+    };
+    addressed_content(code, operand)
+}
+
+// A code with an operand, which may lie below the address 0.
+fn addressed_content(code: AddressedCode, operand: Operand) -> Content
+    requires { greatest_with_field code ≤ greatest_code }
+    ensures { result ≡ addressed_content code operand operand.term operand.shift }
+{
+    match (&operand.term, operand.shift) {
+        (Term::Number(Some(number)), Shift::Minus(Some(count)))
+            if number.to_u16() < count.to_u16() => {
+            let below = count.to_u16() - number.to_u16();
+            below_zero(code, operand, below)
+        }
+        _ => Content::Addressed(AddressedInstruction::new(code), operand),
+    }
+}
+
+// A code with an address that is so many below 0.
+fn below_zero(code: AddressedCode, operand: Operand, count: u16) -> Content
+    requires { greatest_with_field code ≤ greatest_code }
+    ensures { result ≡ below_zero code operand count }
+{
+    if takes_any(code.takes) && count < 0o2000 && count <= code.least {
+        let zero = Operand {
+            term: Term::Number(Some(Word::ZERO)),
+            shift: Shift::Plus(Some(Word::ZERO)),
+        };
+        Content::Addressed(AddressedInstruction::new(less(code, count)), zero)
+    } else {
+        Content::Addressed(AddressedInstruction::new(code), operand)
+    }
+}
+
+// A code that is so many words less.
+fn less(code: AddressedCode, count: u16) -> AddressedCode
+    requires fits { greatest_with_field code ≤ greatest_code }
+    requires least { count ≤ code.least }
+    ensures value { result ≡ less code count }
+    ensures fits { greatest_with_field result ≤ greatest_code }
+{
+    AddressedCode {
+        least: code.least - count,
+        bits: code.bits,
+        extracode: code.extracode,
+        takes: code.takes,
+    }
+}
+
+// Whether a field holds an address of any memory, or the next one.
+fn takes_any(takes: Takes) -> bool
+    ensures { result ≡ takes_any takes }
+{
+    matches!(takes, Takes::Address | Takes::Pair)
 }
 
 // What an operator of the standard language says with the fields after it.
@@ -207,7 +283,7 @@ fn standard_operation_of(operator: Operator, line: &Line<'_>) -> Operation
             None => None,
         }),
         Operator::Addressed(code) => Operation::Gives(match address_in(line) {
-            Some(operand) => Some(Content::Addressed(AddressedInstruction::new(code), operand)),
+            Some(operand) => Some(addressed_content(code, operand)),
             None => None,
         }),
         Operator::Bank(_)

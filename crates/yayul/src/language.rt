@@ -138,6 +138,8 @@ pub(crate) enum FlightOperator {
     FarComplement,
     /// Gives the second word of 2CADR.
     BankWord,
+    /// Gives the word of CAF, whose operand may be a number of any memory.
+    ReadFixed,
     /// What an operator of the standard language does.
     Standard(Operator),
 }

@@ -5,7 +5,7 @@ ghost use Rattle.yayul.specs.Mended.{counted_out, lacks_operand, any_operand, an
 ghost use Rattle.yayul.specs.Mended.{decimal_words, flight_words_of, given_by, lacks_form, mended};
 ghost use Rattle.yayul.specs.Inside.Codes.{has_room, flight_has_room};
 
-use crate::flight::uncounted;
+use crate::flight::{fixed_reading, uncounted};
 use crate::instruction::{AddressedInstruction, PlainInstruction};
 use crate::language::{
     Content, DoubleWord, FlightOperator, Language, Operand, Operation, Operator, Precision, Shift,
@@ -102,6 +102,7 @@ fn flight_words_of(operator: FlightOperator) -> Option<Content>
         )),
         FlightOperator::FarComplement => Some(Content::FarComplement(any_operand())),
         FlightOperator::BankWord => Some(Content::BankWord(any_operand())),
+        FlightOperator::ReadFixed => Some(fixed_reading(any_operand())),
         FlightOperator::Standard(operator) => words_of(operator),
         FlightOperator::PassedOver | FlightOperator::Equals | FlightOperator::Bank(_) => None,
     }

@@ -74,7 +74,7 @@ fn is_marked_decimal(text: &[u8]) -> bool
     }
 }
 
-fn without_last(text: &[u8]) -> &[u8]
+pub(crate) fn without_last(text: &[u8]) -> &[u8]
     ensures { result.now ≡ take (length text.now - 1) text.now }
 {
     &text[..text.len().saturating_sub(1)]

@@ -242,7 +242,7 @@ const ROWS_OF_SIX: [(&str, (Operator, Role)); 11] = [
 ];
 
 // Each operator that the standard language lacks, or has with fewer forms.
-const FLIGHT_ROWS: [(&str, (FlightOperator, Role)); 35] = [
+const FLIGHT_ROWS: [(&str, (FlightOperator, Role)); 40] = [
     row!("EQUALS", FlightOperator::Equals, Equals),
     row!("=", FlightOperator::Equals, Equals),
     row!("BANK", FlightOperator::Bank(BankRange::All), Bank),
@@ -252,12 +252,19 @@ const FLIGHT_ROWS: [(&str, (FlightOperator, Role)); 35] = [
     row!("BNKSUM", FlightOperator::PassedOver, Ignored),
     row!("SUBRO", FlightOperator::PassedOver, Ignored),
     row!("MEMORY", FlightOperator::PassedOver, Ignored),
+    row!("CHECK=", FlightOperator::PassedOver, Ignored),
     row!("OCT", FlightOperator::Octal, Octal),
     row!("OCTAL", FlightOperator::Octal, Octal),
     row!("2OCT", FlightOperator::Octals, OctalPair),
     row!("VN", FlightOperator::VerbNoun, VerbNoun),
     row!("DEC", FlightOperator::Decimal(Precision::One), Decimal),
     row!("2DEC", FlightOperator::Decimal(Precision::Two), DecimalPair),
+    row!("DEC*", FlightOperator::Decimal(Precision::One), Decimal),
+    row!(
+        "2DEC*",
+        FlightOperator::Decimal(Precision::Two),
+        DecimalPair
+    ),
     row!("BBCON", FlightOperator::BankWord, BankConstant),
     row!("-2CADR", FlightOperator::FarComplement, FarComplement),
     row!(
@@ -293,6 +300,12 @@ const FLIGHT_ROWS: [(&str, (FlightOperator, Role)); 35] = [
         complement!(0o24000, Twelve, ErasablePlace),
         Downlist
     ),
+    row!(
+        "-DNCHAN",
+        complement!(0o34000, Nine, Channel),
+        DownlistChannel
+    ),
+    row!("CAF", FlightOperator::ReadFixed, ReadFixed),
     row!(
         "GENADR",
         FlightOperator::Standard(constant!(Address)),

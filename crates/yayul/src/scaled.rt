@@ -5,10 +5,11 @@ ghost use Rattle.agc_text.specs.Fields.{texts, fields};
 ghost use Rattle.yayul.specs.Scales.{count_to, signed_power, power_of_ten_in, power_of_two_in, scales_of, raised};
 ghost use Rattle.yayul.specs.Scales.{quantity_of, whole_digits, pointed_in, quantity_in, nearest, power_or_none};
 ghost use Rattle.yayul.specs.Scales.{magnitude_of, signed_word, one_word, two_words, words_of, quantity_content};
-ghost use Rattle.yayul.specs.Scales.{magnitude_content, scaled_content, no_field, decimal_content};
+ghost use Rattle.yayul.specs.Scales.{magnitude_content, scaled_content, no_field, scales_beside, ends_in_star, without_star, decimal_content};
 
 use crate::decimal::{before_point, decimal_in};
 use crate::language::{Content, DoubleWord, Precision};
+use crate::number::without_last;
 use crate::statement::constant_of;
 use agc_text::{before_comment, decimal, split_field};
 use words::Word;
@@ -48,6 +49,12 @@ pub(crate) struct Quantity {
 
 const LEVEL: Power = Power { up: 0, down: 0 };
 
+/// The scales of a whole number in units of the lower of two words.
+const LOWER_WORD: Scales = Scales {
+    ten: LEVEL,
+    two: Some(Power { up: 0, down: 28 }),
+};
+
 // The content of a decimal constant: its text, and what follows it on its line. One word without scales is that of the
 // standard language.
 pub(crate) fn decimal_content(precision: Precision, text: &[u8], rest: &[u8]) -> Option<Content>
@@ -86,8 +93,28 @@ fn magnitude_content(precision: Precision, minus: bool, text: &[u8], rest: &[u8]
     ensures { result ≡ magnitude_content precision minus text.now (texts (fields rest.now)) }
 {
     let quantity = quantity_in(text)?;
-    let scales = scales_of(rest)?;
+    let scales = scales_beside(precision, quantity.pointed, rest)?;
     quantity_content(precision, minus, quantity, scales)
+}
+
+// The scales beside a quantity: of one in two words that has no point, where none stand, those of a whole number.
+fn scales_beside(precision: Precision, pointed: bool, rest: &[u8]) -> Option<Scales>
+    ensures value { result ≡ scales_beside precision pointed (texts (fields rest.now)) }
+    ensures ten_up { IfSome result (λ s. s.ten.up ≤ 11) }
+    ensures ten_down { IfSome result (λ s. s.ten.down ≤ 12) }
+    ensures two_up { IfSome result (λ s. (power_or_none s.two).up ≤ 24) }
+    ensures two_down { IfSome result (λ s. (power_or_none s.two).down ≤ 50) }
+{
+    match precision {
+        Precision::One => scales_of(rest),
+        Precision::Two => {
+            if has_no_field(rest) && !pointed {
+                Some(LOWER_WORD)
+            } else {
+                scales_of(rest)
+            }
+        }
+    }
 }
 
 // A quantity that has a point or a power of two.
@@ -367,6 +394,26 @@ fn one_scale(text: &[u8]) -> Option<Scales>
     })
 }
 
+// A text without a star at its end.
+fn without_star(text: &[u8]) -> &[u8]
+    ensures { result.now ≡ without_star text.now }
+{
+    if ends_in_star(text) {
+        without_last(text)
+    } else {
+        text
+    }
+}
+
+fn ends_in_star(text: &[u8]) -> bool
+    ensures { result ≡ ends_in_star text.now }
+{
+    match text.last() {
+        Some(byte) => *byte == b'*',
+        None => false,
+    }
+}
+
 // An `E` and a power of ten.
 fn power_of_ten_in(text: &[u8]) -> Option<Power>
     ensures value { result ≡ power_of_ten_in text.now }
@@ -379,14 +426,14 @@ fn power_of_ten_in(text: &[u8]) -> Option<Power>
     }
 }
 
-// A `B` and a power of two.
+// A `B` and a power of two, perhaps with a star behind it.
 fn power_of_two_in(text: &[u8]) -> Option<Power>
     ensures value { result ≡ power_of_two_in text.now }
     ensures up { IfSome result (λ p. p.up ≤ 24) }
     ensures down { IfSome result (λ p. p.down ≤ 50) }
 {
     match text {
-        [b'B', power @ ..] => signed_power(24, 50, power),
+        [b'B', power @ ..] => signed_power(24, 50, without_star(power)),
         _ => None,
     }
 }

@@ -52,4 +52,5 @@ flight_has_room (flight.Decimal precision) = true
 flight_has_room (flight.Complemented i) = nat_le (greatest_with_field i) greatest_code
 flight_has_room flight.FarComplement = true
 flight_has_room flight.BankWord = true
+flight_has_room flight.ReadFixed = true
 flight_has_room (flight.Standard operator) = has_room operator
