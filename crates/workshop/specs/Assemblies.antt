@@ -21,6 +21,9 @@ pub record Assembling : Type 0 where
   pub image : Writer
   pub listing : Writer
 
+abbrev pub assembling : Reader → Writer → Writer → Assembling
+assembling source image listing = record { source = source; image = image; listing = listing }
+
 -- where the image was written the listing is, and after a failed write nothing of it
 abbrev pub ListsThen : Program → Result (Unit {0}) WorkshopFault → Writer → Writer → Result (Unit {0}) WorkshopFault → Type 0
 ListsThen p (Ok x) before after result = WritesText (listing p) before after result

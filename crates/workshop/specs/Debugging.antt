@@ -22,7 +22,7 @@ use Rattle.yayul.specs.Program as Program
 use Rattle.yayul.specs.declared.language.Language.TheVariants.{Standard}
 use Rattle.workshop.specs.Failures.{Reader, Writer, has_read_failed, has_write_failed, failures_if}
 use Rattle.workshop.specs.Inputs.{scenario_of}
-use Rattle.workshop.specs.Loading.{Files, Loads}
+use Rattle.workshop.specs.Loading.{Files, Loads, program_and_feed}
 
 -- the session over a program and inputs that has made no step
 abbrev pub opened : Loaded → SessionView
@@ -59,6 +59,9 @@ pub record Debugging : Type 0 where
   pub files : Files
   pub commands : Reader
   pub out : Writer
+
+abbrev pub in_session : Reader → Reader → Reader → Writer → Debugging
+in_session program feed commands out = record { files = program_and_feed program feed; commands = commands; out = out }
 
 -- the commands are answered over a session that was opened: the transcript is written where the commands and what is written are
 -- told; and the reader of the commands or the writer has failed exactly where that is answered

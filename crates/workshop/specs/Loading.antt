@@ -58,6 +58,9 @@ pub record Files : Type 0 where
   pub program : Reader
   pub feed : Reader
 
+abbrev pub program_and_feed : Reader → Reader → Files
+program_and_feed program feed = record { program = program; feed = feed }
+
 -- where a program was read the feed is read, and after a fault nothing of it
 pub record LoadsFeed (code : Code) (before after : Reader) (result : Result Loaded WorkshopFault) : Type 0 where
   pub inputs : Result (List Entry) WorkshopFault

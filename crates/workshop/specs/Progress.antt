@@ -68,6 +68,9 @@ pub record Telling : Type 0 where
   pub out : Writer
   pub progress : Writer
 
+abbrev pub telling : Writer → Writer → Telling
+telling out progress = record { out = out; progress = progress }
+
 -- it is broken off in the step after those made: of a text that has so many steps, what is written has that of the steps made, and
 -- is a beginning of that with one more; and the steps made are told
 pub record TellsMade (text : ℕ → List ℕ) (steps : ℕ) (before after : Telling) : Type 0 where

@@ -48,6 +48,9 @@ pub record Showing : Type 0 where
   pub image : Reader
   pub out : Writer
 
+abbrev pub showing : Reader → Writer → Showing
+showing image out = record { image = image; out = out }
+
 -- an image is read, and what was read decides what is written
 pub record Shows (version : Version) (text : Words → List ℕ) (before after : Showing) (result : Result (Unit {0}) WorkshopFault) : Type 0
   where
@@ -66,6 +69,9 @@ pub record Comparing : Type 0 where
   pub old : Reader
   pub new : Reader
   pub out : Writer
+
+abbrev pub comparing : Reader → Reader → Writer → Comparing
+comparing old new out = record { old = old; new = new; out = out }
 
 -- where the first words were read an image is, and after a fault nothing of it, and nothing is written
 pub record ComparesNext (extent : Extent) (version : Version) (words : Words) (before after : Comparing) (result : Result ℕ WorkshopFault) :

@@ -14,9 +14,9 @@ use Rattle.workshop.specs.declared.fault.WorkshopFault.{WorkshopFault}
 use Rattle.workshop.specs.declared.fault.WorkshopFault.TheVariants.{WriteFailed}
 use Rattle.workshop.specs.declared.inputs.Loaded.{Loaded}
 use Rattle.workshop.specs.declared.origin.Origin.{Origin}
-use Rattle.workshop.specs.Failures.{Writer}
+use Rattle.workshop.specs.Failures.{Reader, Writer}
 use Rattle.workshop.specs.Inputs.{scenario_of}
-use Rattle.workshop.specs.Loading.{Files, Loads}
+use Rattle.workshop.specs.Loading.{Files, Loads, program_and_feed}
 
 -- the summary of a run: its steps, its cycles, how many outputs it has, and Z at its end
 abbrev pub summary_of : Scenario → ℕ → Summary
@@ -62,6 +62,9 @@ RunsThen steps (Err fault) before after result = (result ≡ Err fault) × (afte
 pub record Running : Type 0 where
   pub files : Files
   pub out : Writer
+
+abbrev pub running : Reader → Reader → Writer → Running
+running program feed out = record { files = program_and_feed program feed; out = out }
 
 -- a program and a feed are read, and what was read decides what runs
 pub record Runs (from : Origin) (steps : ℕ) (before after : Running) (result : Result Summary WorkshopFault) : Type 0 where

@@ -6,6 +6,7 @@ ghost use Rattle.align.specs.AlignTexts.{alignment_lines, found_lines};
 ghost use Rattle.align.specs.CarriedNames.{carried_lines};
 ghost use Rattle.workshop.specs.Aligning.{Aligns, Finds, TellsAligned, least_run};
 ghost use Rattle.workshop.specs.Failures.{reader, writer};
+ghost use Rattle.workshop.specs.Ropes.{comparing};
 
 use crate::fault::WorkshopFault;
 use crate::inputs::read_program;
@@ -33,18 +34,10 @@ pub fn align_engine<A: Read, B: Read, W: Write>(
     out: &mut W,
 ) -> Result<(), WorkshopFault>
     ensures { Aligns alignment_lines old_version new_version
-        (record {
-          old = reader A.told A.left A.failures old.old;
-          new = reader B.told B.left B.failures new.old;
-          out
-              = writer W.told W.written W.failures out.old;
-        })
-        (record {
-          old = reader A.told A.left A.failures old.new;
-          new = reader B.told B.left B.failures new.new;
-          out
-              = writer W.told W.written W.failures out.new;
-        }) last.new result }
+        (comparing (reader A.told A.left A.failures old.old) (reader B.told B.left B.failures new.old)
+        (writer W.told W.written W.failures out.old))
+        (comparing (reader A.told A.left A.failures old.new) (reader B.told B.left B.failures new.new)
+        (writer W.told W.written W.failures out.new)) last.new result }
 {
     *last = Compared::Old;
     let words = Rope::read(alloc, old, old_version)?;
@@ -66,18 +59,10 @@ pub fn carry_engine<A: Read, B: Read, W: Write>(
     out: &mut W,
 ) -> Result<(), WorkshopFault>
     ensures { Aligns (λ _ _ renaming pairing. carried_lines renaming pairing names.now) old_version new_version
-        (record {
-          old = reader A.told A.left A.failures old.old;
-          new = reader B.told B.left B.failures new.old;
-          out
-              = writer W.told W.written W.failures out.old;
-        })
-        (record {
-          old = reader A.told A.left A.failures old.new;
-          new = reader B.told B.left B.failures new.new;
-          out
-              = writer W.told W.written W.failures out.new;
-        }) last.new result }
+        (comparing (reader A.told A.left A.failures old.old) (reader B.told B.left B.failures new.old)
+        (writer W.told W.written W.failures out.old))
+        (comparing (reader A.told A.left A.failures old.new) (reader B.told B.left B.failures new.new)
+        (writer W.told W.written W.failures out.new)) last.new result }
 {
     *last = Compared::Old;
     let words = Rope::read(alloc, old, old_version)?;
@@ -101,18 +86,10 @@ pub fn find_engine<S: Read, R: Read, W: Write>(
     out: &mut W,
 ) -> Result<(), WorkshopFault>
     ensures { Finds language version
-        (record {
-          old = reader S.told S.left S.failures source.old;
-          new = reader R.told R.left R.failures image.old;
-          out
-              = writer W.told W.written W.failures out.old;
-        })
-        (record {
-          old = reader S.told S.left S.failures source.new;
-          new = reader R.told R.left R.failures image.new;
-          out
-              = writer W.told W.written W.failures out.new;
-        }) last.new result }
+        (comparing (reader S.told S.left S.failures source.old) (reader R.told R.left R.failures image.old)
+        (writer W.told W.written W.failures out.old))
+        (comparing (reader S.told S.left S.failures source.new) (reader R.told R.left R.failures image.new)
+        (writer W.told W.written W.failures out.new)) last.new result }
 {
     *last = Compared::Old;
     let program = read_program(alloc, language, source)?;

@@ -2,7 +2,7 @@
 
 ghost use Rattle.std.specs.Prelude.{◌≡◌, true, IfOk, IfErr};
 ghost use Rattle.words.specs.Devices.{Writes, failures_after};
-ghost use Rattle.workshop.specs.Assemblies.{Assembles, AssemblesChecked, WritesProgram, no_room_text};
+ghost use Rattle.workshop.specs.Assemblies.{Assembles, AssemblesChecked, WritesProgram, no_room_text, assembling};
 ghost use Rattle.workshop.specs.Failures.{Reader, reader, writer};
 ghost use Rattle.workshop.specs.Faults.{input_refused};
 
@@ -30,18 +30,10 @@ pub fn asm_engine<S: Read, I: Write, L: Write>(
     version: Version,
 ) -> Result<(), WorkshopFault>
     ensures { Assembles language version
-        (record {
-          source = reader S.told S.left S.failures source.old;
-          image = writer I.told I.written I.failures
-              image.old;
-          listing = writer L.told L.written L.failures listing.old;
-        })
-        (record {
-          source = reader S.told S.left S.failures source.new;
-          image = writer I.told I.written I.failures
-              image.new;
-          listing = writer L.told L.written L.failures listing.new;
-        }) result }
+        (assembling (reader S.told S.left S.failures source.old) (writer I.told I.written I.failures image.old)
+        (writer L.told L.written L.failures listing.old))
+        (assembling (reader S.told S.left S.failures source.new) (writer I.told I.written I.failures image.new)
+        (writer L.told L.written L.failures listing.new)) result }
 {
     let program = read_program(alloc, language, source)?;
     write_program(program.rope(), &program, image, listing, version)
@@ -60,18 +52,10 @@ pub fn asm_with_check_words<S: Read, I: Write, L: Write>(
     version: Version,
 ) -> Result<Option<Bank>, WorkshopFault>
     ensures { AssemblesChecked language version
-        (record {
-          source = reader S.told S.left S.failures source.old;
-          image = writer I.told I.written I.failures
-              image.old;
-          listing = writer L.told L.written L.failures listing.old;
-        })
-        (record {
-          source = reader S.told S.left S.failures source.new;
-          image = writer I.told I.written I.failures
-              image.new;
-          listing = writer L.told L.written L.failures listing.new;
-        }) result }
+        (assembling (reader S.told S.left S.failures source.old) (writer I.told I.written I.failures image.old)
+        (writer L.told L.written L.failures listing.old))
+        (assembling (reader S.told S.left S.failures source.new) (writer I.told I.written I.failures image.new)
+        (writer L.told L.written L.failures listing.new)) result }
 {
     let program = read_program(alloc, language, source)?;
     let mut rope = program.rope().copied(alloc)?;
@@ -91,18 +75,10 @@ fn write_program<I: Write, L: Write>(
     version: Version,
 ) -> Result<(), WorkshopFault>
     ensures { (unread read : Reader) → WritesProgram version words.now program.now
-        (record {
-          source = unread;
-          image = writer I.told I.written I.failures image.old;
-          listing = writer L.told
-              L.written L.failures listing.old;
-        })
-        (record {
-          source = read;
-          image = writer I.told I.written I.failures image.new;
-          listing = writer L.told L.written
-              L.failures listing.new;
-        }) result }
+        (assembling unread (writer I.told I.written I.failures image.old)
+        (writer L.told L.written L.failures listing.old))
+        (assembling read (writer I.told I.written I.failures image.new)
+        (writer L.told L.written L.failures listing.new)) result }
 {
     words.write(image, version)?;
     Ok(program.list(listing)?)

@@ -3,11 +3,11 @@
 ghost use Rattle.std.specs.Prelude.{◌≡◌, true, Err, IfOk, IfErr, IsOkAnd, All};
 ghost use Rattle.std.specs.Fn.{FnReturnsAt};
 ghost use Rattle.replay.specs.Calls.{Hears, IsAllowed};
-ghost use Rattle.workshop.specs.Debugging.{DebugsProgram, DebugsExtended, Follows, Opens, OpensListed, Travels};
+ghost use Rattle.workshop.specs.Debugging.{DebugsProgram, DebugsExtended, Follows, Opens, OpensListed, Travels, in_session};
 ghost use Rattle.workshop.specs.Failures.{reader, writer};
 ghost use Rattle.workshop.specs.Inputs.{prepared};
 ghost use Rattle.yayul.specs.declared.language.Language.TheVariants.{Standard};
-ghost use Rattle.workshop.specs.Loading.{Tells};
+ghost use Rattle.workshop.specs.Loading.{Tells, program_and_feed};
 
 use crate::fault::WorkshopFault;
 use crate::inputs::{Loaded, load};
@@ -36,16 +36,8 @@ pub fn open_session<S: Read, F: Read>(
     feed: &mut F,
 ) -> Result<Opened, WorkshopFault>
     ensures opens { Opens (Origin.Source Standard)
-        (record {
-          program = reader S.told S.left S.failures source.old;
-          feed = reader F.told F.left F.failures
-              feed.old;
-        })
-        (record {
-          program = reader S.told S.left S.failures source.new;
-          feed = reader F.told F.left F.failures
-              feed.new;
-        }) result }
+        (program_and_feed (reader S.told S.left S.failures source.old) (reader F.told F.left F.failures feed.old))
+        (program_and_feed (reader S.told S.left S.failures source.new) (reader F.told F.left F.failures feed.new)) result }
     ensures start { IfOk result (λ o. o.session.n ≡ 0) }
 {
     open_program(alloc, Origin::Source(Language::Standard), source, feed)
@@ -63,16 +55,8 @@ pub fn open_program<P: Read, F: Read>(
     feed: &mut F,
 ) -> Result<Opened, WorkshopFault>
     ensures opens { Opens origin
-        (record {
-          program = reader P.told P.left P.failures program.old;
-          feed = reader F.told F.left F.failures
-              feed.old;
-        })
-        (record {
-          program = reader P.told P.left P.failures program.new;
-          feed = reader F.told F.left F.failures
-              feed.new;
-        }) result }
+        (program_and_feed (reader P.told P.left P.failures program.old) (reader F.told F.left F.failures feed.old))
+        (program_and_feed (reader P.told P.left P.failures program.new) (reader F.told F.left F.failures feed.new)) result }
     ensures start { IfOk result (λ o. o.session.n ≡ 0) }
 {
     let loaded = load(alloc, origin, program, feed)?;
@@ -104,26 +88,10 @@ pub fn debug_engine<S: Read, F: Read, R: Read, W: Write>(
     out: &mut W,
 ) -> Result<(), WorkshopFault>
     ensures { DebugsProgram (Origin.Source Standard)
-        (record {
-          files = record {
-            program = reader S.told S.left S.failures source.old;
-            feed = reader F.told F.left
-                F.failures feed.old;
-          };
-          commands = reader R.told R.left R.failures commands.old;
-          out = writer W.told
-              W.written W.failures out.old;
-        })
-        (record {
-          files = record {
-            program = reader S.told S.left S.failures source.new;
-            feed = reader F.told F.left
-                F.failures feed.new;
-          };
-          commands = reader R.told R.left R.failures commands.new;
-          out = writer W.told
-              W.written W.failures out.new;
-        }) result }
+        (in_session (reader S.told S.left S.failures source.old) (reader F.told F.left F.failures feed.old)
+        (reader R.told R.left R.failures commands.old) (writer W.told W.written W.failures out.old))
+        (in_session (reader S.told S.left S.failures source.new) (reader F.told F.left F.failures feed.new)
+        (reader R.told R.left R.failures commands.new) (writer W.told W.written W.failures out.new)) result }
 {
     debug_program(
         alloc,
@@ -147,26 +115,10 @@ pub fn debug_image_engine<I: Read, F: Read, R: Read, W: Write>(
     out: &mut W,
 ) -> Result<(), WorkshopFault>
     ensures { DebugsProgram (Origin.Image version)
-        (record {
-          files = record {
-            program = reader I.told I.left I.failures image.old;
-            feed = reader F.told F.left
-                F.failures feed.old;
-          };
-          commands = reader R.told R.left R.failures commands.old;
-          out = writer W.told
-              W.written W.failures out.old;
-        })
-        (record {
-          files = record {
-            program = reader I.told I.left I.failures image.new;
-            feed = reader F.told F.left
-                F.failures feed.new;
-          };
-          commands = reader R.told R.left R.failures commands.new;
-          out = writer W.told
-              W.written W.failures out.new;
-        }) result }
+        (in_session (reader I.told I.left I.failures image.old) (reader F.told F.left F.failures feed.old)
+        (reader R.told R.left R.failures commands.old) (writer W.told W.written W.failures out.old))
+        (in_session (reader I.told I.left I.failures image.new) (reader F.told F.left F.failures feed.new)
+        (reader R.told R.left R.failures commands.new) (writer W.told W.written W.failures out.new)) result }
 {
     debug_program(alloc, Origin::Image(version), image, feed, commands, out)
 }
@@ -185,26 +137,10 @@ pub fn debug_program<P: Read, F: Read, R: Read, W: Write>(
     out: &mut W,
 ) -> Result<(), WorkshopFault>
     ensures { DebugsProgram origin
-        (record {
-          files = record {
-            program = reader P.told P.left P.failures program.old;
-            feed = reader F.told F.left
-                F.failures feed.old;
-          };
-          commands = reader R.told R.left R.failures commands.old;
-          out = writer W.told
-              W.written W.failures out.old;
-        })
-        (record {
-          files = record {
-            program = reader P.told P.left P.failures program.new;
-            feed = reader F.told F.left
-                F.failures feed.new;
-          };
-          commands = reader R.told R.left R.failures commands.new;
-          out = writer W.told
-              W.written W.failures out.new;
-        }) result }
+        (in_session (reader P.told P.left P.failures program.old) (reader F.told F.left F.failures feed.old)
+        (reader R.told R.left R.failures commands.old) (writer W.told W.written W.failures out.old))
+        (in_session (reader P.told P.left P.failures program.new) (reader F.told F.left F.failures feed.new)
+        (reader R.told R.left R.failures commands.new) (writer W.told W.written W.failures out.new)) result }
 {
     let mut opened = open_program(alloc, origin, program, feed)?;
     debug_session(alloc, &mut opened.session, &opened.symbols, commands, out)?;
@@ -221,26 +157,10 @@ pub fn debug_extended<P: Read, F: Read, R: Read, W: Write>(
     out: &mut W,
 ) -> Result<(), WorkshopFault>
     ensures { DebugsExtended origin
-        (record {
-          files = record {
-            program = reader P.told P.left P.failures program.old;
-            feed = reader F.told F.left
-                F.failures feed.old;
-          };
-          commands = reader R.told R.left R.failures commands.old;
-          out = writer W.told
-              W.written W.failures out.old;
-        })
-        (record {
-          files = record {
-            program = reader P.told P.left P.failures program.new;
-            feed = reader F.told F.left
-                F.failures feed.new;
-          };
-          commands = reader R.told R.left R.failures commands.new;
-          out = writer W.told
-              W.written W.failures out.new;
-        }) result }
+        (in_session (reader P.told P.left P.failures program.old) (reader F.told F.left F.failures feed.old)
+        (reader R.told R.left R.failures commands.old) (writer W.told W.written W.failures out.old))
+        (in_session (reader P.told P.left P.failures program.new) (reader F.told F.left F.failures feed.new)
+        (reader R.told R.left R.failures commands.new) (writer W.told W.written W.failures out.new)) result }
 {
     let loaded = load(alloc, origin, program, feed)?;
     let (mut begun, rows) = open_loaded(alloc, loaded)?;
@@ -279,16 +199,8 @@ pub fn follow_source<S: Read, F: Read, H: Fn(&Machine) -> bool, O: Observer>(
     ensures fault { S.told ≡ true → F.told ≡ true
         → IfErr result (λ fault. Tells (prepared (S.left source.old) (F.left feed.old)) (Err fault)) }
     ensures follows { Follows
-        (record {
-          program = reader S.told S.left S.failures source.old;
-          feed = reader F.told F.left F.failures
-              feed.old;
-        })
-        (record {
-          program = reader S.told S.left S.failures source.new;
-          feed = reader F.told F.left F.failures
-              feed.new;
-        }) observer.old observer.new result }
+        (program_and_feed (reader S.told S.left S.failures source.old) (reader F.told F.left F.failures feed.old))
+        (program_and_feed (reader S.told S.left S.failures source.new) (reader F.told F.left F.failures feed.new)) observer.old observer.new result }
 {
     let mut opened = open_session(alloc, source, feed)?;
     Ok(follow(&mut opened.session, calls, hit, observer))

@@ -7,6 +7,7 @@ ghost use Rattle.workshop.specs.DelayRuns.{DelaysRun, TellsDelays};
 ghost use Rattle.workshop.specs.Failures.{reader, writer};
 ghost use Rattle.workshop.specs.Inputs.{scenario_of};
 ghost use Rattle.workshop.specs.Progress.{TellsAll, TellsProfile};
+ghost use Rattle.workshop.specs.Runs.{running};
 
 use crate::engine::STEPS_BETWEEN_FLUSHES;
 use crate::fault::WorkshopFault;
@@ -37,22 +38,10 @@ pub fn delays_program<P: Read, F: Read, W: Write, T: Write>(
 ) -> Result<(), WorkshopFault>
     requires { steps ≤ 2 ^ 40 - 2 }
     ensures delays { TellsDelays origin steps
-        (record {
-          files = record {
-            program = reader P.told P.left P.failures program.old;
-            feed = reader F.told F.left
-                F.failures feed.old;
-          };
-          out = writer W.told W.written W.failures out.old;
-        })
-        (record {
-          files = record {
-            program = reader P.told P.left P.failures program.new;
-            feed = reader F.told F.left
-                F.failures feed.new;
-          };
-          out = writer W.told W.written W.failures out.new;
-        }) result }
+        (running (reader P.told P.left P.failures program.old) (reader F.told F.left F.failures feed.old)
+        (writer W.told W.written W.failures out.old))
+        (running (reader P.told P.left P.failures program.new) (reader F.told F.left F.failures feed.new)
+        (writer W.told W.written W.failures out.new)) result }
     ensures progress { TellsProfile steps (writer T.told T.written T.failures progress.old)
         (writer T.told T.written T.failures progress.new) result }
 {

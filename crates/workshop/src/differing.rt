@@ -4,6 +4,8 @@ ghost use Rattle.std.specs.Prelude.{◌≡◌, ◌-◌, ◌≤◌, ◌^◌, IfOk
 ghost use Rattle.differ.specs.DifferText.{named};
 ghost use Rattle.workshop.specs.DifferRuns.{DifferRun, TellsBeside, TellsDiffer, named_of};
 ghost use Rattle.workshop.specs.Failures.{reader, writer};
+ghost use Rattle.workshop.specs.Loading.{program_and_feed};
+ghost use Rattle.workshop.specs.Runs.{running};
 
 use crate::fault::WorkshopFault;
 use crate::inputs::{Loaded, load};
@@ -45,29 +47,17 @@ pub fn differ_program<P: Read, F: Read, Q: Read, G: Read, W: Write>(
     requires { steps ≤ 2 ^ 40 - 2 }
     ensures { TellsDiffer origin other_origin steps why last.new
         (record {
-          one = record {
-            program = reader P.told P.left P.failures program.old;
-            feed = reader F.told F.left
-                F.failures feed.old;
-          };
-          other = record {
-            program = reader Q.told Q.left Q.failures other.old;
-            feed = reader G.told G.left G.failures
-                other_feed.old;
-          };
+          one = program_and_feed (reader P.told P.left P.failures program.old)
+              (reader F.told F.left F.failures feed.old);
+          other = program_and_feed (reader Q.told Q.left Q.failures other.old)
+              (reader G.told G.left G.failures other_feed.old);
           out = writer W.told W.written W.failures out.old;
         })
         (record {
-          one = record {
-            program = reader P.told P.left P.failures program.new;
-            feed = reader F.told F.left
-                F.failures feed.new;
-          };
-          other = record {
-            program = reader Q.told Q.left Q.failures other.new;
-            feed = reader G.told G.left G.failures
-                other_feed.new;
-          };
+          one = program_and_feed (reader P.told P.left P.failures program.new)
+              (reader F.told F.left F.failures feed.new);
+          other = program_and_feed (reader Q.told Q.left Q.failures other.new)
+              (reader G.told G.left G.failures other_feed.new);
           out = writer W.told W.written W.failures out.new;
         }) result }
 {
@@ -99,22 +89,10 @@ fn differ_beside<Q: Read, G: Read, W: Write>(
 ) -> Result<(), WorkshopFault>
     requires { steps ≤ 2 ^ 40 - 2 }
     ensures { TellsBeside origin (named_of loaded) steps why
-        (record {
-          files = record {
-            program = reader Q.told Q.left Q.failures other.old;
-            feed = reader G.told G.left
-                G.failures feed.old;
-          };
-          out = writer W.told W.written W.failures out.old;
-        })
-        (record {
-          files = record {
-            program = reader Q.told Q.left Q.failures other.new;
-            feed = reader G.told G.left
-                G.failures feed.new;
-          };
-          out = writer W.told W.written W.failures out.new;
-        }) result }
+        (running (reader Q.told Q.left Q.failures other.old) (reader G.told G.left G.failures feed.old)
+        (writer W.told W.written W.failures out.old))
+        (running (reader Q.told Q.left Q.failures other.new) (reader G.told G.left G.failures feed.new)
+        (writer W.told W.written W.failures out.new)) result }
 {
     let beside = load(alloc, origin, other, feed)?;
     differ(alloc, loaded, beside, steps, why, out)

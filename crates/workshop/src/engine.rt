@@ -6,8 +6,9 @@ ghost use Rattle.std.specs.Option.{option_to_list};
 ghost use Rattle.words.specs.Devices.{Writes, failures_after};
 ghost use Rattle.cpu.specs.ChannelLines.{channel_line, channel_lines};
 ghost use Rattle.workshop.specs.Failures.{reader, writer};
-ghost use Rattle.workshop.specs.Progress.{TellsLoaded, TellsWritten, loaded_text, run_text};
-ghost use Rattle.workshop.specs.Runs.{Runs, Makes, outputs_after};
+ghost use Rattle.workshop.specs.Progress.{TellsLoaded, TellsWritten, loaded_text, run_text, telling};
+ghost use Rattle.workshop.specs.Runs.{Runs, Makes, outputs_after, running};
+ghost use Rattle.workshop.specs.Loading.{program_and_feed};
 ghost use Rattle.cpu.specs.Next.{next};
 ghost use Rattle.yayul.specs.declared.language.Language.TheVariants.{Standard};
 ghost use Rattle.cpu.specs.State.{FitsRun};
@@ -57,22 +58,10 @@ pub fn run_engine<S: Read, F: Read, W: Write>(
 ) -> Result<Summary, WorkshopFault>
     requires { steps ≤ 2 ^ 40 - 2 }
     ensures runs { Runs (Origin.Source Standard) steps
-        (record {
-          files = record {
-            program = reader S.told S.left S.failures source.old;
-            feed = reader F.told F.left
-                F.failures feed.old;
-          };
-          out = writer W.told W.written W.failures out.old;
-        })
-        (record {
-          files = record {
-            program = reader S.told S.left S.failures source.new;
-            feed = reader F.told F.left
-                F.failures feed.new;
-          };
-          out = writer W.told W.written W.failures out.new;
-        }) result }
+        (running (reader S.told S.left S.failures source.old) (reader F.told F.left F.failures feed.old)
+        (writer W.told W.written W.failures out.old))
+        (running (reader S.told S.left S.failures source.new) (reader F.told F.left F.failures feed.new)
+        (writer W.told W.written W.failures out.new)) result }
     ensures handed_on { W.told ≡ true → 0 < steps → OnOk result (W.handed_on out.new ≡ W.written out.new) }
 {
     run_program(
@@ -97,22 +86,10 @@ pub fn run_image_engine<I: Read, F: Read, W: Write>(
 ) -> Result<Summary, WorkshopFault>
     requires { steps ≤ 2 ^ 40 - 2 }
     ensures runs { Runs (Origin.Image version) steps
-        (record {
-          files = record {
-            program = reader I.told I.left I.failures image.old;
-            feed = reader F.told F.left
-                F.failures feed.old;
-          };
-          out = writer W.told W.written W.failures out.old;
-        })
-        (record {
-          files = record {
-            program = reader I.told I.left I.failures image.new;
-            feed = reader F.told F.left
-                F.failures feed.new;
-          };
-          out = writer W.told W.written W.failures out.new;
-        }) result }
+        (running (reader I.told I.left I.failures image.old) (reader F.told F.left F.failures feed.old)
+        (writer W.told W.written W.failures out.old))
+        (running (reader I.told I.left I.failures image.new) (reader F.told F.left F.failures feed.new)
+        (writer W.told W.written W.failures out.new)) result }
     ensures handed_on { W.told ≡ true → 0 < steps → OnOk result (W.handed_on out.new ≡ W.written out.new) }
 {
     run_program(alloc, Origin::Image(version), image, feed, steps, out)
@@ -133,22 +110,10 @@ pub fn run_program<P: Read, F: Read, W: Write>(
 ) -> Result<Summary, WorkshopFault>
     requires { steps ≤ 2 ^ 40 - 2 }
     ensures runs { Runs origin steps
-        (record {
-          files = record {
-            program = reader P.told P.left P.failures program.old;
-            feed = reader F.told F.left
-                F.failures feed.old;
-          };
-          out = writer W.told W.written W.failures out.old;
-        })
-        (record {
-          files = record {
-            program = reader P.told P.left P.failures program.new;
-            feed = reader F.told F.left
-                F.failures feed.new;
-          };
-          out = writer W.told W.written W.failures out.new;
-        }) result }
+        (running (reader P.told P.left P.failures program.old) (reader F.told F.left F.failures feed.old)
+        (writer W.told W.written W.failures out.old))
+        (running (reader P.told P.left P.failures program.new) (reader F.told F.left F.failures feed.new)
+        (writer W.told W.written W.failures out.new)) result }
     ensures handed_on { W.told ≡ true → 0 < steps → OnOk result (W.handed_on out.new ≡ W.written out.new) }
 {
     run_and_tell(alloc, origin, program, feed, steps, out, &mut Unheard)
@@ -168,44 +133,16 @@ pub fn run_and_tell<P: Read, F: Read, W: Write, T: Write>(
 ) -> Result<Summary, WorkshopFault>
     requires { steps ≤ 2 ^ 40 - 2 }
     ensures runs { Runs origin steps
-        (record {
-          files = record {
-            program = reader P.told P.left P.failures program.old;
-            feed = reader F.told F.left
-                F.failures feed.old;
-          };
-          out = writer W.told W.written W.failures out.old;
-        })
-        (record {
-          files = record {
-            program = reader P.told P.left P.failures program.new;
-            feed = reader F.told F.left
-                F.failures feed.new;
-          };
-          out = writer W.told W.written W.failures out.new;
-        }) result }
+        (running (reader P.told P.left P.failures program.old) (reader F.told F.left F.failures feed.old)
+        (writer W.told W.written W.failures out.old))
+        (running (reader P.told P.left P.failures program.new) (reader F.told F.left F.failures feed.new)
+        (writer W.told W.written W.failures out.new)) result }
     ensures handed_on { W.told ≡ true → 0 < steps → OnOk result (W.handed_on out.new ≡ W.written out.new) }
     ensures progress { TellsLoaded loaded_text origin steps
-        (record {
-          program = reader P.told P.left P.failures program.old;
-          feed = reader F.told F.left F.failures
-              feed.old;
-        })
-        (record {
-          program = reader P.told P.left P.failures program.new;
-          feed = reader F.told F.left F.failures
-              feed.new;
-        })
-        (record {
-          out = writer W.told W.written W.failures out.old;
-          progress = writer T.told T.written T.failures
-              progress.old;
-        })
-        (record {
-          out = writer W.told W.written W.failures out.new;
-          progress = writer T.told T.written T.failures
-              progress.new;
-        }) result }
+        (program_and_feed (reader P.told P.left P.failures program.old) (reader F.told F.left F.failures feed.old))
+        (program_and_feed (reader P.told P.left P.failures program.new) (reader F.told F.left F.failures feed.new))
+        (telling (writer W.told W.written W.failures out.old) (writer T.told T.written T.failures progress.old))
+        (telling (writer W.told W.written W.failures out.new) (writer T.told T.written T.failures progress.new)) result }
 {
     let loaded = load(alloc, origin, program, feed)?;
     let mut processor = Processor::new(loaded.rope, loaded.feed);
@@ -228,16 +165,8 @@ fn run<W: Write, T: Write>(
         (writer W.told W.written W.failures out.old) (writer W.told W.written W.failures out.new) result }
     ensures handed_on { W.told ≡ true → 0 < steps → OnOk result (W.handed_on out.new ≡ W.written out.new) }
     ensures progress { TellsWritten (run_text processor.old.scenario) steps
-        (record {
-          out = writer W.told W.written W.failures out.old;
-          progress = writer T.told T.written T.failures
-              progress.old;
-        })
-        (record {
-          out = writer W.told W.written W.failures out.new;
-          progress = writer T.told T.written T.failures
-              progress.new;
-        }) result }
+        (telling (writer W.told W.written W.failures out.old) (writer T.told T.written T.failures progress.old))
+        (telling (writer W.told W.written W.failures out.new) (writer T.told T.written T.failures progress.new)) result }
 {
     let mut machine = Machine::start();
     let mut outputs = 0;

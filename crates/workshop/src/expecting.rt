@@ -9,6 +9,7 @@ ghost use Rattle.workshop.specs.Expectations.{Judges, JudgesClaims, JudgesRun, c
 ghost use Rattle.workshop.specs.Expectations.{noted, read_of, task_of};
 ghost use Rattle.workshop.specs.Failures.{reader, writer};
 ghost use Rattle.workshop.specs.Loading.{Reads, ReadsText};
+ghost use Rattle.workshop.specs.Runs.{running};
 ghost use Rattle.workshop.specs.declared.fault.WorkshopFault.TheVariants as WorkshopFault;
 
 use crate::checking::{Tally, told_of};
@@ -54,22 +55,10 @@ pub fn judge_program<P: Read, F: Read, W: Write>(
     requires steps { tests.now.steps ≤ 2 ^ 40 - 2 }
     requires short { tests.now.line + length tests.now.tests.now ≤ 2 ^ 20 }
     ensures { Judges (task_of tests.now)
-        (record {
-          files = record {
-            program = reader P.told P.left P.failures program.old;
-            feed = reader F.told F.left
-                F.failures feed.old;
-          };
-          out = writer W.told W.written W.failures out.old;
-        })
-        (record {
-          files = record {
-            program = reader P.told P.left P.failures program.new;
-            feed = reader F.told F.left
-                F.failures feed.new;
-          };
-          out = writer W.told W.written W.failures out.new;
-        }) result }
+        (running (reader P.told P.left P.failures program.old) (reader F.told F.left F.failures feed.old)
+        (writer W.told W.written W.failures out.old))
+        (running (reader P.told P.left P.failures program.new) (reader F.told F.left F.failures feed.new)
+        (writer W.told W.written W.failures out.new)) result }
 {
     let (text, program) = read_source(alloc, program)?;
     let feed = read_feed(alloc, feed)?;

@@ -2,7 +2,7 @@
 
 ghost use Rattle.workshop.specs.Inputs.{assembled};
 ghost use Rattle.workshop.specs.Failures.{reader};
-ghost use Rattle.workshop.specs.Loading.{Loads, Reads, ReadsInputs, ReadsText};
+ghost use Rattle.workshop.specs.Loading.{Loads, Reads, ReadsInputs, ReadsText, program_and_feed};
 
 use crate::fault::WorkshopFault;
 use crate::origin::Origin;
@@ -29,16 +29,8 @@ pub(crate) fn load<P: Read, F: Read>(
     feed: &mut F,
 ) -> Result<Loaded, WorkshopFault>
     ensures { Loads origin
-        (record {
-          program = reader P.told P.left P.failures program.old;
-          feed = reader F.told F.left F.failures
-              feed.old;
-        })
-        (record {
-          program = reader P.told P.left P.failures program.new;
-          feed = reader F.told F.left F.failures
-              feed.new;
-        }) result }
+        (program_and_feed (reader P.told P.left P.failures program.old) (reader F.told F.left F.failures feed.old))
+        (program_and_feed (reader P.told P.left P.failures program.new) (reader F.told F.left F.failures feed.new)) result }
 {
     let (rope, symbols, rows) = origin.read(alloc, program)?;
     let feed = read_feed(alloc, feed)?;

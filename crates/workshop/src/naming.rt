@@ -5,6 +5,7 @@ ghost use Rattle.workshop.specs.Failures.{reader, writer};
 ghost use Rattle.workshop.specs.Inputs.{named_by};
 ghost use Rattle.workshop.specs.Loading.{Reads, ReadsText};
 ghost use Rattle.workshop.specs.Making.{MakesText, ShowsMade};
+ghost use Rattle.workshop.specs.Ropes.{showing};
 
 use crate::fault::WorkshopFault;
 use audit::write_source;
@@ -41,8 +42,8 @@ pub fn named_source_engine<R: Read, W: Write>(
     out: &mut W,
 ) -> Result<(), WorkshopFault>
     ensures { ShowsMade version (λ words. named_source names.now words bank)
-        (record { image = reader R.told R.left R.failures image.old; out = writer W.told W.written W.failures out.old })
-        (record { image = reader R.told R.left R.failures image.new; out = writer W.told W.written W.failures out.new })
+        (showing (reader R.told R.left R.failures image.old) (writer W.told W.written W.failures out.old))
+        (showing (reader R.told R.left R.failures image.new) (writer W.told W.written W.failures out.new))
         result }
 {
     let rope = Rope::read(alloc, image, version)?;

@@ -5,10 +5,10 @@ ghost use Rattle.notes.specs.Counted.{Counted};
 ghost use Rattle.notes.specs.RunNotes.{notes_text};
 ghost use Rattle.workshop.specs.Failures.{reader, writer};
 ghost use Rattle.workshop.specs.Inputs.{assembled};
-ghost use Rattle.workshop.specs.Loading.{Reads, ReadsText};
+ghost use Rattle.workshop.specs.Loading.{Reads, ReadsText, program_and_feed};
 ghost use Rattle.workshop.specs.Notings.{EndsNoted, ReadsNamed, ReadsNamedImage, RunsNoted, named_of};
 ghost use Rattle.workshop.specs.NotedProgress.{TellsNoted, TellsRead};
-ghost use Rattle.workshop.specs.Progress.{TellsWritten, run_text};
+ghost use Rattle.workshop.specs.Progress.{TellsWritten, run_text, telling};
 ghost use Rattle.workshop.specs.Runs.{Makes, summary_of};
 ghost use Rattle.cpu.specs.Run.{run};
 ghost use Rattle.cpu.specs.State.{Scenario, start};
@@ -57,11 +57,8 @@ pub fn run_with_notes<P: Read, F: Read, W: Write, T: Write, N: Write>(
     requires { steps ≤ 2 ^ 40 - 2 }
     ensures runs { RunsNoted notation origin steps
         (record {
-          files = record {
-            program = reader P.told P.left P.failures program.old;
-            feed = reader F.told F.left
-                F.failures feed.old;
-          };
+          files = program_and_feed (reader P.told P.left P.failures program.old)
+              (reader F.told F.left F.failures feed.old);
           texts = record {
             out = writer W.told W.written W.failures out.old;
             notes = writer N.told N.written N.failures
@@ -69,11 +66,8 @@ pub fn run_with_notes<P: Read, F: Read, W: Write, T: Write, N: Write>(
           };
         })
         (record {
-          files = record {
-            program = reader P.told P.left P.failures program.new;
-            feed = reader F.told F.left
-                F.failures feed.new;
-          };
+          files = program_and_feed (reader P.told P.left P.failures program.new)
+              (reader F.told F.left F.failures feed.new);
           texts = record {
             out = writer W.told W.written W.failures out.new;
             notes = writer N.told N.written N.failures
@@ -82,26 +76,10 @@ pub fn run_with_notes<P: Read, F: Read, W: Write, T: Write, N: Write>(
         }) result }
     ensures handed_on { W.told ≡ true → 0 < steps → OnOk result (W.handed_on out.new ≡ W.written out.new) }
     ensures progress { TellsRead origin steps
-        (record {
-          program = reader P.told P.left P.failures program.old;
-          feed = reader F.told F.left F.failures
-              feed.old;
-        })
-        (record {
-          program = reader P.told P.left P.failures program.new;
-          feed = reader F.told F.left F.failures
-              feed.new;
-        })
-        (record {
-          out = writer W.told W.written W.failures out.old;
-          progress = writer T.told T.written T.failures
-              progress.old;
-        })
-        (record {
-          out = writer W.told W.written W.failures out.new;
-          progress = writer T.told T.written T.failures
-              progress.new;
-        }) result }
+        (program_and_feed (reader P.told P.left P.failures program.old) (reader F.told F.left F.failures feed.old))
+        (program_and_feed (reader P.told P.left P.failures program.new) (reader F.told F.left F.failures feed.new))
+        (telling (writer W.told W.written W.failures out.old) (writer T.told T.written T.failures progress.old))
+        (telling (writer W.told W.written W.failures out.new) (writer T.told T.written T.failures progress.new)) result }
 {
     let code = read_named(alloc, origin, program)?;
     let feed = read_feed(alloc, feed)?;
@@ -208,16 +186,8 @@ pub(crate) fn run_then_note<W: Write, T: Write, N: Write>(
         }) result }
     ensures handed_on { W.told ≡ true → 0 < steps → OnOk result (W.handed_on out.new ≡ W.written out.new) }
     ensures progress { TellsNoted (run_text processor.old.scenario) steps
-        (record {
-          out = writer W.told W.written W.failures out.old;
-          progress = writer T.told T.written T.failures
-              progress.old;
-        })
-        (record {
-          out = writer W.told W.written W.failures out.new;
-          progress = writer T.told T.written T.failures
-              progress.new;
-        }) result }
+        (telling (writer W.told W.written W.failures out.old) (writer T.told T.written T.failures progress.old))
+        (telling (writer W.told W.written W.failures out.new) (writer T.told T.written T.failures progress.new)) result }
     ensures meter { processor.new.meter ≤ processor.old.meter + 2 * steps }
 {
     let mut machine = Machine::start();
@@ -248,16 +218,8 @@ fn run_noting<W: Write, T: Write>(
     ensures summary { IfOk result (λ summary. summary ≡ summary_of processor.old.scenario steps) }
     ensures handed_on { W.told ≡ true → 0 < steps → OnOk result (W.handed_on out.new ≡ W.written out.new) }
     ensures progress { TellsWritten (run_text processor.old.scenario) steps
-        (record {
-          out = writer W.told W.written W.failures out.old;
-          progress = writer T.told T.written T.failures
-              progress.old;
-        })
-        (record {
-          out = writer W.told W.written W.failures out.new;
-          progress = writer T.told T.written T.failures
-              progress.new;
-        }) result }
+        (telling (writer W.told W.written W.failures out.old) (writer T.told T.written T.failures progress.old))
+        (telling (writer W.told W.written W.failures out.new) (writer T.told T.written T.failures progress.new)) result }
     ensures meter { processor.new.meter ≤ processor.old.meter + steps }
 {
     let mut outputs = 0;

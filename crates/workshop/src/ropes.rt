@@ -9,7 +9,7 @@ ghost use Rattle.audit.specs.WordLines.{word_lines};
 ghost use Rattle.names.specs.NamedLines.{named_lines};
 ghost use Rattle.rope.specs.Image.{image};
 ghost use Rattle.workshop.specs.Failures.{Reader, reader, writer};
-ghost use Rattle.workshop.specs.Ropes.{Compares, ComparesNext, ComparesOnly, Shows, ShowsMended, TellsDamages};
+ghost use Rattle.workshop.specs.Ropes.{Compares, ComparesNext, ComparesOnly, Shows, ShowsMended, TellsDamages, comparing, showing};
 ghost use Rattle.workshop.specs.Ropes.{TellsParity, WritesCompared, WritesUncertain};
 
 use crate::fault::WorkshopFault;
@@ -48,8 +48,8 @@ pub fn words_engine<R: Read, W: Write>(
     out: &mut W,
 ) -> Result<(), WorkshopFault>
     ensures { Shows version (λ words. word_lines words bank)
-        (record { image = reader R.told R.left R.failures image.old; out = writer W.told W.written W.failures out.old })
-        (record { image = reader R.told R.left R.failures image.new; out = writer W.told W.written W.failures out.new })
+        (showing (reader R.told R.left R.failures image.old) (writer W.told W.written W.failures out.old))
+        (showing (reader R.told R.left R.failures image.new) (writer W.told W.written W.failures out.new))
         result }
 {
     let rope = Rope::read(alloc, image, version)?;
@@ -70,8 +70,8 @@ pub fn named_words_engine<R: Read, W: Write>(
     out: &mut W,
 ) -> Result<(), WorkshopFault>
     ensures { Shows version (λ words. named_lines names words bank)
-        (record { image = reader R.told R.left R.failures image.old; out = writer W.told W.written W.failures out.old })
-        (record { image = reader R.told R.left R.failures image.new; out = writer W.told W.written W.failures out.new })
+        (showing (reader R.told R.left R.failures image.old) (writer W.told W.written W.failures out.old))
+        (showing (reader R.told R.left R.failures image.new) (writer W.told W.written W.failures out.new))
         result }
 {
     let Ok(named) = PlaceNames::new(alloc, names) else {
@@ -92,8 +92,8 @@ pub fn source_engine<R: Read, W: Write>(
     out: &mut W,
 ) -> Result<(), WorkshopFault>
     ensures { Shows version (λ words. source_text words bank)
-        (record { image = reader R.told R.left R.failures image.old; out = writer W.told W.written W.failures out.old })
-        (record { image = reader R.told R.left R.failures image.new; out = writer W.told W.written W.failures out.new })
+        (showing (reader R.told R.left R.failures image.old) (writer W.told W.written W.failures out.old))
+        (showing (reader R.told R.left R.failures image.new) (writer W.told W.written W.failures out.new))
         result }
 {
     let rope = Rope::read(alloc, image, version)?;
@@ -111,8 +111,8 @@ pub fn octals_engine<R: Read, W: Write>(
     out: &mut W,
 ) -> Result<(), WorkshopFault>
     ensures { Shows version (λ words. octals_text words bank)
-        (record { image = reader R.told R.left R.failures image.old; out = writer W.told W.written W.failures out.old })
-        (record { image = reader R.told R.left R.failures image.new; out = writer W.told W.written W.failures out.new })
+        (showing (reader R.told R.left R.failures image.old) (writer W.told W.written W.failures out.old))
+        (showing (reader R.told R.left R.failures image.new) (writer W.told W.written W.failures out.new))
         result }
 {
     let rope = Rope::read(alloc, image, version)?;
@@ -129,8 +129,8 @@ pub fn sums_engine<R: Read, W: Write>(
     out: &mut W,
 ) -> Result<(), WorkshopFault>
     ensures { Shows version sum_lines
-        (record { image = reader R.told R.left R.failures rope.old; out = writer W.told W.written W.failures out.old })
-        (record { image = reader R.told R.left R.failures rope.new; out = writer W.told W.written W.failures out.new })
+        (showing (reader R.told R.left R.failures rope.old) (writer W.told W.written W.failures out.old))
+        (showing (reader R.told R.left R.failures rope.new) (writer W.told W.written W.failures out.new))
         result }
 {
     let words = Rope::read(alloc, rope, version)?;
@@ -148,8 +148,8 @@ pub fn form_sums_engine<R: Read, W: Write>(
     out: &mut W,
 ) -> Result<(), WorkshopFault>
     ensures { Shows version (form_lines version)
-        (record { image = reader R.told R.left R.failures rope.old; out = writer W.told W.written W.failures out.old })
-        (record { image = reader R.told R.left R.failures rope.new; out = writer W.told W.written W.failures out.new })
+        (showing (reader R.told R.left R.failures rope.old) (writer W.told W.written W.failures out.old))
+        (showing (reader R.told R.left R.failures rope.new) (writer W.told W.written W.failures out.new))
         result }
 {
     let rope = Rope::read(alloc, rope, version)?;
@@ -165,8 +165,8 @@ pub fn upgrade_engine<R: Read, W: Write>(
     out: &mut W,
 ) -> Result<(), WorkshopFault>
     ensures { Shows Version.One (image Version.Two)
-        (record { image = reader R.told R.left R.failures old.old; out = writer W.told W.written W.failures out.old })
-        (record { image = reader R.told R.left R.failures old.new; out = writer W.told W.written W.failures out.new })
+        (showing (reader R.told R.left R.failures old.old) (writer W.told W.written W.failures out.old))
+        (showing (reader R.told R.left R.failures old.new) (writer W.told W.written W.failures out.new))
         result }
 {
     let rope = Rope::read(alloc, old, Version::One)?;
@@ -188,18 +188,10 @@ pub fn compare_engine<A: Read, B: Read, W: Write>(
     out: &mut W,
 ) -> Result<u32, WorkshopFault>
     ensures { Compares old_version new_version
-        (record {
-          old = reader A.told A.left A.failures old.old;
-          new = reader B.told B.left B.failures new.old;
-          out
-              = writer W.told W.written W.failures out.old;
-        })
-        (record {
-          old = reader A.told A.left A.failures old.new;
-          new = reader B.told B.left B.failures new.new;
-          out
-              = writer W.told W.written W.failures out.new;
-        }) last.new result }
+        (comparing (reader A.told A.left A.failures old.old) (reader B.told B.left B.failures new.old)
+        (writer W.told W.written W.failures out.old))
+        (comparing (reader A.told A.left A.failures old.new) (reader B.told B.left B.failures new.new)
+        (writer W.told W.written W.failures out.new)) last.new result }
 {
     *last = Compared::Old;
     let words = Rope::read(alloc, old, old_version)?;
@@ -225,18 +217,10 @@ pub fn compare_only_engine<S: Read, R: Read, W: Write>(
     out: &mut W,
 ) -> Result<u32, WorkshopFault>
     ensures { ComparesOnly language version
-        (record {
-          old = reader S.told S.left S.failures source.old;
-          new = reader R.told R.left R.failures image.old;
-          out
-              = writer W.told W.written W.failures out.old;
-        })
-        (record {
-          old = reader S.told S.left S.failures source.new;
-          new = reader R.told R.left R.failures image.new;
-          out
-              = writer W.told W.written W.failures out.new;
-        }) last.new result }
+        (comparing (reader S.told S.left S.failures source.old) (reader R.told R.left R.failures image.old)
+        (writer W.told W.written W.failures out.old))
+        (comparing (reader S.told S.left S.failures source.new) (reader R.told R.left R.failures image.new)
+        (writer W.told W.written W.failures out.new)) last.new result }
 {
     *last = Compared::Old;
     let program = read_program(alloc, language, source)?;
@@ -290,8 +274,8 @@ pub fn parity_engine<R: Read, W: Write>(
     out: &mut W,
 ) -> Result<u32, WorkshopFault>
     ensures { TellsParity
-        (record { image = reader R.told R.left R.failures image.old; out = writer W.told W.written W.failures out.old })
-        (record { image = reader R.told R.left R.failures image.new; out = writer W.told W.written W.failures out.new })
+        (showing (reader R.told R.left R.failures image.old) (writer W.told W.written W.failures out.old))
+        (showing (reader R.told R.left R.failures image.new) (writer W.told W.written W.failures out.new))
         result }
 {
     let bytes = Dump::read(alloc, image)?;
@@ -309,8 +293,8 @@ pub fn damages_engine<R: Read, W: Write>(
     out: &mut W,
 ) -> Result<u32, WorkshopFault>
     ensures { TellsDamages
-        (record { image = reader R.told R.left R.failures image.old; out = writer W.told W.written W.failures out.old })
-        (record { image = reader R.told R.left R.failures image.new; out = writer W.told W.written W.failures out.new })
+        (showing (reader R.told R.left R.failures image.old) (writer W.told W.written W.failures out.old))
+        (showing (reader R.told R.left R.failures image.new) (writer W.told W.written W.failures out.new))
         result }
 {
     let bytes = Dump::read(alloc, image)?;
@@ -327,8 +311,8 @@ pub fn mended_engine<R: Read, W: Write>(
     out: &mut W,
 ) -> Result<(), WorkshopFault>
     ensures { ShowsMended
-        (record { image = reader R.told R.left R.failures image.old; out = writer W.told W.written W.failures out.old })
-        (record { image = reader R.told R.left R.failures image.new; out = writer W.told W.written W.failures out.new })
+        (showing (reader R.told R.left R.failures image.old) (writer W.told W.written W.failures out.old))
+        (showing (reader R.told R.left R.failures image.new) (writer W.told W.written W.failures out.new))
         result }
 {
     let bytes = Dump::read(alloc, image)?;

@@ -6,6 +6,7 @@ ghost use Rattle.reach.specs.Marks.{AreReached};
 ghost use Rattle.reach.specs.Ways.{vectors};
 ghost use Rattle.workshop.specs.Failures.{reader, writer};
 ghost use Rattle.workshop.specs.RunReaches.{AreExecuted, Finds, FindsRun};
+ghost use Rattle.workshop.specs.Runs.{running};
 
 use crate::covering::read_subject;
 use crate::fault::WorkshopFault;
@@ -33,22 +34,10 @@ pub fn reach_run<P: Read, F: Read, W: Write>(
 ) -> Result<(), WorkshopFault>
     requires { steps ≤ 2 ^ 40 - 2 }
     ensures { Finds origin steps
-        (record {
-          files = record {
-            program = reader P.told P.left P.failures program.old;
-            feed = reader F.told F.left
-                F.failures feed.old;
-          };
-          out = writer W.told W.written W.failures out.old;
-        })
-        (record {
-          files = record {
-            program = reader P.told P.left P.failures program.new;
-            feed = reader F.told F.left
-                F.failures feed.new;
-          };
-          out = writer W.told W.written W.failures out.new;
-        }) result }
+        (running (reader P.told P.left P.failures program.old) (reader F.told F.left F.failures feed.old)
+        (writer W.told W.written W.failures out.old))
+        (running (reader P.told P.left P.failures program.new) (reader F.told F.left F.failures feed.new)
+        (writer W.told W.written W.failures out.new)) result }
 {
     let (rope, rows) = read_subject(alloc, Notation::Text, origin, program)?;
     let processor = Processor::new(rope, read_feed(alloc, feed)?);

@@ -6,9 +6,11 @@ ghost use Rattle.cpu.specs.Next.{next};
 ghost use Rattle.cpu.specs.State.{FitsRun};
 ghost use Rattle.say.specs.Said.{told_from, told_lines};
 ghost use Rattle.workshop.specs.Failures.{reader, writer};
-ghost use Rattle.workshop.specs.Progress.{TellsLoaded, TellsWritten, traced_text};
+ghost use Rattle.workshop.specs.Progress.{TellsLoaded, TellsWritten, traced_text, telling};
 ghost use Rattle.workshop.specs.Ropes.{WritesText};
 ghost use Rattle.workshop.specs.Traces.{Traces};
+ghost use Rattle.workshop.specs.Loading.{program_and_feed};
+ghost use Rattle.workshop.specs.Runs.{running};
 
 use crate::engine::{STEPS_BETWEEN_FLUSHES, hand_on};
 use crate::fault::WorkshopFault;
@@ -44,44 +46,16 @@ pub fn trace_program<P: Read, F: Read, W: Write, T: Write>(
 ) -> Result<(), WorkshopFault>
     requires { steps ≤ 2 ^ 40 - 2 }
     ensures traces { Traces form origin first steps
-        (record {
-          files = record {
-            program = reader P.told P.left P.failures program.old;
-            feed = reader F.told F.left
-                F.failures feed.old;
-          };
-          out = writer W.told W.written W.failures out.old;
-        })
-        (record {
-          files = record {
-            program = reader P.told P.left P.failures program.new;
-            feed = reader F.told F.left
-                F.failures feed.new;
-          };
-          out = writer W.told W.written W.failures out.new;
-        }) result }
+        (running (reader P.told P.left P.failures program.old) (reader F.told F.left F.failures feed.old)
+        (writer W.told W.written W.failures out.old))
+        (running (reader P.told P.left P.failures program.new) (reader F.told F.left F.failures feed.new)
+        (writer W.told W.written W.failures out.new)) result }
     ensures handed_on { W.told ≡ true → 0 < steps → OnOk result (W.handed_on out.new ≡ W.written out.new) }
     ensures progress { TellsLoaded (traced_text form first) origin steps
-        (record {
-          program = reader P.told P.left P.failures program.old;
-          feed = reader F.told F.left F.failures
-              feed.old;
-        })
-        (record {
-          program = reader P.told P.left P.failures program.new;
-          feed = reader F.told F.left F.failures
-              feed.new;
-        })
-        (record {
-          out = writer W.told W.written W.failures out.old;
-          progress = writer T.told T.written T.failures
-              progress.old;
-        })
-        (record {
-          out = writer W.told W.written W.failures out.new;
-          progress = writer T.told T.written T.failures
-              progress.new;
-        }) result }
+        (program_and_feed (reader P.told P.left P.failures program.old) (reader F.told F.left F.failures feed.old))
+        (program_and_feed (reader P.told P.left P.failures program.new) (reader F.told F.left F.failures feed.new))
+        (telling (writer W.told W.written W.failures out.old) (writer T.told T.written T.failures progress.old))
+        (telling (writer W.told W.written W.failures out.new) (writer T.told T.written T.failures progress.new)) result }
 {
     let loaded = load(alloc, origin, program, feed)?;
     let Ok(names) = PlaceNames::new(alloc, loaded.symbols) else {
@@ -107,16 +81,8 @@ fn trace<W: Write, T: Write>(
         (writer W.told W.written W.failures out.old) (writer W.told W.written W.failures out.new) result }
     ensures handed_on { W.told ≡ true → 0 < steps → OnOk result (W.handed_on out.new ≡ W.written out.new) }
     ensures progress { TellsWritten (told_lines form names.now processor.old.scenario first) steps
-        (record {
-          out = writer W.told W.written W.failures out.old;
-          progress = writer T.told T.written T.failures
-              progress.old;
-        })
-        (record {
-          out = writer W.told W.written W.failures out.new;
-          progress = writer T.told T.written T.failures
-              progress.new;
-        }) result }
+        (telling (writer W.told W.written W.failures out.old) (writer T.told T.written T.failures progress.old))
+        (telling (writer W.told W.written W.failures out.new) (writer T.told T.written T.failures progress.new)) result }
 {
     let mut machine = Machine::start();
     let mut told = Ok(());
