@@ -395,8 +395,11 @@ are_written false word lt differs =
                                           | inl less18 ↦ case_false_18 word (omega arith) (omega arith)
                                           | inr more18 ↦ elim (cases_lt word 0o60000) [
                                             | inl less19 ↦ case_false_19 word (omega arith) (omega arith)
-                                            | inr more19 ↦ elim (cases_lt word 0o70000)
-                                                [ inl less20 ↦ case_false_20 word (omega arith) (omega arith) | inr more20 ↦ case_false_21 word (omega arith) (omega arith) ]
+                                            | inr more19 ↦ elim (cases_lt word 0o70000) [
+                                              | inl less20 ↦ case_false_20 word (omega arith) (omega arith)
+                                              | inr more20 ↦ case_false_21
+                                                  word (omega arith) (omega arith)
+                                            ]
                                           ]
                                         ]
                                       ]
@@ -454,8 +457,11 @@ are_written true word lt differs =
                                       | inl less16 ↦ case_true_16 word (omega arith) (omega arith)
                                       | inr more16 ↦ elim (cases_lt word 0o62000) [
                                         | inl less17 ↦ case_true_17 word (omega arith) (omega arith)
-                                        | inr more17 ↦ elim (cases_lt word 0o70000)
-                                            [ inl less18 ↦ case_true_18 word (omega arith) (omega arith) | inr more18 ↦ case_true_19 word (omega arith) (omega arith) ]
+                                        | inr more17 ↦ elim (cases_lt word 0o70000) [
+                                          | inl less18 ↦ case_true_18 word (omega arith) (omega arith)
+                                          | inr more18 ↦ case_true_19 word
+                                              (omega arith) (omega arith)
+                                        ]
                                       ]
                                     ]
                                   ]

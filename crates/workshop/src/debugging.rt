@@ -3,7 +3,8 @@
 ghost use Rattle.std.specs.Prelude.{◌≡◌, true, Err, IfOk, IfErr, IsOkAnd, All};
 ghost use Rattle.std.specs.Fn.{FnReturnsAt};
 ghost use Rattle.replay.specs.Calls.{Hears, IsAllowed};
-ghost use Rattle.workshop.specs.Debugging.{DebugsProgram, DebugsExtended, Follows, Opens, OpensListed, Travels, in_session};
+ghost use Rattle.workshop.specs.Debugging.{DebugsProgram, DebugsExtended, Follows, Opens, OpensListed, Travels};
+ghost use Rattle.workshop.specs.Debugging.{in_session};
 ghost use Rattle.workshop.specs.Failures.{reader, writer};
 ghost use Rattle.workshop.specs.Inputs.{prepared};
 ghost use Rattle.yayul.specs.declared.language.Language.TheVariants.{Standard};
@@ -37,7 +38,8 @@ pub fn open_session<S: Read, F: Read>(
 ) -> Result<Opened, WorkshopFault>
     ensures opens { Opens (Origin.Source Standard)
         (program_and_feed (reader S.told S.left S.failures source.old) (reader F.told F.left F.failures feed.old))
-        (program_and_feed (reader S.told S.left S.failures source.new) (reader F.told F.left F.failures feed.new)) result }
+        (program_and_feed (reader S.told S.left S.failures source.new) (reader F.told F.left F.failures feed.new))
+        result }
     ensures start { IfOk result (λ o. o.session.n ≡ 0) }
 {
     open_program(alloc, Origin::Source(Language::Standard), source, feed)
@@ -56,7 +58,8 @@ pub fn open_program<P: Read, F: Read>(
 ) -> Result<Opened, WorkshopFault>
     ensures opens { Opens origin
         (program_and_feed (reader P.told P.left P.failures program.old) (reader F.told F.left F.failures feed.old))
-        (program_and_feed (reader P.told P.left P.failures program.new) (reader F.told F.left F.failures feed.new)) result }
+        (program_and_feed (reader P.told P.left P.failures program.new) (reader F.told F.left F.failures feed.new))
+        result }
     ensures start { IfOk result (λ o. o.session.n ≡ 0) }
 {
     let loaded = load(alloc, origin, program, feed)?;
@@ -200,7 +203,8 @@ pub fn follow_source<S: Read, F: Read, H: Fn(&Machine) -> bool, O: Observer>(
         → IfErr result (λ fault. Tells (prepared (S.left source.old) (F.left feed.old)) (Err fault)) }
     ensures follows { Follows
         (program_and_feed (reader S.told S.left S.failures source.old) (reader F.told F.left F.failures feed.old))
-        (program_and_feed (reader S.told S.left S.failures source.new) (reader F.told F.left F.failures feed.new)) observer.old observer.new result }
+        (program_and_feed (reader S.told S.left S.failures source.new) (reader F.told F.left F.failures feed.new))
+        observer.old observer.new result }
 {
     let mut opened = open_session(alloc, source, feed)?;
     Ok(follow(&mut opened.session, calls, hit, observer))

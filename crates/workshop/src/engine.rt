@@ -142,7 +142,8 @@ pub fn run_and_tell<P: Read, F: Read, W: Write, T: Write>(
         (program_and_feed (reader P.told P.left P.failures program.old) (reader F.told F.left F.failures feed.old))
         (program_and_feed (reader P.told P.left P.failures program.new) (reader F.told F.left F.failures feed.new))
         (telling (writer W.told W.written W.failures out.old) (writer T.told T.written T.failures progress.old))
-        (telling (writer W.told W.written W.failures out.new) (writer T.told T.written T.failures progress.new)) result }
+        (telling (writer W.told W.written W.failures out.new) (writer T.told T.written T.failures progress.new))
+        result }
 {
     let loaded = load(alloc, origin, program, feed)?;
     let mut processor = Processor::new(loaded.rope, loaded.feed);
@@ -166,7 +167,8 @@ fn run<W: Write, T: Write>(
     ensures handed_on { W.told ≡ true → 0 < steps → OnOk result (W.handed_on out.new ≡ W.written out.new) }
     ensures progress { TellsWritten (run_text processor.old.scenario) steps
         (telling (writer W.told W.written W.failures out.old) (writer T.told T.written T.failures progress.old))
-        (telling (writer W.told W.written W.failures out.new) (writer T.told T.written T.failures progress.new)) result }
+        (telling (writer W.told W.written W.failures out.new) (writer T.told T.written T.failures progress.new))
+        result }
 {
     let mut machine = Machine::start();
     let mut outputs = 0;

@@ -30,7 +30,8 @@ pub(crate) fn load<P: Read, F: Read>(
 ) -> Result<Loaded, WorkshopFault>
     ensures { Loads origin
         (program_and_feed (reader P.told P.left P.failures program.old) (reader F.told F.left F.failures feed.old))
-        (program_and_feed (reader P.told P.left P.failures program.new) (reader F.told F.left F.failures feed.new)) result }
+        (program_and_feed (reader P.told P.left P.failures program.new) (reader F.told F.left F.failures feed.new))
+        result }
 {
     let (rope, symbols, rows) = origin.read(alloc, program)?;
     let feed = read_feed(alloc, feed)?;

@@ -79,7 +79,8 @@ pub fn run_with_notes<P: Read, F: Read, W: Write, T: Write, N: Write>(
         (program_and_feed (reader P.told P.left P.failures program.old) (reader F.told F.left F.failures feed.old))
         (program_and_feed (reader P.told P.left P.failures program.new) (reader F.told F.left F.failures feed.new))
         (telling (writer W.told W.written W.failures out.old) (writer T.told T.written T.failures progress.old))
-        (telling (writer W.told W.written W.failures out.new) (writer T.told T.written T.failures progress.new)) result }
+        (telling (writer W.told W.written W.failures out.new) (writer T.told T.written T.failures progress.new))
+        result }
 {
     let code = read_named(alloc, origin, program)?;
     let feed = read_feed(alloc, feed)?;
@@ -187,7 +188,8 @@ pub(crate) fn run_then_note<W: Write, T: Write, N: Write>(
     ensures handed_on { W.told ≡ true → 0 < steps → OnOk result (W.handed_on out.new ≡ W.written out.new) }
     ensures progress { TellsNoted (run_text processor.old.scenario) steps
         (telling (writer W.told W.written W.failures out.old) (writer T.told T.written T.failures progress.old))
-        (telling (writer W.told W.written W.failures out.new) (writer T.told T.written T.failures progress.new)) result }
+        (telling (writer W.told W.written W.failures out.new) (writer T.told T.written T.failures progress.new))
+        result }
     ensures meter { processor.new.meter ≤ processor.old.meter + 2 * steps }
 {
     let mut machine = Machine::start();
@@ -219,7 +221,8 @@ fn run_noting<W: Write, T: Write>(
     ensures handed_on { W.told ≡ true → 0 < steps → OnOk result (W.handed_on out.new ≡ W.written out.new) }
     ensures progress { TellsWritten (run_text processor.old.scenario) steps
         (telling (writer W.told W.written W.failures out.old) (writer T.told T.written T.failures progress.old))
-        (telling (writer W.told W.written W.failures out.new) (writer T.told T.written T.failures progress.new)) result }
+        (telling (writer W.told W.written W.failures out.new) (writer T.told T.written T.failures progress.new))
+        result }
     ensures meter { processor.new.meter ≤ processor.old.meter + steps }
 {
     let mut outputs = 0;

@@ -9,7 +9,8 @@ ghost use Rattle.audit.specs.WordLines.{word_lines};
 ghost use Rattle.names.specs.NamedLines.{named_lines};
 ghost use Rattle.rope.specs.Image.{image};
 ghost use Rattle.workshop.specs.Failures.{Reader, reader, writer};
-ghost use Rattle.workshop.specs.Ropes.{Compares, ComparesNext, ComparesOnly, Shows, ShowsMended, TellsDamages, comparing, showing};
+ghost use Rattle.workshop.specs.Ropes.{Compares, ComparesNext, ComparesOnly, Shows, ShowsMended, TellsDamages};
+ghost use Rattle.workshop.specs.Ropes.{comparing, showing};
 ghost use Rattle.workshop.specs.Ropes.{TellsParity, WritesCompared, WritesUncertain};
 
 use crate::fault::WorkshopFault;

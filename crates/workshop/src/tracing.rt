@@ -55,7 +55,8 @@ pub fn trace_program<P: Read, F: Read, W: Write, T: Write>(
         (program_and_feed (reader P.told P.left P.failures program.old) (reader F.told F.left F.failures feed.old))
         (program_and_feed (reader P.told P.left P.failures program.new) (reader F.told F.left F.failures feed.new))
         (telling (writer W.told W.written W.failures out.old) (writer T.told T.written T.failures progress.old))
-        (telling (writer W.told W.written W.failures out.new) (writer T.told T.written T.failures progress.new)) result }
+        (telling (writer W.told W.written W.failures out.new) (writer T.told T.written T.failures progress.new))
+        result }
 {
     let loaded = load(alloc, origin, program, feed)?;
     let Ok(names) = PlaceNames::new(alloc, loaded.symbols) else {
@@ -82,7 +83,8 @@ fn trace<W: Write, T: Write>(
     ensures handed_on { W.told ≡ true → 0 < steps → OnOk result (W.handed_on out.new ≡ W.written out.new) }
     ensures progress { TellsWritten (told_lines form names.now processor.old.scenario first) steps
         (telling (writer W.told W.written W.failures out.old) (writer T.told T.written T.failures progress.old))
-        (telling (writer W.told W.written W.failures out.new) (writer T.told T.written T.failures progress.new)) result }
+        (telling (writer W.told W.written W.failures out.new) (writer T.told T.written T.failures progress.new))
+        result }
 {
     let mut machine = Machine::start();
     let mut told = Ok(());
