@@ -12,8 +12,8 @@ FORMS = [
     ("+3 OCT 1", 13), (" +3 OCT 1", 15), ("+8D OCT 1", 13), ("-PHASE1 EQUALS 100; AD -PHASE1", 13), ("1/X EQUALS +X/2;+X/2 EQUALS 5", 16), (" AD -PHASE1;-PHASE1 EQUALS 5", 16),
     (" TC 10000", 26), (" CADR 12005", 26), (" SETLOC 20000; OCT 1", 26), ("X EQUALS", 16), ("X =", 16), ("X EQUALS Y +1;Y EQUALS 5", 18), (" BANK", 16), (" BLOCK", 16),
     (" COUNT 5", 15), (" COUNT* X", 15), (" BNKSUM 05", 15), (" SUBRO X", 15), (" MEMORY X", 15), (" OCT -20000", 16), (" OCTAL 5", 15), (" 2OCT 1234567012", 15), (" VN 0633", 15),
-    (" DEC 1.0 E4 B-14", 16), (" 2DEC .57735027", 15), (" 2DEC 1738090 B-29", 15), ("X GENADR X", 15), ("X REMADR X", 15), *((f" {n}DNADR 100", 15) for n in range(1, 7)), (" DNCHAN 30", 15),
-    ("X -CADR X", 15), ("X -GENADR X", 15), (" -CCS 100", 15), *((f" -{n}DNADR 100", 15) for n in range(1, 7)), ("X -2CADR X", 15), ("X BBCON X", 15), (" OCT 1 # " + 120 * "x", 11), ("\n" * 65536, 12),
+    (" DEC 1.0 E4 B-14", 16), (" 2DEC .57735027", 15), (" 2DEC 1738090 B-29", 15), (" 2DEC 60000", 15), (" 2DEC* 1.5 B-2*", 15), (" DEC* -1 B-14*", 15), (" CHECK= X", 15), (" CAF 0", 25), (" CA 0 -1", 26), ("X GENADR X", 15), ("X REMADR X", 15), *((f" {n}DNADR 100", 15) for n in range(1, 7)), (" DNCHAN 30", 15),
+    ("X -CADR X", 15), ("X -GENADR X", 15), (" -CCS 100", 15), (" -DNCHAN 30", 15), *((f" -{n}DNADR 100", 15) for n in range(1, 7)), ("X -2CADR X", 15), ("X BBCON X", 15), (" OCT 1 # " + 120 * "x", 11), ("\n" * 65536, 12),
 ]
 # Words of a bank, and their sum by hand: a sign turned, and two words exchanged, may make it 37777 more or less; 77777 for 00000 leaves it.
 SUMS = [
