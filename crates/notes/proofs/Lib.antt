@@ -4,6 +4,6 @@ pub mod Divisions
 mod Exact
 pub mod LongWaits
 pub mod Quietly
-mod Kinds
+mod OneKind
 mod Rows
 mod Hearing

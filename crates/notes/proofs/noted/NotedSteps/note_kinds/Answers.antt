@@ -1,7 +1,7 @@
 use Rattle.std.proofs.lemmas.Result.{on_ok_weaker}
 use Rattle.notes.specs.declared.kind.Kind.TheVariants.{Skip, NoWord, InErasable, NoHandler, OtherBank, NotKept, MinusZero}
 use Rattle.notes.specs.declared.kind.Kind.TheVariants.{Overwritten, Shared, FixedBank}
-use Rattle.notes.proofs.Kinds.{kind_more}
+use Rattle.notes.proofs.OneKind.{kind_more}
 use Rattle.notes.proofs.noted.NotedSteps.note_kinds.Goals as goal
 
 pub returns : goal.returns
