@@ -242,6 +242,8 @@ WARNINGS = [
     # an address after SETLOC to no vector, and a routine that changes no register
     (" RELINT;D TCF D; SETLOC 4025;H CA X; RESUME;X OCT 1; TCF H", []),
     (" RELINT;D TCF D; SETLOC 4024; INCR X; RESUME;X EQUALS 100", []),
+    # a program that stands at a vector, with a label
+    (" RELINT; TCF S; SETLOC 4010;S CA X;D TCF D; SETLOC 4024; RESUME;X OCT 1", []),
     # an interrupt that does not end, one that none lets in, one that goes back by a jump to RESUME or by INDEX 17
     (" RELINT;D TCF D; SETLOC 4024; TCF D", [(4, 2, 13)]),
     ("D TCF D; SETLOC 4024; TCF D", []),

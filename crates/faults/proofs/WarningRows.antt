@@ -71,6 +71,8 @@ warned_rows =
     ∷ (codes " RELINT;D TCF D; SETLOC 4024; XCH 10; TCF H; SETLOC 4100;H EXTEND; MP X; XCH 10; RESUME;X OCT 1", (8, 2, 2, 12) ∷ [])
     ∷ (codes " RELINT;D TCF D; SETLOC 4024; DXCH 10; TCF H; SETLOC 4100;H EXTEND; MP X; DXCH 10; RESUME;X OCT 1", [])
     ∷ (codes " RELINT;D TCF D; SETLOC 4024; XCH 10; TC S; XCH 10; RESUME;S RETURN", (5, 2, 2, 12) ∷ [])
+    -- a program that stands at a vector, with a label
+    ∷ (codes " RELINT; TCF S; SETLOC 4010;S CA X;D TCF D; SETLOC 4024; RESUME;X OCT 1", [])
     -- an interrupt that does not end; where none is let in, and where INDEX 17 may end it
     ∷ (codes " RELINT;D TCF D; SETLOC 4024; TCF D", (4, 2, 3, 13) ∷ [])
     ∷ (codes "D TCF D; SETLOC 4024; TCF D", [])

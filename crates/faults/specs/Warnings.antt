@@ -428,6 +428,11 @@ unkept_after unkept parts =
       q = unkept.q && not (has_operator (codes "QXCH" ∷ []) parts);
     }
 
+-- what is unkept on a straight way, which ends at a label: others may come there
+abbrev pub on_straight : Unkept → Parts → Unkept
+on_straight unkept parts =
+    if is_some parts.label && not (moves_location parts.role || keeps_location parts.role) then none_unkept else unkept
+
 -- some names, and that to which a line leads where something is so
 abbrev pub with_target : Bool → List (List ℕ) → Parts → List (List ℕ)
 with_target condition names parts = if has_alone (condition && leads_to_fixed parts.role) parts then with_field names parts.operand else
@@ -455,10 +460,10 @@ no_handlers = record {
 
 abbrev pub handlers_after : Handlers → Parts → Handlers
 handlers_after handlers parts = record {
-  unkept = unkept_after handlers.unkept parts;
-  a = with_target handlers.unkept.a handlers.a parts;
-  l = with_target handlers.unkept.l handlers.l parts;
-  q = with_target handlers.unkept.q handlers.q parts;
+  unkept = unkept_after (on_straight handlers.unkept parts) parts;
+  a = with_target (on_straight handlers.unkept parts).a handlers.a parts;
+  l = with_target (on_straight handlers.unkept parts).l handlers.l parts;
+  q = with_target (on_straight handlers.unkept parts).q handlers.q parts;
   resumes = handlers.resumes || has_operator (codes "RESUME" ∷ []) parts;
   may_resume = handlers.may_resume || may_resume parts;
   relints = handlers.relints || has_operator (codes "RELINT" ∷ []) parts;
@@ -469,14 +474,14 @@ handlers_after handlers parts = record {
 abbrev pub has_label : List (List ℕ) → Parts → Bool
 has_label names parts = option_map_or (λ l. is_among names l.text) parts.label false
 
--- what is unkept at a line: there a way from a vector may come by a jump too
+-- what is unkept at a line, where a way from a vector comes straight or by a jump
 abbrev pub unkept_at : Handlers → Unkept → Parts → Unkept
 unkept_at handlers unkept parts =
     if moves_location parts.role || keeps_location parts.role then unkept
     else record {
-      a = unkept.a || has_label handlers.a parts;
-      l = unkept.l || has_label handlers.l parts;
-      q = unkept.q || has_label handlers.q parts;
+      a = (on_straight unkept parts).a || has_label handlers.a parts;
+      l = (on_straight unkept parts).l || has_label handlers.l parts;
+      q = (on_straight unkept parts).q || has_label handlers.q parts;
     }
 
 -- a line changes what is unkept
@@ -487,14 +492,15 @@ abbrev pub kept_warnings : Handlers → Unkept → ℕ → Parts → List Warnin
 kept_warnings handlers unkept line parts =
     at_field (λ p. warned_if (handlers.resumes && loses (unkept_at handlers unkept parts) parts) line 12 p) parts.operator
 
--- ## 13: an interrupt that does not end: an instruction at a vector, while RELINT stands in the source and RESUME does not
+-- ## 13: an interrupt that does not end: an instruction at a vector, without a label, while RELINT stands in the source and RESUME does
+-- not
 abbrev pub is_begun : Option ℕ → Bool
 is_begun filled = option_map_or (λ count. count == 0) filled false
 
 abbrev pub handler_warnings : Handlers → Option ℕ → ℕ → Parts → List Warning
 handler_warnings handlers filled line parts =
-    at_field (λ p. warned_if (handlers.relints && not handlers.may_resume && is_begun filled && is_instruction parts) line 13 p)
-    parts.operator
+    at_field (λ p. warned_if (handlers.relints && not handlers.may_resume && is_begun filled && is_instruction parts
+    && not (is_some parts.label)) line 13 p) parts.operator
 
 -- ## 14: the program runs on over the vectors, to 4004, while RELINT stands in the source and no SETLOC to a vector does
 abbrev pub crossing_warnings : Handlers → Option ℕ → Bool → ℕ → Parts → List Warning

@@ -149,7 +149,7 @@ const CAUSES_11: &[u8] = b"
 ";
 
 const CAUSES_12: &[u8] = b"
-- an instruction on the straight way from a vector, 4004 to 4050, on over TCF, BZF or BZMF to a label, that changes A, L or Q, as CA, MP and TC of a label do, where none before it has stored that, as XCH, LXCH and QXCH do; in a source with RESUME, and not with --flight
+- an instruction on the straight way from a vector, 4004 to 4050, without labels but the one to which its TCF, BZF or BZMF leads, that changes A, L or Q, as CA, MP and TC of a label do, where none before it has stored that, as XCH, LXCH and QXCH do; in a source with RESUME, and not with --flight
     D TCF D
      SETLOC 4024
   >  CA X
@@ -159,7 +159,7 @@ const CAUSES_12: &[u8] = b"
 ";
 
 const CAUSES_13: &[u8] = b"
-- an instruction at a vector, while RELINT stands in the source, and no RESUME, nor 17 or 50017 as an operand; and not with --flight
+- an instruction without a label at a vector, while RELINT stands in the source, and no RESUME, nor 17 or 50017 as an operand; and not with --flight
      RELINT
     D TCF D
      SETLOC 4024

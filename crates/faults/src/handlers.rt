@@ -8,7 +8,8 @@ ghost use Rattle.agc_text.specs.Views.{piece};
 ghost use Rattle.yayul.specs.Readings.{parts_in};
 ghost use Rattle.faults.specs.Registers.{registers};
 ghost use Rattle.faults.specs.Warnings.{all_unkept, none_unkept, keeping_a, keeping_l, changing_a, changing_l};
-ghost use Rattle.faults.specs.Warnings.{is_register_field, calls, is_way_register, stores_way, goes_elsewhere, unkept_after, unkept_at};
+ghost use Rattle.faults.specs.Warnings.{is_register_field, calls, is_way_register, stores_way, goes_elsewhere};
+ghost use Rattle.faults.specs.Warnings.{unkept_after, unkept_at, on_straight};
 ghost use Rattle.faults.specs.Warnings.{with_target, is_resume_number, may_resume, no_handlers, handlers_after};
 ghost use Rattle.faults.specs.Warnings.{has_label, loses, kept_warnings, is_begun, handler_warnings};
 ghost use Rattle.faults.specs.Warnings.{crossing_warnings, is_same_known, has_operator, is_jump_register};
@@ -53,6 +54,17 @@ impl Unkept {
             a: true,
             l: true,
             q: true,
+        }
+    }
+
+    // What is unkept on a straight way, which ends at a label: others may come there.
+    fn on_straight(self, parts: &Reading<'_>) -> Unkept
+        ensures { result ≡ on_straight self (parts_in parts.now) }
+    {
+        if parts.label.is_some() && !(moves_location(parts.role) || keeps_location(parts.role)) {
+            Unkept::none()
+        } else {
+            self
         }
     }
 
@@ -129,28 +141,30 @@ impl Handlers {
     pub(crate) fn note(&mut self, parts: &Reading<'_>) -> Result<(), AllocError>
         ensures { OnOk result (self.new ≡ handlers_after self.old (parts_in parts.now)) }
     {
-        add_target(self.unkept.a, &mut self.a, parts)?;
-        add_target(self.unkept.l, &mut self.l, parts)?;
-        add_target(self.unkept.q, &mut self.q, parts)?;
+        let way = self.unkept.on_straight(parts);
+        add_target(way.a, &mut self.a, parts)?;
+        add_target(way.l, &mut self.l, parts)?;
+        add_target(way.q, &mut self.q, parts)?;
         self.resumes = self.resumes || has_operator(&["RESUME"], parts);
         self.may_resume = self.may_resume || may_resume(parts);
         self.relints = self.relints || has_operator(&["RELINT"], parts);
         self.vectors = self.vectors || sets_vector(parts);
-        self.unkept = self.unkept.after(parts);
+        self.unkept = way.after(parts);
         Ok(())
     }
 
-    /// What is unkept at a line, where a way from a vector may come by a jump too.
+    /// What is unkept at a line, where a way from a vector comes straight or by a jump.
     pub(crate) fn unkept_at(&self, unkept: Unkept, parts: &Reading<'_>) -> Unkept
         ensures { result ≡ unkept_at self.now unkept (parts_in parts.now) }
     {
         if moves_location(parts.role) || keeps_location(parts.role) {
             unkept
         } else {
+            let way = unkept.on_straight(parts);
             Unkept {
-                a: unkept.a || has_label(&self.a, parts),
-                l: unkept.l || has_label(&self.l, parts),
-                q: unkept.q || has_label(&self.q, parts),
+                a: way.a || has_label(&self.a, parts),
+                l: way.l || has_label(&self.l, parts),
+                q: way.q || has_label(&self.q, parts),
             }
         }
     }
@@ -191,7 +205,8 @@ impl Handlers {
                 let endless = self.relints
                     && !self.may_resume
                     && is_begun(filled)
-                    && is_instruction(parts);
+                    && is_instruction(parts)
+                    && parts.label.is_none();
                 warn_if(endless, line, 13, operator, found)
             }
             None => Ok(()),
