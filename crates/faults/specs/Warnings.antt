@@ -486,7 +486,8 @@ unkept_at handlers unkept parts =
 
 -- a line changes what is unkept
 abbrev pub loses : Unkept → Parts → Bool
-loses unkept parts = unkept.a && has_operator changing_a parts || unkept.l && has_operator changing_l parts || unkept.q && calls parts
+loses unkept parts = (unkept.a && has_operator changing_a parts) || (unkept.l && has_operator changing_l parts)
+    || (unkept.q && calls parts)
 
 abbrev pub kept_warnings : Handlers → Unkept → ℕ → Parts → List Warning
 kept_warnings handlers unkept line parts =
@@ -557,8 +558,8 @@ is_unnamed text = is_some (digits_value 8 text) || is_signed_text text
 -- what goes on where a register says
 abbrev pub leads_unnamed : Bool → Parts → Bool
 leads_unnamed indexed parts =
-    leads_on_to parts.role && (indexed || is_some parts.offset || option_map_or (λ p. is_unnamed p.text) parts.operand false)
-    || (is_constant parts.role || is_equals parts.role) && is_some parts.offset
+    (leads_on_to parts.role && (indexed || is_some parts.offset || option_map_or (λ p. is_unnamed p.text) parts.operand false))
+    || ((is_constant parts.role || is_equals parts.role) && is_some parts.offset)
     || sets_bank parts.role
     || has_operator computing parts
     || stores_way parts
