@@ -470,6 +470,9 @@ handlers_after handlers parts = record {
   vectors = handlers.vectors || sets_vector parts;
 }
 
+abbrev pub handlers_of : List Parts → Handlers
+handlers_of lines = fold (λ handlers parts. handlers_after handlers parts) no_handlers lines
+
 -- the label of a line is one of some names
 abbrev pub has_label : List (List ℕ) → Parts → Bool
 has_label names parts = option_map_or (λ l. is_among names l.text) parts.label false
@@ -537,6 +540,9 @@ reserved_after reserved parts = record {
   again = if reserves_one parts && is_again reserved.places reserved.place then with_field reserved.again parts.label else reserved.again;
 }
 
+abbrev pub reserved_of : List Parts → Reserved
+reserved_of lines = fold (λ reserved parts. reserved_after reserved parts) none_reserved lines
+
 abbrev pub again_warnings : Reserved → ℕ → Parts → List Warning
 again_warnings reserved line parts = at_field (λ p. warned_if (reserves_one parts && is_among reserved.again p.text) line 15 p) parts.label
 
@@ -572,6 +578,9 @@ leads_after leads parts = record {
   indexed = indexed_after leads.indexed parts;
   unnamed = leads.unnamed || leads_unnamed leads.indexed parts;
 }
+
+abbrev pub leads_of : List Parts → Leads
+leads_of lines = fold (λ leads parts. leads_after leads parts) no_leads lines
 
 -- how many words behind it a line may lead to: the four ways of CCS; behind others that may skip, and routines that may, two
 abbrev pub skipping : Parts → ℕ
@@ -653,9 +662,9 @@ names_of lines = record {
   banks = banks_of lines;
   sets_erasable = may_set_erasable (banks_of lines);
   sets_fixed = may_set_fixed (banks_of lines);
-  handlers = fold handlers_after no_handlers lines;
-  reserved = fold reserved_after none_reserved lines;
-  leads = fold leads_after no_leads lines;
+  handlers = handlers_of lines;
+  reserved = reserved_of lines;
+  leads = leads_of lines;
 }
 
 -- a source without forms of flight programs, whose words of other kinds are not told from instructions
