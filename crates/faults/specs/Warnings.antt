@@ -416,17 +416,31 @@ stores_way parts = stores parts.role && option_map_or (λ p. is_way_register p.t
 abbrev pub goes_elsewhere : Parts → Bool
 goes_elsewhere parts = is_leaving parts.role || stores_way parts
 
+-- A is stored or changed; so L and Q
+abbrev pub closes_a : Parts → Bool
+closes_a parts = has_operator keeping_a parts || has_operator changing_a parts
+
+abbrev pub closes_l : Parts → Bool
+closes_l parts = has_operator keeping_l parts || has_operator changing_l parts
+
+abbrev pub closes_q : Parts → Bool
+closes_q parts = has_operator (codes "QXCH" ∷ []) parts
+
+-- what is unkept after an instruction behind which the next is reached
+abbrev pub unkept_less : Unkept → Parts → Unkept
+unkept_less unkept parts = record {
+  a = unkept.a && not (closes_a parts);
+  l = unkept.l && not (closes_l parts);
+  q = unkept.q && not (closes_q parts);
+}
+
 -- what is unkept after a line
 abbrev pub unkept_after : Unkept → Parts → Unkept
 unkept_after unkept parts =
     if moves_location parts.role then (if sets_vector parts then all_unkept else none_unkept)
     else if not (gives_word parts) then unkept
     else if goes_elsewhere parts then none_unkept
-    else record {
-      a = unkept.a && not (has_operator keeping_a parts || has_operator changing_a parts);
-      l = unkept.l && not (has_operator keeping_l parts || has_operator changing_l parts);
-      q = unkept.q && not (has_operator (codes "QXCH" ∷ []) parts);
-    }
+    else unkept_less unkept parts
 
 -- what is unkept on a straight way, which ends at a label: others may come there
 abbrev pub on_straight : Unkept → Parts → Unkept
@@ -560,15 +574,22 @@ abbrev pub is_unnamed : List ℕ → Bool
 is_unnamed text = is_some (digits_value 8 text) || is_signed_text text
     || option_map_or (λ place. not (same_name place (codes "2"))) (value_in registers text) false
 
--- a line may lead to a word without a label: a jump to no label, with an offset or after INDEX; an address or a name with an offset; or
+-- a jump to no label, with an offset or after INDEX
+abbrev pub jumps_unnamed : Bool → Parts → Bool
+jumps_unnamed indexed parts =
+    leads_on_to parts.role && (indexed || is_some parts.offset || option_map_or (λ p. is_unnamed p.text) parts.operand false)
+
+-- an address or a name with an offset
+abbrev pub names_beyond : Parts → Bool
+names_beyond parts = (is_constant parts.role || is_equals parts.role) && is_some parts.offset
+
 -- what goes on where a register says
+abbrev pub goes_by_register : Parts → Bool
+goes_by_register parts = sets_bank parts.role || has_operator computing parts || stores_way parts
+
+-- a line may lead to a word without a label
 abbrev pub leads_unnamed : Bool → Parts → Bool
-leads_unnamed indexed parts =
-    (leads_on_to parts.role && (indexed || is_some parts.offset || option_map_or (λ p. is_unnamed p.text) parts.operand false))
-    || ((is_constant parts.role || is_equals parts.role) && is_some parts.offset)
-    || sets_bank parts.role
-    || has_operator computing parts
-    || stores_way parts
+leads_unnamed indexed parts = jumps_unnamed indexed parts || names_beyond parts || goes_by_register parts
 
 abbrev pub no_leads : Leads
 no_leads = record { indexed = false; unnamed = false }

@@ -1,7 +1,7 @@
 //! Likely mistakes in routines of interrupts: what they do not keep, that they do not end, and a program that runs over
 //! the places where they are entered.
 
-ghost use Rattle.std.specs.Prelude.{◌≡◌, ◌++◌, ◌||◌, ◌&&◌, false, map, Some, OnOk};
+ghost use Rattle.std.specs.Prelude.{◌≡◌, ◌++◌, ◌&&◌, not, false, map, Some, OnOk};
 ghost use Rattle.std.specs.Option.{option_map, option_map_or};
 ghost use Rattle.agc_text.specs.Tables.{value_in};
 ghost use Rattle.agc_text.specs.Views.{piece};
@@ -9,7 +9,7 @@ ghost use Rattle.yayul.specs.Readings.{parts_in};
 ghost use Rattle.faults.specs.Registers.{registers};
 ghost use Rattle.faults.specs.Warnings.{all_unkept, none_unkept, keeping_a, keeping_l, changing_a, changing_l};
 ghost use Rattle.faults.specs.Warnings.{is_register_field, calls, is_way_register, stores_way, goes_elsewhere};
-ghost use Rattle.faults.specs.Warnings.{unkept_after, unkept_at, on_straight};
+ghost use Rattle.faults.specs.Warnings.{unkept_after, unkept_at, unkept_less, on_straight, closes_a, closes_l, closes_q};
 ghost use Rattle.faults.specs.Warnings.{with_target, is_resume_number, may_resume, no_handlers, handlers_after};
 ghost use Rattle.faults.specs.Warnings.{has_label, loses, kept_warnings, is_begun, handler_warnings};
 ghost use Rattle.faults.specs.Warnings.{crossing_warnings, is_same_known, has_operator, is_jump_register};
@@ -83,11 +83,18 @@ impl Unkept {
         } else if goes_elsewhere(parts) {
             Unkept::none()
         } else {
-            Unkept {
-                a: self.a && !(has_operator(keeping_a(), parts) || changes_a(parts)),
-                l: self.l && !(has_operator(keeping_l(), parts) || changes_l(parts)),
-                q: self.q && !has_operator(&["QXCH"], parts),
-            }
+            self.less(parts)
+        }
+    }
+
+    // What is unkept after an instruction behind which the next is reached.
+    fn less(self, parts: &Reading<'_>) -> Unkept
+        ensures { result ≡ unkept_less self (parts_in parts.now) }
+    {
+        Unkept {
+            a: and_not(self.a, closes_a(parts)),
+            l: and_not(self.l, closes_l(parts)),
+            q: and_not(self.q, closes_q(parts)),
         }
     }
 
@@ -335,6 +342,34 @@ fn is_way_register(text: &[u8]) -> bool
     ensures { result ≡ is_way_register text.now }
 {
     is_jump_name(text) || is_bank_number(BankRegister::Fb, text)
+}
+
+// Whether one thing is so, and another is not.
+fn and_not(one: bool, other: bool) -> bool
+    ensures { result ≡ (one && not other) }
+{
+    one && !other
+}
+
+// Whether A is stored or changed.
+fn closes_a(parts: &Reading<'_>) -> bool
+    ensures { result ≡ closes_a (parts_in parts.now) }
+{
+    has_operator(keeping_a(), parts) || changes_a(parts)
+}
+
+// Whether L is.
+fn closes_l(parts: &Reading<'_>) -> bool
+    ensures { result ≡ closes_l (parts_in parts.now) }
+{
+    has_operator(keeping_l(), parts) || changes_l(parts)
+}
+
+// Whether Q is stored.
+fn closes_q(parts: &Reading<'_>) -> bool
+    ensures { result ≡ closes_q (parts_in parts.now) }
+{
+    has_operator(&["QXCH"], parts)
 }
 
 fn changes_a(parts: &Reading<'_>) -> bool

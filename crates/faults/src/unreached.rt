@@ -7,6 +7,7 @@ ghost use Rattle.agc_text.specs.Views.{piece};
 ghost use Rattle.yayul.specs.Readings.{parts_in};
 ghost use Rattle.faults.specs.Registers.{registers};
 ghost use Rattle.faults.specs.Warnings.{is_signed_text, is_unnamed, computing, leads_unnamed, no_leads, leads_after};
+ghost use Rattle.faults.specs.Warnings.{jumps_unnamed, names_beyond, goes_by_register};
 ghost use Rattle.faults.specs.Warnings.{skipping, skips_after, behind_after, may_enter, is_work, unreached_warnings};
 
 use crate::causes::value_in;
@@ -57,11 +58,28 @@ impl Leads {
 fn leads_unnamed(indexed: bool, parts: &Reading<'_>) -> bool
     ensures { result ≡ leads_unnamed indexed (parts_in parts.now) }
 {
+    jumps_unnamed(indexed, parts) || names_beyond(parts) || goes_by_register(parts)
+}
+
+// A jump to no label, with an offset or after INDEX.
+fn jumps_unnamed(indexed: bool, parts: &Reading<'_>) -> bool
+    ensures { result ≡ jumps_unnamed indexed (parts_in parts.now) }
+{
     leads_on_to(parts.role) && (indexed || parts.offset.is_some() || is_unnamed(parts.operand))
-        || (is_constant(parts.role) || is_equals(parts.role)) && parts.offset.is_some()
-        || sets_bank(parts.role)
-        || has_operator(computing(), parts)
-        || stores_way(parts)
+}
+
+// An address or a name with an offset.
+fn names_beyond(parts: &Reading<'_>) -> bool
+    ensures { result ≡ names_beyond (parts_in parts.now) }
+{
+    (is_constant(parts.role) || is_equals(parts.role)) && parts.offset.is_some()
+}
+
+// What goes on where a register says.
+fn goes_by_register(parts: &Reading<'_>) -> bool
+    ensures { result ≡ goes_by_register (parts_in parts.now) }
+{
+    sets_bank(parts.role) || has_operator(computing(), parts) || stores_way(parts)
 }
 
 const COMPUTING: [&str; 3] = ["XXALQ", "XLQ", "TCAA"];
