@@ -3,16 +3,15 @@
 
 ghost use Rattle.std.specs.Prelude.{◌≡◌, ◌++◌, ◌&&◌, not, false, map, Some, OnOk};
 ghost use Rattle.std.specs.Option.{option_map, option_map_or};
-ghost use Rattle.agc_text.specs.Tables.{value_in};
 ghost use Rattle.agc_text.specs.Views.{piece};
 ghost use Rattle.yayul.specs.Readings.{parts_in};
-ghost use Rattle.faults.specs.Registers.{registers};
 ghost use Rattle.faults.specs.Warnings.{all_unkept, none_unkept, keeping_a, keeping_l, changing_a, changing_l};
 ghost use Rattle.faults.specs.Warnings.{is_register_field, calls, is_way_register, stores_way, goes_elsewhere};
-ghost use Rattle.faults.specs.Warnings.{unkept_after, unkept_at, unkept_less, on_straight, closes_a, closes_l, closes_q};
+ghost use Rattle.faults.specs.Warnings.{unkept_after, unkept_at, unkept_less, on_straight};
+ghost use Rattle.faults.specs.Warnings.{closes_a, closes_l, closes_q};
 ghost use Rattle.faults.specs.Warnings.{with_target, is_resume_number, may_resume, no_handlers, handlers_after};
 ghost use Rattle.faults.specs.Warnings.{has_label, loses, kept_warnings, is_begun, handler_warnings};
-ghost use Rattle.faults.specs.Warnings.{crossing_warnings, is_same_known, has_operator, is_jump_register};
+ghost use Rattle.faults.specs.Warnings.{crossing_warnings, is_same_known, has_operator};
 
 use crate::causes::value_in;
 use crate::flow::{gives_word, is_instruction, is_jump_name, sets_vector};
