@@ -15,7 +15,7 @@ use words::{ReadAhead, Std, Write, read_text, write_all};
 use workshop::{
     Counted, LineForm, Side, Summary, WorkshopFault, access_program, cover_program, debug_program,
     delays_program, differ_program, reach_program, reach_run, read_trials, run_and_tell,
-    run_with_notes, tell_commands_end, trace_program, try_program, write_end,
+    run_with_notes, tell_commands_end, trace_program, try_notes, try_program, write_end,
 };
 
 /// `agcws run [--end] [--progress] [--notes [--json]] .. SRC FEED N`. All files are opened before anything is read.
@@ -322,15 +322,12 @@ pub fn whatif(rt: &HostRuntime, asked: &Trials<'_>) -> Result<u8, WorkshopFault>
     let feed = read_text(rt.alloc(), &mut ReadAhead::new(feed), MOST_BYTES)?;
     let steps = asked.steps.count();
     with_stdout(rt, |out| {
-        try_program(
-            rt.alloc(),
-            origin,
-            &mut file,
-            &feed,
-            trials.plain(),
-            steps,
-            out,
-        )
+        let (alloc, trials) = (rt.alloc(), trials.plain());
+        if asked.tells_notes {
+            try_notes(alloc, origin, &mut file, &feed, trials, steps, out)
+        } else {
+            try_program(alloc, origin, &mut file, &feed, trials, steps, out)
+        }
     })?;
     Ok(DONE)
 }

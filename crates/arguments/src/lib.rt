@@ -223,6 +223,8 @@ pub struct WhatIfArguments<'a> {
     pub steps: u64,
     /// The inputs that are tried, a file.
     pub trials: &'a str,
+    /// `--notes`: what they change in the notes is told.
+    pub tells_notes: bool,
 }
 
 /// `agcws differ [--why K] .. SRC FEED N --with SRC2 FEED2`.

@@ -136,6 +136,7 @@ fn whatif<'a>(matches: &ArgMatches<'a>) -> Option<WhatIfArguments<'a>> {
         program: program(matches)?,
         steps: matches.get_one(STEPS)?,
         trials: matches.get_str(TRIALS)?,
+        tells_notes: matches.get_flag(NOTES),
     })
 }
 

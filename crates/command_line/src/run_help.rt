@@ -306,6 +306,14 @@ trials; and the first word of erasable memory from 61 on that differs from that
 of the run without:
   END 02,4016 CELL E0,0064 00003 NOT 00002
 
+With --notes, in place of all that, the kinds and places of which agcws run
+--notes would tell at a step: those of the run without a trial, and after each
+line of trials those that come with them, and those that go:
+  NOTE SKIP 02,4006
+  FROM 26 TO 27 COUNT 2
+  MORE NOTKEPT 02,4016
+  LESS SKIP 02,4006
+
 The steps up to the cycle of a trial are not made again for it.
 
 Exit status:

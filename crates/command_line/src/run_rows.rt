@@ -231,7 +231,7 @@ pub fn whatif() -> Subcommand {
     }
 }
 
-static WHATIF_ROWS: [Row; 10] = [
+static WHATIF_ROWS: [Row; 11] = [
     FLIGHT_OF_PROGRAM,
     IMAGE_OPTION,
     VERSION_OF_PROGRAM,
@@ -240,6 +240,12 @@ static WHATIF_ROWS: [Row; 10] = [
     SOURCE_ARGUMENT,
     FEED_ARGUMENT,
     STEP_COUNT,
+    Row {
+        name: NOTES,
+        long: Some("notes"),
+        help: "Tells what they change in the notes in place of what they put out",
+        ..FLAG
+    },
     Row {
         name: TRIALS,
         help: "The inputs that are tried, a file with the form of a feed",

@@ -203,6 +203,7 @@ whatif_of a = with_steps a.steps (WhatIf (record {
   program = program_of a.program;
   steps = a.steps;
   path = a.trials;
+  tells_notes = a.tells_notes;
 }))
 
 -- two runs beside each other

@@ -257,6 +257,7 @@ fn whatif<'a>(asked: WhatIfArguments<'a>) -> Plan<'a>
             program: program(asked.program),
             steps,
             path: asked.trials,
+            tells_notes: asked.tells_notes,
         }),
         None => Plan::TooManySteps,
     }

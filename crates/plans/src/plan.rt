@@ -246,6 +246,8 @@ pub struct Trials<'a> {
     pub steps: Steps,
     /// The file of the inputs.
     pub path: &'a str,
+    /// What they change in the notes is told, and not what is put out.
+    pub tells_notes: bool,
 }
 
 /// A source and feeds that are checked.

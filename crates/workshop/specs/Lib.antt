@@ -23,6 +23,7 @@ pub mod Ropes
 pub mod Runs
 pub mod Traces
 pub mod Tries
+pub mod NoteTries
 pub mod Progress
 pub mod NotedProgress
 pub mod CommandsEnd

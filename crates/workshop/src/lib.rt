@@ -28,6 +28,7 @@ mod ropes;
 mod run_reaching;
 mod tracing;
 mod trying;
+mod trying_notes;
 
 pub use accessing::access_program;
 pub use aligning::{align_engine, carry_engine, find_engine};
@@ -72,4 +73,5 @@ pub use say::LineForm;
 pub use space::Bank;
 pub use tracing::trace_program;
 pub use trying::{read_trials, try_program};
+pub use trying_notes::try_notes;
 pub use yayul::{Language, Symbols};
