@@ -19,6 +19,7 @@ pub fn steps_until_idle(processor: &mut Processor, most: u64) -> u64
     requires { most ≤ 2 ^ 40 - 2 }
     ensures steps { result ≡ steps_until_idle processor.old.scenario most }
     ensures within { result ≤ most }
+    ensures some { 0 < most → 0 < result }
     ensures scenario { processor.new.scenario ≡ processor.old.scenario }
     ensures once { processor.new.meter ≤ processor.old.meter + result }
 {
