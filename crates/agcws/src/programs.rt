@@ -15,10 +15,10 @@ use words::{ReadAhead, Std, Write, read_text, write_all};
 use workshop::{
     Counted, LineForm, Side, Summary, WorkshopFault, access_program, cover_program, debug_program,
     delays_program, differ_program, reach_program, reach_run, read_trials, run_and_tell,
-    run_with_notes, tell_commands_end, trace_program, try_notes, try_program, write_end,
+    run_until_idle, run_with_notes, tell_commands_end, trace_program, try_notes, try_program, write_end,
 };
 
-/// `agcws run [--end] [--progress] [--notes [--json]] .. SRC FEED N`. All files are opened before anything is read.
+/// `agcws run [--end] [--progress] [--until-idle | --notes [--json]] .. SRC FEED N`. All files are opened before anything is read.
 pub fn run(rt: &HostRuntime, asked: &Run<'_>) -> Result<u8, WorkshopFault> {
     let program = opened_program(rt, &asked.program)?;
     let summary = with_stdout(rt, |out| run_told(rt, program, asked, out))?;
@@ -57,6 +57,16 @@ fn run_told<W: Write>(
             out,
             &mut progress,
             &mut Std::new(rt.stderr()),
+        )
+    } else if asked.until_idle {
+        run_until_idle(
+            rt.alloc(),
+            origin,
+            &mut file,
+            &mut feed,
+            steps,
+            out,
+            &mut progress,
         )
     } else {
         run_and_tell(

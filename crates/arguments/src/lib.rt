@@ -117,13 +117,15 @@ pub struct AsmArguments<'a> {
     pub has_xref: bool,
 }
 
-/// `agcws run [--end] [--progress] [--notes [--json]] .. SRC FEED N`.
+/// `agcws run [--end] [--progress] [--until-idle | --notes [--json]] .. SRC FEED N`.
 #[derive(Clone, Copy)]
 pub struct RunArguments<'a> {
     /// What is run.
     pub program: ProgramArguments<'a>,
     /// How many steps.
     pub steps: u64,
+    /// `--until-idle`: whether fewer steps are made where the program idles before.
+    pub until_idle: bool,
     /// `--end`: whether it is told how the run has ended.
     pub tells_end: bool,
     /// `--progress`: whether it is told how many steps are made.

@@ -6,8 +6,8 @@ use crate::names::{
     FIND, FLIGHT, FORM, FORMS, FROM, IGNORED_PARITY, IMAGE, JSON, JUNIT, NEW, NEW_FORM,
     NEW_VERSION, NOTES, NUMBER, OLD, OLD_FORM, OLD_VERSION, ONLY, PARITY, PASSAGE, PLACE, PROGRESS,
     REACH, READS, ROPE, RUN, RUN_FEED, RUN_STEPS, SAY, SOURCE, STEPS, SUMS, SYMBOLS, TAP, TO,
-    TRACE, TRIALS, UNUSED, UPGRADE, VERSION, VERSION_ONE, WHATIF, WHERE, WHY, WITH, WITH_SUMS,
-    WITH_XREF, WORDS,
+    TRACE, TRIALS, UNTIL_IDLE, UNUSED, UPGRADE, VERSION, VERSION_ONE, WHATIF, WHERE, WHY, WITH,
+    WITH_SUMS, WITH_XREF, WORDS,
 };
 use arguments::{
     AccessArguments, AlignArguments, Arguments, AsmArguments, CheckArguments, CompareArguments,
@@ -68,6 +68,7 @@ fn run<'a>(matches: &ArgMatches<'a>) -> Option<RunArguments<'a>> {
     Some(RunArguments {
         program: program(matches)?,
         steps: matches.get_one(STEPS)?,
+        until_idle: matches.get_flag(UNTIL_IDLE),
         tells_end: matches.get_flag(END),
         tells_progress: matches.get_flag(PROGRESS),
         tells_notes: matches.get_flag(NOTES),

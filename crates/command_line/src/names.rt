@@ -155,6 +155,9 @@ pub const WITH_SUMS: &str = "WITH_SUMS";
 /// That it is told what lines do with each name.
 pub const WITH_XREF: &str = "WITH_XREF";
 
+/// That a run ends where the program idles.
+pub const UNTIL_IDLE: &str = "UNTIL_IDLE";
+
 /// That it is told how a run has ended.
 pub const END: &str = "END";
 

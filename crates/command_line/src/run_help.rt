@@ -30,6 +30,9 @@ pub const RUN_HELP: &str = "Files:
 Output: one line for each word written to a channel but 1, 2 and 7, as
   7 CH 010 00012
 with the cycles in decimal, and the channel and the word in octal.
+With --until-idle the run ends after a step where all is, but for the cycles,
+as after the last step before whose number is a power of two, no input is to
+come since then and nothing was put out: the same loop goes on for ever.
 With --end, when all steps are made, also one line to standard error, as
   END STEPS 4 CYCLES 7 OUTPUTS 1 Z 4004
 with the lines written as OUTPUTS, and in octal Z, where the program stands.

@@ -2,7 +2,7 @@
 
 use crate::names::{
     ACCESS, COVER, DEBUG, DELAYS, DIFFER, END, EXTENDED, FROM, JSON, NOTES, PLACE, REACH, READS,
-    RUN, RUN_FEED, RUN_STEPS, SAY, TO, TRACE, TRIALS, WHATIF, WHY, WITH,
+    RUN, RUN_FEED, RUN_STEPS, SAY, TO, TRACE, TRIALS, UNTIL_IDLE, WHATIF, WHY, WITH,
 };
 use crate::row::{Row, Subcommand, Value};
 use crate::rows::{
@@ -25,7 +25,7 @@ pub fn run() -> Subcommand {
     }
 }
 
-static RUN_ROWS: [Row; 12] = [
+static RUN_ROWS: [Row; 13] = [
     FLIGHT_OF_PROGRAM,
     IMAGE_OPTION,
     VERSION_OF_PROGRAM,
@@ -34,6 +34,12 @@ static RUN_ROWS: [Row; 12] = [
     SOURCE_ARGUMENT,
     FEED_ARGUMENT,
     STEP_COUNT,
+    Row {
+        name: UNTIL_IDLE,
+        long: Some("until-idle"),
+        help: "Ends the run where the program idles, if it does before",
+        ..FLAG
+    },
     Row {
         name: END,
         long: Some("end"),
@@ -44,6 +50,7 @@ static RUN_ROWS: [Row; 12] = [
     Row {
         name: NOTES,
         long: Some("notes"),
+        conflicts: &[UNTIL_IDLE],
         help: "Tells what is seldom meant, on standard error",
         ..FLAG
     },

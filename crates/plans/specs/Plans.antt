@@ -116,6 +116,7 @@ abbrev pub run_of : RunArguments → Plan
 run_of a = with_steps a.steps (Run (record {
   program = program_of a.program;
   steps = a.steps;
+  until_idle = a.until_idle;
   tells_progress = a.tells_progress;
   tells_notes = a.tells_notes;
   notation = notation_of a.is_json;

@@ -130,6 +130,7 @@ fn run<'a>(asked: RunArguments<'a>) -> Plan<'a>
         Some(steps) => Plan::Run(Run {
             program: program(asked.program),
             steps,
+            until_idle: asked.until_idle,
             tells_progress: asked.tells_progress,
             tells_notes: asked.tells_notes,
             notation: notation(asked.is_json),

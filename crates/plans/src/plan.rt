@@ -173,6 +173,8 @@ pub struct Run<'a> {
     pub program: Program<'a>,
     /// How many steps are made.
     pub steps: Steps,
+    /// Whether fewer are made where the program idles before.
+    pub until_idle: bool,
     /// Whether it is told how many steps are made.
     pub tells_progress: bool,
     /// Whether it is told what is seldom meant.

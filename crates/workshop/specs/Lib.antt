@@ -1,6 +1,7 @@
 pub mod Aligning
 pub mod Assemblies
 pub mod Covers
+pub mod RunsUntilIdle
 pub mod AccessRuns
 pub mod DelayRuns
 pub mod DifferRuns

@@ -16,6 +16,7 @@ mod engine;
 mod executed;
 mod expecting;
 mod fault;
+mod idling;
 mod inputs;
 pub mod laws;
 mod naming;
@@ -56,6 +57,7 @@ pub use faults::{
     NoteKind, Refusal, all_headings, explanation, near_in, note_explanation, note_kind, refusal_of,
     warning_explanation, warning_of,
 };
+pub use idling::run_until_idle;
 pub use naming::{named_source_engine, read_names};
 pub use noting::run_with_notes;
 pub use origin::Origin;
