@@ -14,6 +14,8 @@ pub enum Arguments<'a> {
     Cover(CoverArguments<'a>),
     /// It is shown which words of a program are reached.
     Reach(ReachArguments<'a>),
+    /// The most cycles of a routine are told.
+    Bound(BoundArguments<'a>),
     /// The reads and writes of a run are counted.
     Access(AccessArguments<'a>),
     /// How long the interrupts of a run waited is told.
@@ -190,6 +192,19 @@ pub struct ReachRun<'a> {
     pub feed: &'a str,
     /// How many steps.
     pub steps: u64,
+}
+
+/// `agcws bound .. SRC ROUTINE [--loops TEXT] [--kept TEXT]`.
+#[derive(Clone, Copy)]
+pub struct BoundArguments<'a> {
+    /// The program.
+    pub listed: ReachArguments<'a>,
+    /// The routine.
+    pub routine: &'a str,
+    /// `--loops`: pairs of a place and of how often a way comes to it at most.
+    pub loops: Option<&'a str>,
+    /// `--kept`: the cells that keep Q.
+    pub kept: Option<&'a str>,
 }
 
 /// `agcws access [--progress] .. SRC FEED N [PLACE]`.

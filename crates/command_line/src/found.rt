@@ -1,23 +1,10 @@
 //! The values of the arguments that a call gives.
 
-use crate::names::{
-    ACCESS, ALIGN, AS_OCTAL, AS_SOURCE, ASM, BANK, BANK_COUNT, BANKS, BOTH_FORMS, CHECK, COMPARE,
-    COVER, DAMAGES, DEBUG, DELAYS, DIFFER, END, EXPECT, EXPLAIN, EXTENDED, FEED, FEEDS, FILES,
-    FIND, FLIGHT, FORM, FORMS, FROM, IGNORED_PARITY, IMAGE, JSON, JUNIT, NEW, NEW_FORM,
-    NEW_VERSION, NOTES, NUMBER, OLD, OLD_FORM, OLD_VERSION, ONLY, PARITY, PASSAGE, PLACE, PROGRESS,
-    REACH, READS, ROPE, RUN, RUN_FEED, RUN_STEPS, SAY, SOURCE, STEPS, SUMS, SYMBOLS, TAP, TO,
-    TRACE, TRIALS, UNTIL_IDLE, UNUSED, UPGRADE, VERSION, VERSION_ONE, WHATIF, WHERE, WHY, WITH,
-    WITH_SUMS, WITH_XREF, WORDS,
-};
-use arguments::{
-    AccessArguments, AlignArguments, Arguments, AsmArguments, CheckArguments, CompareArguments,
-    CoverArguments, DamagesArguments, DebugArguments, DelaysArguments, DifferArguments,
-    FindArguments, ImageArguments, ImageLayout, ImageVersion, ProgramArguments, ReachArguments,
-    ReachRun, RunArguments, SumsArguments, TraceArguments, UpgradeArguments, VerdictArguments,
-    WhatIfArguments, WordsArguments,
-};
+use crate::names::{ACCESS, ALIGN, ASM, AS_OCTAL, AS_SOURCE, BANK, BANKS, BANK_COUNT, BOTH_FORMS, BOUND, CHECK, COMPARE, COVER, DAMAGES, DEBUG, DELAYS, DIFFER, END, EXPECT, EXPLAIN, EXTENDED, FEED, FEEDS, FILES, FIND, FLIGHT, FORM, FORMS, FROM, IGNORED_PARITY, IMAGE, JSON, JUNIT, KEPT, LOOPS, NEW, NEW_FORM, NEW_VERSION, NOTES, NUMBER, OLD, OLD_FORM, OLD_VERSION, ONLY, PARITY, PASSAGE, PLACE, PROGRESS, REACH, READS, ROPE, ROUTINE, RUN, RUN_FEED, RUN_STEPS, SAY, SOURCE, STEPS, SUMS, SYMBOLS, TAP, TO, TRACE, TRIALS, UNTIL_IDLE, UNUSED, UPGRADE, VERSION, VERSION_ONE, WHATIF, WHERE, WHY, WITH, WITH_SUMS, WITH_XREF, WORDS};
+use arguments::{AccessArguments, AlignArguments, Arguments, AsmArguments, BoundArguments, CheckArguments, CompareArguments, CoverArguments, DamagesArguments, DebugArguments, DelaysArguments, DifferArguments, FindArguments, ImageArguments, ImageLayout, ImageVersion, ProgramArguments, ReachArguments, ReachRun, RunArguments, SumsArguments, TraceArguments, UpgradeArguments, VerdictArguments, WhatIfArguments, WordsArguments};
 use clap::ArgMatches;
-use std::alloc::{AllocError, Global};
+use std::alloc::AllocError;
+use std::alloc::Global;
 
 /// The subcommand that was found, with its arguments; `None` where one is missing that `clap` has seen to be there.
 pub fn arguments<'a>(
@@ -33,6 +20,7 @@ pub fn arguments<'a>(
         TRACE => trace(matches).map(Arguments::Trace),
         COVER => cover(matches).map(Arguments::Cover),
         REACH => reach(matches).map(Arguments::Reach),
+        BOUND => bound(matches).map(Arguments::Bound),
         ACCESS => access(matches).map(Arguments::Access),
         DELAYS => delays(matches).map(Arguments::Delays),
         WHATIF => whatif(matches).map(Arguments::WhatIf),
@@ -98,12 +86,17 @@ fn cover<'a>(matches: &ArgMatches<'a>) -> Option<CoverArguments<'a>> {
 }
 
 fn reach<'a>(matches: &ArgMatches<'a>) -> Option<ReachArguments<'a>> {
+    listed(matches, reach_run(matches))
+}
+
+/// A program that is shown, beside a run or not.
+fn listed<'a>(matches: &ArgMatches<'a>, run: Option<ReachRun<'a>>) -> Option<ReachArguments<'a>> {
     Some(ReachArguments {
         file: image(matches, SOURCE, VERSION, FORM)?,
         is_image: matches.get_flag(IMAGE),
         is_flight: matches.get_flag(FLIGHT),
         symbols: matches.get_str(SYMBOLS),
-        run: reach_run(matches),
+        run,
     })
 }
 
@@ -112,6 +105,15 @@ fn reach_run<'a>(matches: &ArgMatches<'a>) -> Option<ReachRun<'a>> {
     Some(ReachRun {
         feed: matches.get_str(RUN_FEED)?,
         steps: matches.get_one(RUN_STEPS)?,
+    })
+}
+
+fn bound<'a>(matches: &ArgMatches<'a>) -> Option<BoundArguments<'a>> {
+    Some(BoundArguments {
+        listed: listed(matches, None)?,
+        routine: matches.get_str(ROUTINE)?,
+        loops: matches.get_str(LOOPS),
+        kept: matches.get_str(KEPT),
     })
 }
 

@@ -20,6 +20,7 @@ pub mod Notings
 pub mod Refused
 pub mod Reaches
 pub mod RunReaches
+pub mod BoundRuns
 pub mod Ropes
 pub mod Runs
 pub mod Traces

@@ -4,6 +4,7 @@
 mod accessing;
 mod aligning;
 mod assembly;
+mod bounding;
 mod checking;
 mod commands_end;
 mod covering;
@@ -35,6 +36,7 @@ pub use accessing::access_program;
 pub use aligning::{align_engine, carry_engine, find_engine};
 pub use assembly::{asm_engine, asm_with_check_words, report_no_room};
 pub use audit::{Layout, arranged, module_image};
+pub use bounding::{Bounded, bound_program};
 pub use checking::{Tally, check_feed, check_source, unread_text, write_tally};
 pub use commands_end::{Counted, tell_commands_end};
 pub use covering::cover_program;
