@@ -15,7 +15,10 @@ use plans::{
 };
 use words::{ReadAhead, Std, Write, read_text, write_all};
 use workshop::{
-    Bounded, Counted, LineForm, Side, Summary, WorkshopFault, access_program, bound_program, cover_program, debug_program, delays_program, differ_program, reach_program, reach_run, read_trials, run_and_tell, run_until_idle, run_with_notes, tell_commands_end, trace_program, try_notes, try_program, write_end,
+    Bounded, Counted, LineForm, Side, Summary, WorkshopFault, access_program, bound_program,
+    cover_program, debug_program, delays_program, differ_program, reach_program, reach_run,
+    read_trials, run_and_tell, run_until_idle, run_with_notes, tell_commands_end, trace_program,
+    try_notes, try_program, write_end,
 };
 
 /// `agcws run [--end] [--progress] [--until-idle | --notes [--json]] .. SRC FEED N`. All files are opened before anything is read.
