@@ -44,8 +44,8 @@ class Restart(ViewCase):
 
     def told(self, source, feed, steps, *asked):
         """What a session tells after so many steps."""
-        lines = pipe.answer("debug", "--extended", source, feed, given="".join(f"{it}\n" for it in (f"run {steps}", "echo", *asked)))[0].splitlines()
-        return lines[lines.index("") + 1 :]
+        lines = pipe.answer("debug", "--extended", source, feed, given="".join(f"{it}\n" for it in (f"run {steps}", "echo now", *asked)))[0].splitlines()
+        return lines[lines.index("now") + 1 :]
 
     def test_requests(self):
         """What was asked for is forgotten; what is still to come stays so."""
@@ -59,9 +59,9 @@ class Restart(ViewCase):
             wanted = [*without, "FROM 7 TO 7 COUNT 1 ALIKE 0 OTHERS 2", "CH 010 00000", "CH 011 00005", "END 02,4006"]
             self.assertEqual(self.told(source, feed, 20, "whatif RESTART 100 from 4 to 4"), wanted)
         with self.subTest("the session stays"):
-            shown = self.told(source, feed, 20, "regs all", "chans", "whatif RESTART 9 from 1 to 20", "echo", "regs all", "chans")
+            shown = self.told(source, feed, 20, "regs all", "chans", "whatif RESTART 9 from 1 to 20", "echo now", "regs all", "chans")
             at = shown.index("WITHOUT WORDS 2")
-            self.assertEqual(shown[:at], shown[shown.index("") + 1 :])
+            self.assertEqual(shown[:at], shown[shown.index("now") + 1 :])
         with self.subTest("the step is among the last"):
             self.assertEqual(self.told(source, feed, 4, "whatif RESTART 0", "step 1")[2:4], ["FROM 7 TO 7 COUNT 1 ALIKE 0 OTHERS 0", "END 02,4000"])
 

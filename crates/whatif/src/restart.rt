@@ -1,6 +1,6 @@
 //! Trying a restart at each of some steps of a run, as at the one where it stands.
 
-ghost use Rattle.std.specs.Prelude.{◌≡◌, ◌+◌, ◌-◌, ◌*◌, ◌^◌, ◌<◌, ◌≤◌, None, IfOk, OnOk, false, true, if◌then◌else◌};
+ghost use Rattle.std.specs.Prelude.{◌≡◌, ◌+◌, ◌-◌, ◌*◌, ◌^◌, ◌<◌, ◌≤◌, None, IfOk, OnOk, true, if◌then◌else◌};
 ghost use Rattle.words.specs.Devices.{Writes, one_more};
 ghost use Rattle.cpu.specs.Run.{run};
 ghost use Rattle.cpu.specs.State.{FitsRun};
