@@ -464,7 +464,7 @@ trials : asked (codes "whatif TIME3 PINC" ∷ codes "whatif RUPT 4 20 # soon" �
     ∷ WhatIf (Given (Count Time3 Pinc)) (Each 5 6 0)
     ∷ WhatIf (Given (Word 0o15 0o21)) (Each 5 0 1099511627776)
     ∷ Plain WrongCounter
-    ∷ Says (codes "HELP whatif takes an input as in a feed or RESTART, [k [from A to B]]: what it would change\n") ∷ []
+    ∷ Says (codes "HELP whatif takes an input of a feed or RESTART, [k [from A to B]]: what it would change\n") ∷ []
 unfolding extended_line extended_forms usages forms runs parsed counters sequences registers window
 trials = refl
 
@@ -474,7 +474,7 @@ not_tried : asked (codes "whatif" ∷ codes "whatif RUPT" ∷ codes "whatif RUPT
     ∷ codes "whatif CHAN 15 21 1234567890123456" ∷ codes "whatif RUPT 4 5 from 7 to 6" ∷ codes "whatif RUPT 4 from 6 to 7"
     ∷ codes "whatif RUPT 4 5 at 6 to 7" ∷ codes "whatif RUPT 4 5 from 6 on 7" ∷ codes "whatif RUPT 4 5 from 6 to"
     ∷ codes "whatif RUPT 4 5 from 6 to 7 8" ∷ codes "whatif RUPT 4 5 from x to 7" ∷ [])
-    ≡ replicate 17 (Says (codes "E50 COMMAND whatif takes an input as in a feed or RESTART, [k [from A to B]]\n"))
+    ≡ replicate 17 (Says (codes "E50 COMMAND whatif takes an input of a feed or RESTART, [k [from A to B]]\n"))
 unfolding extended_line extended_forms usages forms runs parsed counters sequences registers window
 not_tried = refl
 
@@ -482,7 +482,7 @@ not_tried = refl
 restarts : asked (codes "whatif RESTART" ∷ codes "whatif RESTART 20 # soon" ∷ codes "whatif RESTART 5 from 6 to 9"
     ∷ codes "whatif RESTART 5 from 9 to 6" ∷ codes "whatif RESTART x" ∷ codes "whatif restart 5" ∷ [])
     ≡ WhatIf Restart (Here 1000) ∷ WhatIf Restart (Here 20) ∷ WhatIf Restart (Each 5 6 3)
-    ∷ replicate 3 (Says (codes "E50 COMMAND whatif takes an input as in a feed or RESTART, [k [from A to B]]\n"))
+    ∷ replicate 3 (Says (codes "E50 COMMAND whatif takes an input of a feed or RESTART, [k [from A to B]]\n"))
 unfolding extended_line extended_forms usages forms runs parsed counters sequences registers window
 restarts = refl
 
