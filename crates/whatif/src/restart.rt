@@ -213,7 +213,8 @@ fn go_further(
     ensures scenario { processor.new.scenario ≡ processor.old.scenario }
     ensures once { processor.new.meter ≤ processor.old.meter + steps }
     ensures machine { OnOk result (machine.new ≡ on_from processor.old.scenario machine.old steps) }
-    ensures answer { OnOk result (answer.new ≡ outcome_on base.now processor.old.scenario machine.old answer.old steps) }
+    ensures answer { OnOk result (answer.new
+        ≡ outcome_on base.now processor.old.scenario machine.old answer.old steps) }
 {
     for _ in 0..steps {
         step_and_see(processor, machine, base, answer)?;
