@@ -519,6 +519,7 @@ With --extended there are these besides, and after E50 COMMAND stands why:
                        and with it, that came at P: as agcws whatif has them,
                        of the other words the first. Nothing changes
   .. K from A to B     the same at each of the steps A to B, up to K after B
+  whatif RESTART, ..   the same of a restart; of one alone all other words
   find TEXT            the symbols whose names begin so, as FIND; COUNT
   breaks               the breakpoints, one a line, as BREAK I at PLACE; COUNT
   clear I              breakpoint I is taken away: CLEAR I, or NONE
