@@ -12,3 +12,4 @@ mod Words
 mod Rows
 mod Stepwise
 mod Holding
+mod Restarting

@@ -4,6 +4,7 @@
 mod accessing;
 mod aligning;
 mod assembly;
+mod bounding;
 mod checking;
 mod commands_end;
 mod covering;
@@ -16,6 +17,7 @@ mod engine;
 mod executed;
 mod expecting;
 mod fault;
+mod idling;
 mod inputs;
 pub mod laws;
 mod naming;
@@ -34,6 +36,7 @@ pub use accessing::access_program;
 pub use aligning::{align_engine, carry_engine, find_engine};
 pub use assembly::{asm_engine, asm_with_check_words, report_no_room};
 pub use audit::{Layout, arranged, module_image};
+pub use bounding::{Bounded, bound_program};
 pub use checking::{Tally, check_feed, check_source, unread_text, write_tally};
 pub use commands_end::{Counted, tell_commands_end};
 pub use covering::cover_program;
@@ -56,6 +59,7 @@ pub use faults::{
     NoteKind, Refusal, all_headings, explanation, near_in, note_explanation, note_kind, refusal_of,
     warning_explanation, warning_of,
 };
+pub use idling::run_until_idle;
 pub use naming::{named_source_engine, read_names};
 pub use noting::run_with_notes;
 pub use origin::Origin;
