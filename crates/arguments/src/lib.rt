@@ -14,6 +14,8 @@ pub enum Arguments<'a> {
     Cover(CoverArguments<'a>),
     /// It is shown which words of a program are reached.
     Reach(ReachArguments<'a>),
+    /// The most cycles of a routine are told.
+    Bound(BoundArguments<'a>),
     /// The reads and writes of a run are counted.
     Access(AccessArguments<'a>),
     /// How long the interrupts of a run waited is told.
@@ -192,6 +194,19 @@ pub struct ReachRun<'a> {
     pub steps: u64,
 }
 
+/// `agcws bound .. SRC ROUTINE [--loops TEXT] [--kept TEXT]`.
+#[derive(Clone, Copy)]
+pub struct BoundArguments<'a> {
+    /// The program.
+    pub listed: ReachArguments<'a>,
+    /// The routine.
+    pub routine: &'a str,
+    /// `--loops`: pairs of a place and of how often a way comes to it at most.
+    pub loops: Option<&'a str>,
+    /// `--kept`: the cells that keep Q.
+    pub kept: Option<&'a str>,
+}
+
 /// `agcws access [--progress] .. SRC FEED N [PLACE]`.
 #[derive(Clone, Copy)]
 pub struct AccessArguments<'a> {
@@ -225,6 +240,8 @@ pub struct WhatIfArguments<'a> {
     pub steps: u64,
     /// The inputs that are tried, a file.
     pub trials: &'a str,
+    /// `--notes`: what they change in the notes is told.
+    pub tells_notes: bool,
 }
 
 /// `agcws differ [--why K] .. SRC FEED N --with SRC2 FEED2`.

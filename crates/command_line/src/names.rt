@@ -21,6 +21,18 @@ pub const RUN_FEED: &str = "feed-of-run";
 /// How many steps that run makes.
 pub const RUN_STEPS: &str = "steps-of-run";
 
+/// The subcommand that tells the most cycles of a routine.
+pub const BOUND: &str = "bound";
+
+/// A routine.
+pub const ROUTINE: &str = "ROUTINE";
+
+/// How often a way comes to the heads of loops at most.
+pub const LOOPS: &str = "loops";
+
+/// Cells that keep Q.
+pub const KEPT: &str = "kept";
+
 /// The subcommand that counts the reads and writes of a run.
 pub const ACCESS: &str = "access";
 

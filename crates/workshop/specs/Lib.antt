@@ -20,10 +20,12 @@ pub mod Notings
 pub mod Refused
 pub mod Reaches
 pub mod RunReaches
+pub mod BoundRuns
 pub mod Ropes
 pub mod Runs
 pub mod Traces
 pub mod Tries
+pub mod NoteTries
 pub mod Progress
 pub mod NotedProgress
 pub mod CommandsEnd
