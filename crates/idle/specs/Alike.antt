@@ -48,12 +48,15 @@ same_flags one other = same_flag one.extra other.extra && same_flag one.inhibit 
 abbrev pub same_waits : State → State → Bool
 same_waits one other = same_waiting one.waiting_sum other.waiting_sum && same_waiting one.waiting_word other.waiting_word
 
--- all that a step depends on is the same, but for the cycles and the inputs taken; Z stands first, since it differs soonest
-abbrev pub are_alike : State → State → Bool
-are_alike one other =
-    same_place one.cells other.cells program_counter
-    && same_flags one other
+-- all that a step depends on is the same where Z is, but for the cycles and the inputs taken
+abbrev pub same_rest : State → State → Bool
+same_rest one other =
+    same_flags one other
     && same_waits one other
     && same_places one.cells other.cells erasable_count
     && same_channels one.cells other.cells channel_count
     && same_requests one.requests other.requests request_count
+
+-- Z stands first, since it differs soonest
+abbrev pub are_alike : State → State → Bool
+are_alike one other = same_place one.cells other.cells program_counter && same_rest one other

@@ -2,7 +2,8 @@
 
 ghost use Rattle.std.specs.Prelude.{◌≡◌, ◌<◌};
 ghost use Rattle.idle.specs.Alike.{are_alike, same_channel, same_channels, same_flag, same_flags, same_place};
-ghost use Rattle.idle.specs.Alike.{same_places, same_request, same_requests, same_waiting, same_waits};
+ghost use Rattle.idle.specs.Alike.{same_places, same_request, same_requests, same_rest, same_waiting};
+ghost use Rattle.idle.specs.Alike.{same_waits};
 
 use cpu::Machine;
 use feed::{INTERRUPTS, Interrupt};
@@ -26,10 +27,7 @@ pub fn are_alike(one: &Machine, other: &Machine) -> bool
 /// The same where Z is the same.
 #[inline(never)]
 fn same_rest(one: &Machine, other: &Machine) -> bool
-    ensures { result ≡ (same_flags one.now other.now && same_waits one.now other.now
-        && same_places one.now.cells other.now.cells 0o4000
-        && same_channels one.now.cells other.now.cells 0o1000
-        && same_requests one.now.requests other.now.requests 10) }
+    ensures { result ≡ same_rest one.now other.now }
 {
     same_flags(one, other)
         && same_waits(one, other)

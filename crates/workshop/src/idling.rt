@@ -2,6 +2,9 @@
 
 ghost use Rattle.std.specs.Prelude.{◌≡◌, ◌-◌, ◌≤◌, ◌<◌, ◌^◌, true, OnOk};
 ghost use Rattle.workshop.specs.Failures.{reader, writer};
+ghost use Rattle.workshop.specs.Loading.{program_and_feed};
+ghost use Rattle.workshop.specs.Progress.{telling};
+ghost use Rattle.workshop.specs.Runs.{running};
 ghost use Rattle.workshop.specs.RunsUntilIdle.{RunsUntilIdle, TellsUntilIdle};
 
 use crate::engine::{Summary, run};
@@ -27,44 +30,18 @@ pub fn run_until_idle<P: Read, F: Read, W: Write, T: Write>(
 ) -> Result<Summary, WorkshopFault>
     requires { most ≤ 2 ^ 40 - 2 }
     ensures runs { RunsUntilIdle origin most
-        (record {
-          files = record {
-            program = reader P.told P.left P.failures program.old;
-            feed = reader F.told F.left
-                F.failures feed.old;
-          };
-          out = writer W.told W.written W.failures out.old;
-        })
-        (record {
-          files = record {
-            program = reader P.told P.left P.failures program.new;
-            feed = reader F.told F.left
-                F.failures feed.new;
-          };
-          out = writer W.told W.written W.failures out.new;
-        }) result }
+        (running (reader P.told P.left P.failures program.old) (reader F.told F.left F.failures feed.old)
+        (writer W.told W.written W.failures out.old))
+        (running (reader P.told P.left P.failures program.new) (reader F.told F.left F.failures feed.new)
+        (writer W.told W.written W.failures out.new))
+        result }
     ensures handed_on { W.told ≡ true → 0 < most → OnOk result (W.handed_on out.new ≡ W.written out.new) }
     ensures progress { TellsUntilIdle origin most
-        (record {
-          program = reader P.told P.left P.failures program.old;
-          feed = reader F.told F.left F.failures
-              feed.old;
-        })
-        (record {
-          program = reader P.told P.left P.failures program.new;
-          feed = reader F.told F.left F.failures
-              feed.new;
-        })
-        (record {
-          out = writer W.told W.written W.failures out.old;
-          progress = writer T.told T.written T.failures
-              progress.old;
-        })
-        (record {
-          out = writer W.told W.written W.failures out.new;
-          progress = writer T.told T.written T.failures
-              progress.new;
-        }) result }
+        (program_and_feed (reader P.told P.left P.failures program.old) (reader F.told F.left F.failures feed.old))
+        (program_and_feed (reader P.told P.left P.failures program.new) (reader F.told F.left F.failures feed.new))
+        (telling (writer W.told W.written W.failures out.old) (writer T.told T.written T.failures progress.old))
+        (telling (writer W.told W.written W.failures out.new) (writer T.told T.written T.failures progress.new))
+        result }
 {
     let loaded = load(alloc, origin, program, feed)?;
     let mut processor = Processor::new(loaded.rope, loaded.feed);
