@@ -216,6 +216,19 @@ class Shake(ViewCase):
         with self.subTest("a way back that is lost"):
             self.assertTrue("CH 011 word 1 is none in place of 00002; NOTE NOTKEPT" in key and "    at 02,4111 EXTEND, 02,4131 QXCH RTRN, 02,4132 TC Q\n" in key, out)
 
+    def test_audited_with_feed(self):
+        """The same two with its feed. In 2,000 steps its own interrupts come to the same wherever they are moved; in 3,000 they do not, and what an interrupt does itself
+        stands before. NOTKEPT is noted without it too, since the feed has keys; the way back that is lost leads to the word at L."""
+        for steps in ("2000", "3000"):
+            status, out, err = call("shake", f"{EXAMPLES}/audited.agc", steps, "--each-interrupt", "--feed", f"{EXAMPLES}/audited.feed")
+            with self.subTest("the status", steps=steps):
+                self.assertEqual((status, err), (1, ""))
+            second, key = out.partition("RUPT 2:")[2].partition("RUPT 4:")[0], out.partition("RUPT 5:")[2]
+            with self.subTest("a word that two levels use", steps=steps):
+                self.assertRegex(second, r"^ \d+ of 29 places give the same\n  CH 011 word 1 is 00001 in place of 00002(; NOTE .*)?\n    at 02,4122 CA TMP\n")
+            with self.subTest("a way back that is lost", steps=steps):
+                self.assertRegex(key, r"^ \d+ of 29 places give the same\n  CH 011 word 1 is none in place of 00002; NOTE .*\n    at 02,4111 EXTEND, 02,4131 QXCH RTRN, 02,4132 TC Q\n")
+
     def test_restart(self):
         """A restart after each step. By hand: PUTS puts out X at 5 and 1 at 14; X is 1 from 9 on. Each restart puts both out again."""
         source = write(f"{self.room}/puts.agc", PUTS)

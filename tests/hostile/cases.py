@@ -70,6 +70,7 @@ FURTHER_CALLS = {
         ["reach", "--feed", "case", "--steps", "300", LOST_SUM],
         ["whatif", LOST_SUM, "case", "300", EMPTY],
         ["whatif", LOST_SUM, EMPTY, "300", "case"],
+        ["whatif", "--notes", LOST_SUM, EMPTY, "300", "case"],
         ["differ", LOST_SUM, "case", "300", "--with", LOST_SUM, EMPTY],
         ["differ", LOST_SUM, EMPTY, "300", "--with", LOST_SUM, "case"],
         ["debug", "--extended", "--flight", DOWNLIST, "case"],

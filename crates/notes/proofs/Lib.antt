@@ -3,5 +3,7 @@ pub mod Counting
 pub mod Divisions
 mod Exact
 pub mod LongWaits
+pub mod Quietly
+mod Kinds
 mod Rows
 mod Hearing
