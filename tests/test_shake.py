@@ -232,9 +232,9 @@ class Shake(ViewCase):
     def test_restart(self):
         """A restart after each step. By hand: PUTS puts out X at 5 and 1 at 14; X is 1 from 9 on. Each restart puts both out again."""
         source = write(f"{self.room}/puts.agc", PUTS)
-        wanted = "without it: CH 010 00000; CH 011 00001\n2 of 8 steps: the same\n  2-3 02,4001 EXTEND to 02,4002 WRITE 10\n"
+        wanted = "without it: CH 010 00000; CH 011 00001\n2 of 8 steps: the same\n  2-3 02,4001 EXTEND to 02,4002 WRITE 010\n"
         wanted += "2 of 8 steps: CH 010 word 2 is 00000 in place of none\n  5-7 02,4003 CA ONE to 02,4004 TS X\n"
-        wanted += "3 of 8 steps: CH 010 word 2 is 00001 in place of none\n  9-12 02,4005 CA ONE to 02,4007 WRITE 11\n"
+        wanted += "3 of 8 steps: CH 010 word 2 is 00001 in place of none\n  9-12 02,4005 CA ONE to 02,4007 WRITE 011\n"
         wanted += "1 of 8 steps: CH 010 word 2 is 00001 in place of none; CH 011 word 2 is 00001 in place of none\n  14 02,4010 TCF DONE\n"
         with self.subTest("each step"):
             self.assertEqual(call("shake", source, "60", "RESTART"), (1, wanted, ""))

@@ -1,6 +1,6 @@
 -- Replies to `whatif`.
 use Rattle.std.specs.Prelude.{codes}
-use Rattle.std.proofs.Common.{◌≡◌, ℕ, ◌+◌, ◌<◌, ◌≤◌, List, [], ◌∷◌, ◌++◌, Bool, true, false, ltb, leb, cond, Option, None, Some, Result, Ok}
+use Rattle.std.proofs.Common.{◌≡◌, ℕ, ◌+◌, ◌<◌, ◌≤◌, List, [], ◌∷◌, ◌++◌, Bool, true, false, ltb, cond, Option, None, Some, Result, Ok}
 use Rattle.std.proofs.Common.{Err, filter, length, map, refl, sym, ap, ◌∙◌, arith}
 use Rattle.std.proofs.lemmas.Bool.Decides.{nat_tests}
 use Rattle.std.proofs.lemmas.List.{length-map}
@@ -13,7 +13,7 @@ use Rattle.commands.specs.declared.whatif.Extent.{Extent}
 use Rattle.commands.specs.declared.whatif.Extent.TheVariants.{Here, Each}
 use Rattle.commands.specs.declared.whatif.Trial.{Trial}
 use Rattle.commands.specs.declared.command.Breakpoint.{Breakpoint}
-use Rattle.cpu.specs.Additions.{most_plain_inputs, plain_inputs}
+use Rattle.cpu.specs.Additions.{plain_inputs}
 use Rattle.cpu.specs.State.{Scenario}
 use Rattle.replay.specs.Memory.{step_limit}
 use Rattle.replay.specs.View.{HasShown, SessionView}

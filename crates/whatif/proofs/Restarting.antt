@@ -54,15 +54,15 @@ pub cycles_on : (now : Scenario) (t u : State) (most n : ℕ) → u ≡ (next no
 cycles_on now t u most n made few = rw made (omega (arith, few, cycles-next now t))
 
 -- ## Where a run is restarted
-pub early : (scenario : Scenario) (n : ℕ) (s t u : State) → s ≡ run scenario n → t ≡ s → u.cycles ≡ t.cycles → n < 2 ^ 40
-    → u.cycles ≤ 6 * 2 ^ 40
-early scenario n s t u is copied same few =
-    let at : u.cycles ≡ (run scenario n).cycles = same ∙ ap (λ (v : State). v.cycles) (copied ∙ is) in
-    omega (arith, at, cycles-run scenario n, few)
-
-pub same_cycles : (s t : State) → t ≡ restarted s → t.cycles ≡ s.cycles
+same_cycles : (s t : State) → t ≡ restarted s → t.cycles ≡ s.cycles
 unfolding restarted
 same_cycles s t is = ap (λ (v : State). v.cycles) is
+
+pub early : (scenario : Scenario) (n : ℕ) (s t u : State) → s ≡ run scenario n → t ≡ s → u ≡ restarted t → n < 2 ^ 40
+    → u.cycles ≤ 6 * 2 ^ 40
+early scenario n s t u is copied made few =
+    let at : u.cycles ≡ (run scenario n).cycles = same_cycles t u made ∙ ap (λ (v : State). v.cycles) (copied ∙ is) in
+    omega (arith, at, cycles-run scenario n, few)
 
 pub fits_there : (scenario : Scenario) (n : ℕ) (s t : State) → s ≡ run scenario n → t ≡ s → FitsRun scenario t
 fits_there scenario n s t is copied = rw (copied, is) (run-fits scenario n)

@@ -1,13 +1,13 @@
 use Rattle.std.proofs.Common.{◌≡◌, ◌∙◌, ap, arith}
 use Rattle.whatif.specs.Images.{less_image}
 use Rattle.whatif.proofs.Holding.{let_go}
-use Rattle.whatif.proofs.Restarting.{comes_out, early, fits_there, same_cycles}
+use Rattle.whatif.proofs.Restarting.{comes_out, early, fits_there}
 use Rattle.whatif.proofs.restart.restarted.Goals as goal
 
 pub go_further-requires-clause-early : goal.go_further-requires-clause-early
 go_further-requires-clause-early c =
     early c.args.processor.now.scenario c.args.trunk.now.done _ _ _ c.requires.machine c.in_ok-going.ensures.machine
-    (same_cycles _ _ c.restart.ensures.state) (omega (arith, c.requires.within, c.requires.few))
+    c.restart.ensures.state (omega (arith, c.requires.within, c.requires.few))
 
 pub go_further-requires-clause-fits : goal.go_further-requires-clause-fits
 go_further-requires-clause-fits c =
