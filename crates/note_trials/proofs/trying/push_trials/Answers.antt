@@ -63,7 +63,7 @@ loop-trial-preserved c =
 
 pub returns-clause-told : goal.returns-clause-told
 returns-clause-told c =
-    on_ok_weaker _
+    on_ok_weaker c.push_open.result
     (λ e. told_all c.args.named.now c.args.without.now c.args.start.now.from c.args.processor.now.scenario
     c.args.steps c.loop-trial.pending _ _ _ _ (drop_all c.loop-trial.trial-index c.args.trials.now (omega arith)) e
     c.loop-trial.invariant.told)

@@ -17,4 +17,4 @@ returns c =
     let eight = more _ _ MinusZero _ seven c.in_ok-note_kind-8.ensures in
     let nine = more _ _ Overwritten _ eight c.in_ok-note_kind-9.ensures in
     let ten = more _ _ Shared _ nine c.in_ok-note_kind-10.ensures in
-    on_ok_weaker _ (λ e. more _ _ FixedBank _ ten e) c.note_kind-11.ensures
+    on_ok_weaker c.note_kind-11.result (λ e. more _ _ FixedBank _ ten e) c.note_kind-11.ensures
