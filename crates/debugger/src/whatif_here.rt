@@ -81,10 +81,10 @@ impl Desk {
         if steps > room {
             return write_all(out, text_line(b"E40 LIMIT").as_slice());
         }
-        if is_full(session, trial) {
+        if is_full(session, &trial) {
             return write_all(out, text_line(b"E32 TOO MANY").as_slice());
         }
-        match tried(alloc, session, trial, steps, first, more) {
+        match tried(alloc, session, &trial, steps, first, more) {
             Some(text) => write_all(out, text.as_slice()),
             None => write_all(out, text_line(b"E2 MEMORY").as_slice()),
         }
@@ -95,14 +95,14 @@ impl Desk {
 fn tried<K: Keeper>(
     alloc: Global,
     session: &mut Session<K>,
-    trial: Trial,
+    trial: &Trial,
     steps: u64,
     first: u64,
     more: u64,
 ) -> Option<Buffer>
     requires within { first ≤ session.old.n }
     requires limit { first + more + steps ≤ step_limit }
-    ensures text { IfSome result (λ text. text.written ≡ whatif_text session.old.scenario first more trial steps) }
+    ensures text { IfSome result (λ text. text.written ≡ whatif_text session.old.scenario first more trial.now steps) }
     ensures shown { HasShown session.old first session.new }
 {
     match session.with_present(first) {
@@ -122,7 +122,7 @@ fn told_of(
     alloc: Global,
     processor: &Processor,
     machine: &Machine,
-    trial: Trial,
+    trial: &Trial,
     first: u64,
     more: u64,
     steps: u64,
@@ -130,17 +130,17 @@ fn told_of(
     requires few { steps ≤ 2 ^ 40 - 2 }
     requires within { first + more ≤ steps }
     requires stands { machine.now ≡ run processor.now.scenario first }
-    ensures text { IfOk result (λ told. told.text.written ≡ tried_text processor.now.scenario first more trial steps) }
+    ensures text { IfOk result (λ told. told.text.written ≡ tried_text processor.now.scenario first more trial.now steps) }
 {
     match trial {
-        Trial::Given(input) => try_steps(alloc, processor, machine, first, more, input, steps),
+        Trial::Given(input) => try_steps(alloc, processor, machine, first, more, *input, steps),
         Trial::Restart => try_restarts(alloc, processor, machine, first, more, steps),
     }
 }
 
 /// Whether an input is tried, and as many stand in the feed as may.
-fn is_full<K: Keeper>(session: &Session<K>, trial: Trial) -> bool
-    ensures { result ≡ is_full trial session.now.scenario }
+fn is_full<K: Keeper>(session: &Session<K>, trial: &Trial) -> bool
+    ensures { result ≡ is_full trial.now session.now.scenario }
 {
     match trial {
         Trial::Given(_) => session.processor().plain_inputs().len() >= MOST_INPUTS,
