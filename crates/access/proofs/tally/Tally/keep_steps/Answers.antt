@@ -1,7 +1,7 @@
-use Rattle.std.proofs.Common.{◌∙◌, arith}
+use Rattle.std.proofs.Common.{◌∙◌, arith, sym}
 use Rattle.cover.proofs.Counting.{few_cycles, fits_after, state_more}
-use Rattle.access.proofs.Counting.{counts_more, small}
-use Rattle.access.proofs.tally.Tally.make_steps.Goals as goal
+use Rattle.access.proofs.Counting.{few_longer, keeps_more, small}
+use Rattle.access.proofs.tally.Tally.keep_steps.Goals as goal
 
 pub step-requires-clause-cycles : goal.step-requires-clause-cycles
 step-requires-clause-cycles c = few_cycles c.args.processor.now.scenario c.loop.counter _ c.loop.invariant.state
@@ -12,13 +12,19 @@ step-requires-clause-fits c = fits_after c.args.processor.now.scenario _ c.loop.
 
 pub step-requires-clause-small : goal.step-requires-clause-small
 step-requires-clause-small c = small _ c.args.processor.now.scenario c.loop.counter _ (omega (arith, c.loop-test.true))
-    c.loop.invariant.counts
+    c.loop.invariant.keeps
+
+pub step-requires-clause-few : goal.step-requires-clause-few
+step-requires-clause-few c = few_longer _ c.loop.counter _ (omega (arith, c.loop-test.true)) c.loop.invariant.keeps.few
+
+pub step-requires-clause-kept : goal.step-requires-clause-kept
+step-requires-clause-kept c = rw (c.loop.invariant.keeps.same, c.loop.invariant.scenario) c.loop.invariant.keeps.kept
 
 pub loop-preserved : goal.loop-preserved
 loop-preserved c = record {
   scenario = c.step.ensures.scenario ∙ c.loop.invariant.scenario;
   state = state_more c.args.processor.now.scenario _ c.loop.counter _ _ c.loop.invariant.scenario c.loop.invariant.state
       c.step.ensures.state;
-  counts = counts_more _ c.args.processor.now.scenario _ c.loop.counter _ _ _ c.loop.invariant.scenario c.loop.invariant.state
-      c.loop.invariant.counts c.step.ensures.view c.step.ensures.last c.step.ensures.known c.step.ensures.few c.step.ensures.counts;
+  keeps = keeps_more _ c.args.processor.now.scenario _ c.loop.counter _ _ _ c.loop.invariant.scenario c.loop.invariant.state
+      c.loop.invariant.keeps c.step.ensures.last c.step.ensures.known c.step.ensures.short c.step.ensures.counts c.step.ensures.kept;
 }
