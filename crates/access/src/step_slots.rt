@@ -49,74 +49,74 @@ pub(crate) fn slots_after(
     let level = level_of(step, machine, last);
     let spots = processor.reads(machine);
     let cells = processor.targets(machine);
-    let mut slots = ArrayVec::new();
-    push_reads(&mut slots, view, number, level, spots.as_slice());
-    push_writes(&mut slots, view, number, level, cells.as_slice());
-    slots
+    let mut found = ArrayVec::new();
+    push_reads(&mut found, view, number, level, spots.as_slice());
+    push_writes(&mut found, view, number, level, cells.as_slice());
+    found
 }
 
 /// Appends what a step at an account and at a level reads.
-fn push_reads(slots: &mut Slots, view: &View, number: usize, level: usize, spots: &[Spot])
+fn push_reads(found: &mut Slots, view: &View, number: usize, level: usize, spots: &[Spot])
     requires number { number < account_count }
     requires level { level < levels }
     requires few { length spots.now ≤ 8 }
-    requires room { array_vec_len slots.old ≤ 0 }
-    requires known { AreBelow (slot_count view.now) slots.old.items }
-    ensures items { slots.new.items ≡ slots.old.items
+    requires room { array_vec_len found.old ≤ 0 }
+    requires known { AreBelow (slot_count view.now) found.old.items }
+    ensures items { found.new.items ≡ found.old.items
         ++ flat_map (slots view.now number level 0) (flat_map cell_in spots.now) }
-    ensures known { AreBelow (slot_count view.now) slots.new.items }
-    ensures len { array_vec_len slots.new ≤ 8 }
+    ensures known { AreBelow (slot_count view.now) found.new.items }
+    ensures len { array_vec_len found.new ≤ 8 }
 {
     for spot in spots {
-        push_spot(slots, view, number, level, spot);
+        push_spot(found, view, number, level, spot);
     }
 }
 
 /// Appends that a step reads a spot.
-fn push_spot(slots: &mut Slots, view: &View, number: usize, level: usize, spot: &Spot)
+fn push_spot(found: &mut Slots, view: &View, number: usize, level: usize, spot: &Spot)
     requires number { number < account_count }
     requires level { level < levels }
-    requires room { array_vec_len slots.old ≤ 17 }
-    requires known { AreBelow (slot_count view.now) slots.old.items }
-    ensures items { slots.new.items ≡ slots.old.items ++ flat_map (slots view.now number level 0) (cell_in spot.now) }
-    ensures known { AreBelow (slot_count view.now) slots.new.items }
-    ensures len { array_vec_len slots.new ≤ array_vec_len slots.old + 1 }
+    requires room { array_vec_len found.old ≤ 17 }
+    requires known { AreBelow (slot_count view.now) found.old.items }
+    ensures items { found.new.items ≡ found.old.items ++ flat_map (slots view.now number level 0) (cell_in spot.now) }
+    ensures known { AreBelow (slot_count view.now) found.new.items }
+    ensures len { array_vec_len found.new ≤ array_vec_len found.old + 1 }
 {
     if let Spot::Cell(cell) = spot {
-        push_cell(slots, view, number, level, READS, *cell);
+        push_cell(found, view, number, level, READS, *cell);
     }
 }
 
 /// Appends what a step at an account and at a level writes.
-fn push_writes(slots: &mut Slots, view: &View, number: usize, level: usize, cells: &[Cell])
+fn push_writes(found: &mut Slots, view: &View, number: usize, level: usize, cells: &[Cell])
     requires number { number < account_count }
     requires level { level < levels }
     requires few { length cells.now ≤ 10 }
-    requires room { array_vec_len slots.old ≤ 8 }
-    requires known { AreBelow (slot_count view.now) slots.old.items }
-    ensures items { slots.new.items ≡ slots.old.items ++ flat_map (slots view.now number level 1) cells.now }
-    ensures known { AreBelow (slot_count view.now) slots.new.items }
-    ensures len { array_vec_len slots.new ≤ 18 }
+    requires room { array_vec_len found.old ≤ 8 }
+    requires known { AreBelow (slot_count view.now) found.old.items }
+    ensures items { found.new.items ≡ found.old.items ++ flat_map (slots view.now number level 1) cells.now }
+    ensures known { AreBelow (slot_count view.now) found.new.items }
+    ensures len { array_vec_len found.new ≤ 18 }
 {
     for cell in cells {
-        push_cell(slots, view, number, level, WRITES, *cell);
+        push_cell(found, view, number, level, WRITES, *cell);
     }
 }
 
 /// Appends that a step reads (0) or writes (1) a cell.
 #[tactic(auto, using(crate::proofs::Counting::below_append))]
-fn push_cell(slots: &mut Slots, view: &View, number: usize, level: usize, kind: usize, cell: Cell)
+fn push_cell(found: &mut Slots, view: &View, number: usize, level: usize, kind: usize, cell: Cell)
     requires number { number < account_count }
     requires level { level < levels }
     requires kind { kind < 2 }
-    requires room { array_vec_len slots.old ≤ 17 }
-    requires known { AreBelow (slot_count view.now) slots.old.items }
-    ensures items { slots.new.items ≡ slots.old.items ++ slots view.now number level kind cell }
-    ensures known { AreBelow (slot_count view.now) slots.new.items }
-    ensures len { array_vec_len slots.new ≤ array_vec_len slots.old + 1 }
+    requires room { array_vec_len found.old ≤ 17 }
+    requires known { AreBelow (slot_count view.now) found.old.items }
+    ensures items { found.new.items ≡ found.old.items ++ slots view.now number level kind cell }
+    ensures known { AreBelow (slot_count view.now) found.new.items }
+    ensures len { array_vec_len found.new ≤ array_vec_len found.old + 1 }
 {
     if let Some(row) = row_in(view, number, cell) {
-        slots.push(slot_of(row, level, kind) as u32);
+        found.push(slot_of(row, level, kind) as u32);
     }
 }
 

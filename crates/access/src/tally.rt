@@ -1,17 +1,15 @@
 //! The counts of a run.
 
 ghost use Rattle.std.specs.Prelude.{◌≡◌, ◌+◌, ◌*◌, ◌-◌, ◌<◌, ◌≤◌, ◌^◌, IfOk, get_or, set, length, ℕ, replicate, true};
-ghost use Rattle.cover.specs.Tallies.{account_count, account_number};
+ghost use Rattle.cover.specs.Tallies.{account_count, account_number, is_account};
 ghost use Rattle.cpu.specs.Next.{next};
-ghost use Rattle.cpu.specs.NextStep.{next_step};
 ghost use Rattle.cpu.specs.Profiles.{account_of};
 ghost use Rattle.cpu.specs.Run.{run};
 ghost use Rattle.cpu.specs.State.{FitsRun, Scenario};
-ghost use Rattle.access.specs.Accesses.{row_count, slot_count, slots_after, times_in};
+ghost use Rattle.access.specs.Accesses.{row_count, slot_count, times_in};
 ghost use Rattle.access.specs.Below.{AreBelow};
-ghost use Rattle.access.specs.Levels.{entered_by};
 ghost use Rattle.access.specs.Repeats.{AreFewKept, AreKept, kind_of, no_kept, owed_by, repeats};
-ghost use Rattle.access.specs.Tallies.{Counts, CountsMore, Keeps, sum_in};
+ghost use Rattle.access.specs.Tallies.{Counts, CountsStep, Keeps, sum_in};
 
 use crate::kept::{Kept, Kind, Slots, kind_of};
 use crate::level::last_after;
@@ -108,13 +106,7 @@ impl Tally {
     }
 
     /// The same, where counts may be kept.
-    fn keep_steps(
-        &mut self,
-        processor: &mut Processor,
-        machine: &mut Machine,
-        done: u64,
-        stop: u64,
-    )
+    fn keep_steps(&mut self, processor: &mut Processor, machine: &mut Machine, done: u64, stop: u64)
         requires within { done ≤ stop }
         requires few { stop ≤ 2 ^ 40 }
         requires state { machine.old ≡ run processor.old.scenario done }
@@ -137,13 +129,7 @@ impl Tally {
         requires kept { AreKept self.old.view processor.old.scenario.rope self.old.kept }
         ensures scenario { processor.new.scenario ≡ processor.old.scenario }
         ensures state { machine.new ≡ (next processor.old.scenario machine.old).0 }
-        ensures last { self.new.last ≡ entered_by (next_step processor.old.scenario machine.old) self.old.last }
-        ensures known { AreBelow (slot_count self.old.view)
-            (slots_after self.old.view processor.old.scenario machine.old self.old.last) }
-        ensures short { length (slots_after self.old.view processor.old.scenario machine.old self.old.last) ≤ 18 }
-        ensures counts { CountsMore (slots_after self.old.view processor.old.scenario machine.old self.old.last)
-            self.old self.new }
-        ensures kept { AreKept self.old.view processor.old.scenario.rope self.new.kept }
+        ensures counts { CountsStep processor.old.scenario machine.old self.old self.new }
     {
         self.count_step(processor, machine);
         processor.step(machine);
@@ -155,13 +141,7 @@ impl Tally {
         requires small { (i : ℕ) → sum_in self.old i ≤ 2 ^ 62 }
         requires few { AreFewKept self.old.kept (2 ^ 62) }
         requires kept { AreKept self.old.view processor.now.scenario.rope self.old.kept }
-        ensures last { self.new.last ≡ entered_by (next_step processor.now.scenario machine.now) self.old.last }
-        ensures known { AreBelow (slot_count self.old.view)
-            (slots_after self.old.view processor.now.scenario machine.now self.old.last) }
-        ensures short { length (slots_after self.old.view processor.now.scenario machine.now self.old.last) ≤ 18 }
-        ensures counts { CountsMore (slots_after self.old.view processor.now.scenario machine.now self.old.last)
-            self.old self.new }
-        ensures kept { AreKept self.old.view processor.now.scenario.rope self.new.kept }
+        ensures { CountsStep processor.now.scenario machine.now self.old self.new }
     {
         let account = processor.account(machine);
         let number = number_of(account);
@@ -169,23 +149,36 @@ impl Tally {
         if !repeats(&account, machine) {
             self.count_once(processor, machine);
         } else if self.kept[number].is_of(&kind) {
-            self.kept[number].again();
+            self.keep_again(processor, machine, number);
         } else {
             self.keep(processor, machine, number, kind);
         }
     }
 
+    /// Keeps that the next step, which is of the account and the kind of those that are kept there, is made once more.
+    #[inline(always)]
+    #[tactic(auto, using(crate::proofs::Counting::step_again))]
+    fn keep_again(&mut self, processor: &Processor, machine: &Machine, number: usize)
+        requires number { number < account_count }
+        requires known { is_account (account_of processor.now.scenario machine.now) ≡ true }
+        requires account { number ≡ account_number (account_of processor.now.scenario machine.now) }
+        requires kind { (get_or self.old.kept number no_kept).kind ≡ kind_of machine.now self.old.last }
+        requires repeats { repeats processor.now.scenario machine.now ≡ true }
+        requires few { AreFewKept self.old.kept (2 ^ 62) }
+        requires kept { AreKept self.old.view processor.now.scenario.rope self.old.kept }
+        ensures { CountsStep processor.now.scenario machine.now self.old self.new }
+    {
+        let (_processor, _machine) = (processor, machine);
+        self.kept[number].again();
+    }
+
     /// Counts what the next step reads and writes.
+    #[tactic(auto, using(crate::proofs::Counting::step_once))]
     fn count_once(&mut self, processor: &Processor, machine: &Machine)
         requires fits { FitsRun processor.now.scenario machine.now }
         requires small { (i : ℕ) → sum_in self.old i ≤ 2 ^ 62 }
-        ensures last { self.new.last ≡ entered_by (next_step processor.now.scenario machine.now) self.old.last }
-        ensures known { AreBelow (slot_count self.old.view)
-            (slots_after self.old.view processor.now.scenario machine.now self.old.last) }
-        ensures short { length (slots_after self.old.view processor.now.scenario machine.now self.old.last) ≤ 18 }
-        ensures counts { CountsMore (slots_after self.old.view processor.now.scenario machine.now self.old.last)
-            self.old self.new }
-        ensures kept { self.new.kept ≡ self.old.kept }
+        requires kept { AreKept self.old.view processor.now.scenario.rope self.old.kept }
+        ensures { CountsStep processor.now.scenario machine.now self.old self.new }
     {
         let step = processor.next_step(machine);
         let slots = slots_after(&self.view, processor, machine, &step, self.last);
@@ -195,21 +188,17 @@ impl Tally {
 
     /// Keeps what the next step reads and writes, of an account and a kind, in place of what was kept there, which is
     /// counted.
+    #[tactic(auto, using(crate::proofs::Counting::step_kept))]
     fn keep(&mut self, processor: &Processor, machine: &Machine, number: usize, kind: Kind)
         requires fits { FitsRun processor.now.scenario machine.now }
         requires number { number < account_count }
+        requires known { is_account (account_of processor.now.scenario machine.now) ≡ true }
         requires account { number ≡ account_number (account_of processor.now.scenario machine.now) }
         requires kind { kind ≡ kind_of machine.now self.old.last }
         requires repeats { repeats processor.now.scenario machine.now ≡ true }
         requires small { (i : ℕ) → sum_in self.old i ≤ 2 ^ 62 }
         requires kept { AreKept self.old.view processor.now.scenario.rope self.old.kept }
-        ensures last { self.new.last ≡ self.old.last }
-        ensures known { AreBelow (slot_count self.old.view)
-            (slots_after self.old.view processor.now.scenario machine.now self.old.last) }
-        ensures short { length (slots_after self.old.view processor.now.scenario machine.now self.old.last) ≤ 18 }
-        ensures counts { CountsMore (slots_after self.old.view processor.now.scenario machine.now self.old.last)
-            self.old self.new }
-        ensures kept { AreKept self.old.view processor.now.scenario.rope self.new.kept }
+        ensures { CountsStep processor.now.scenario machine.now self.old self.new }
     {
         let step = processor.next_step(machine);
         let slots = slots_after(&self.view, processor, machine, &step, self.last);
@@ -223,11 +212,14 @@ impl Tally {
         requires kept { (j : ℕ) → AreBelow (slot_count self.old.view) (get_or self.old.kept j no_kept).slots }
         ensures view { self.new.view ≡ self.old.view }
         ensures last { self.new.last ≡ self.old.last }
+        ensures each { length self.new.counts ≡ slot_count self.new.view }
+        ensures all { length self.new.kept ≡ account_count }
         ensures sums { (i : ℕ) → sum_in self.new i ≡ sum_in self.old i }
         ensures settled { AreFewKept self.new.kept 0 }
         ensures slots { (j : ℕ) → (get_or self.new.kept j no_kept).slots ≡ (get_or self.old.kept j no_kept).slots }
         ensures kinds { (j : ℕ) → (get_or self.new.kept j no_kept).kind ≡ (get_or self.old.kept j no_kept).kind }
     {
+        let _ = &self.view;
         for number in 0..ACCOUNTS {
             self.settle_at(number);
         }
@@ -283,6 +275,15 @@ fn pay(counts: &mut [u64], slots: &[u32], times: u64)
     ensures paid { (i : ℕ) → get_or counts.new i 0 ≡ get_or counts.old i 0 + times * times_in i slots.now }
 {
     for slot in slots {
-        counts[*slot as usize] += times;
+        pay_one(counts, *slot as usize, times);
     }
+}
+
+/// Counts a number so many times more.
+fn pay_one(counts: &mut [u64], slot: usize, times: u64)
+    requires within { slot < length counts.old }
+    requires small { get_or counts.old slot 0 + times ≤ 2 ^ 63 }
+    ensures { counts.new ≡ set counts.old slot (get_or counts.old slot 0 + times) }
+{
+    counts[slot] += times;
 }

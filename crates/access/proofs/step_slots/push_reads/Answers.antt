@@ -18,7 +18,7 @@ loop-spot-preserved c =
     let parts = reads_more view c.args.number c.args.level (take (i + 1) spots) (take i spots) it one_more in
     record {
       items = c.push_spot.ensures.items ∙ ap (λ xs. xs ++ part) c.loop-spot.invariant.items
-          ∙ append_assoc c.args.slots.now.items before part ∙ ap (λ xs. c.args.slots.now.items ++ xs) (sym parts);
+          ∙ append_assoc c.args.found.now.items before part ∙ ap (λ xs. c.args.found.now.items ++ xs) (sym parts);
       known = c.push_spot.ensures.known;
       len = (let le = c.push_spot.ensures.len in let was = c.loop-spot.invariant.len in omega (arith, le, was));
     }

@@ -7,8 +7,8 @@ use Rattle.access.proofs.step_slots.push_reads.Given as goal
 
 abbrev pub invariant-loop-spot : goal.invariant-loop-spot
 invariant-loop-spot l = record {
-  items : l.slots.items ≡ l.initial.slots.items
+  items : l.found.items ≡ l.initial.found.items
       ++ flat_map (slots l.view l.number l.level 0) (flat_map cell_in (take l.spot-index l.spots));
-  known : AreBelow (slot_count l.view) l.slots.items;
-  len : array_vec_len l.slots ≤ l.spot-index;
+  known : AreBelow (slot_count l.view) l.found.items;
+  len : array_vec_len l.found ≤ l.spot-index;
 }

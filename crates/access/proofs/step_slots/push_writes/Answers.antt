@@ -18,7 +18,7 @@ loop-cell-preserved c =
     let parts = writes_more view c.args.number c.args.level (take (i + 1) cells) (take i cells) it one_more in
     record {
       items = c.push_cell.ensures.items ∙ ap (λ xs. xs ++ part) c.loop-cell.invariant.items
-          ∙ append_assoc c.args.slots.now.items before part ∙ ap (λ xs. c.args.slots.now.items ++ xs) (sym parts);
+          ∙ append_assoc c.args.found.now.items before part ∙ ap (λ xs. c.args.found.now.items ++ xs) (sym parts);
       known = c.push_cell.ensures.known;
       len = (let le = c.push_cell.ensures.len in let was = c.loop-cell.invariant.len in omega (arith, le, was));
     }

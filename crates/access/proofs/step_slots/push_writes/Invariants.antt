@@ -7,8 +7,8 @@ use Rattle.access.proofs.step_slots.push_writes.Given as goal
 
 abbrev pub invariant-loop-cell : goal.invariant-loop-cell
 invariant-loop-cell l = record {
-  items : l.slots.items ≡ l.initial.slots.items
+  items : l.found.items ≡ l.initial.found.items
       ++ flat_map (slots l.view l.number l.level 1) (take l.cell-index l.cells);
-  known : AreBelow (slot_count l.view) l.slots.items;
-  len : array_vec_len l.slots ≤ 8 + l.cell-index;
+  known : AreBelow (slot_count l.view) l.found.items;
+  len : array_vec_len l.found ≤ 8 + l.cell-index;
 }

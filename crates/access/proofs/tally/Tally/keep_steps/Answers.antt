@@ -26,5 +26,5 @@ loop-preserved c = record {
   state = state_more c.args.processor.now.scenario _ c.loop.counter _ _ c.loop.invariant.scenario c.loop.invariant.state
       c.step.ensures.state;
   keeps = keeps_more _ c.args.processor.now.scenario _ c.loop.counter _ _ _ c.loop.invariant.scenario c.loop.invariant.state
-      c.loop.invariant.keeps c.step.ensures.last c.step.ensures.known c.step.ensures.short c.step.ensures.counts c.step.ensures.kept;
+      c.loop.invariant.keeps c.step.ensures.counts;
 }

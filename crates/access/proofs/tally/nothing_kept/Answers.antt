@@ -1,0 +1,6 @@
+use Rattle.std.proofs.Common.{replicate, ap, ◌∙◌, arith}
+use Rattle.access.specs.Repeats.{no_kept}
+use Rattle.access.proofs.tally.nothing_kept.Goals as goal
+
+pub returns : goal.returns
+returns c = c.loop.invariant.items ∙ ap (λ n. replicate n no_kept) (omega (arith, c.loop-test.false, c.loop.auto.counter-end))
