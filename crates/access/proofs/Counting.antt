@@ -1,6 +1,6 @@
 -- The counts of a run, step by step.
 use Rattle.std.proofs.Common.{◌≡◌, ℕ, zero, suc, ◌+◌, ◌*◌, ◌<◌, ◌≤◌, ◌==◌, ◌^◌, List, [], ◌∷◌, ◌++◌, length, replicate, get_or, set}
-use Rattle.std.proofs.Common.{◌-◌, refl, sym, ap, ◌∙◌, inl, inr, arith, add-one, subst, take}
+use Rattle.std.proofs.Common.{true, ◌-◌, refl, sym, ap, ◌∙◌, inl, inr, arith, add-one, subst, take}
 use Rattle.std.proofs.Math.Nat.{add-mul, mul-add}
 use Rattle.std.proofs.lemmas.Bool.{cases_lt}
 use Rattle.std.proofs.lemmas.Bool.Decides.{eqb_tells}

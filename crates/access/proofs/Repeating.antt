@@ -104,7 +104,7 @@ writes_are : (rope : Words) (s : State) → s.waiting_word ≡ None → over (ac
 unfolding targets
 writes_are rope s w none =
     let code = code_of s.extra (instruction_word rope s) in
-    rw (w, no_overflow code.instruction (accumulator_of s) none) refl
+    rw (no_overflow code.instruction (accumulator_of s) none, w) refl
 
 executed_at : (view : View) (rope : Words) (s : State) (last : ℕ) (p : Linear) → place_in s (next_address s) ≡ p
     → is_fixed (Place p) ≡ true → is_account (Place p) ≡ true → s.waiting_word ≡ None → s.waiting_sum ≡ None
@@ -112,7 +112,7 @@ executed_at : (view : View) (rope : Words) (s : State) (last : ℕ) (p : Linear)
     → slots_by view (account_number (account_in (next_step_by rope s None None))) (level_by (next_step_by rope s None None) s last)
     (read_cells (link_by rope s None None)) (targets (link_by rope s None None))
     ≡ slots_of_kind view rope (account_number (Place p)) (kind_of s last)
-unfolding slots_of_kind
+unfolding slots_of_kind place_in
 executed_at view rope s last (Erasable q) leads fixed known w x none = absurd (cc)
 executed_at view rope s last (Fixed bank offset) leads fixed known w x none =
     let h = within bank offset known in

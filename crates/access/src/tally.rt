@@ -173,7 +173,7 @@ impl Tally {
     }
 
     /// Counts what the next step reads and writes.
-    #[tactic(auto, using(crate::proofs::Counting::step_once))]
+    #[tactic(auto, using(crate::proofs::Counting::step_once, crate::proofs::Counting::once_fits))]
     fn count_once(&mut self, processor: &Processor, machine: &Machine)
         requires fits { FitsRun processor.now.scenario machine.now }
         requires small { (i : ℕ) → sum_in self.old i ≤ 2 ^ 62 }
@@ -226,12 +226,14 @@ impl Tally {
     }
 
     /// Counts what is kept at an account.
+    #[tactic(auto, using(crate::proofs::Counting::settling_fits))]
     fn settle_at(&mut self, number: usize)
         requires number { number < account_count }
         requires small { (i : ℕ) → sum_in self.old i ≤ 2 ^ 62 }
         requires below { AreBelow (slot_count self.old.view) (get_or self.old.kept number no_kept).slots }
         ensures view { self.new.view ≡ self.old.view }
         ensures last { self.new.last ≡ self.old.last }
+        ensures each { length self.new.counts ≡ length self.old.counts }
         ensures counts { (i : ℕ) → get_or self.new.counts i 0
             ≡ get_or self.old.counts i 0 + owed_by (get_or self.old.kept number no_kept) i }
         ensures kept { self.new.kept
