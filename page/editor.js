@@ -5,7 +5,7 @@ import { group, short } from './words.js';
 import { T } from './texts.js';
 
 const DIRECTIVES = new Set("SETLOC BANK BLOCK ERASE EQUALS = OCT OCTAL DEC 2OCT 2DEC 2DEC* DEC* CADR FCADR ECADR 2CADR GENADR ADRES EBANK= BNKSUM BBCON REMADR COUNT COUNT* SBANK= EVERY CHAN RUPT MEMORY CHECK= 2BCADR 2FCADR EQUALS SUBRO DNCHAN DNPTR".split(" "));
-const TESTS = new Set("test steps in out mem notes none SOURCE FEED STEPS TEST CHANNEL AT END ALWAYS NEVER WITHIN CYCLES THEN NOTHING".split(" "));
+const TESTS = new Set("test steps in out mem notes none SOURCE FEED STEPS UNTIL IDLE TEST CHANNEL AT END ALWAYS NEVER WITHIN CYCLES THEN NOTHING".split(" "));
 const ROW = 20, LONG = 3000, AROUND = 400, MOST_COLOURED = 400;
 
 // The parts of a line, each with its kind.

@@ -38,7 +38,7 @@ export function statedOfProgram(text, { source, feed, steps }) {
   const lines = text.split("\n").map((it) => it.split("#")[0].trim()), words = lines.map((it) => it.split(/\s+/).filter(Boolean)), first = words.find((it) => it.length)?.[0];
   if (!HEADS.includes(first)) return null;
   const head = (name) => words.find((it) => it[0] === name)?.slice(1).join(" "), isWhole = head("SOURCE") !== undefined, given = isWhole ? [] : [`SOURCE ${source}`, ...(head("FEED") === undefined ? [`FEED ${feed}`] : []), ...(head("STEPS") === undefined ? [`STEPS ${steps}`] : [])];
-  const tests = lines.map((it, i) => ({ kind: "expect", name: it.slice(4).trim() || T.test, line: i + 1, steps: Number(head("STEPS")) || steps, inputs: [], hasFeed: !isWhole || head("FEED") !== undefined })).filter((_, i) => words[i][0] === "TEST");
+  const tests = lines.map((it, i) => ({ kind: "expect", name: it.slice(4).trim() || T.test, line: i + 1, steps: parseInt(head("STEPS"), 10) || steps, inputs: [], hasFeed: !isWhole || head("FEED") !== undefined })).filter((_, i) => words[i][0] === "TEST");
   const rows = text.split("\n"), whole = [...given, ...rows];
   // (to the program the two files are called as those of the session)
   return { tests, words, rows, before: given.length, text: whole.join("\n"), asked: whole.map((it) => it.replace(/^(\s*)(SOURCE|FEED)\s.*/, (_, blank, name) => `${blank}${name} ${name === "SOURCE" ? SOURCE : FEED}`)).join("\n") };

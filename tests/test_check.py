@@ -231,6 +231,45 @@ WARNINGS = [
     (" SETLOC 17;BRUPT ERASE;CYR ERASE; ERASE +1;EDOP ERASE;TIME2 ERASE; SETLOC 4000; TC BRUPT; TC CYR; TC EDOP; TC TIME2", [(5, 1, 7), (6, 1, 7)]),
     (" SETLOC 2;# one;; SETLOC 2;Q ERASE; SETLOC 4000; TC Q", []),
     ("Q EQUALS 2;L EQUALS 00001;BB EQUALS 4;EB = L +2; TC Q; TC L; TC BB; TC EB", [(3, 1, 7)]),
+    # a routine that changes A before it keeps it, and one that keeps it; L behind a jump, where A alone is kept, and both
+    (" RELINT;D TCF D; SETLOC 4024; CA X; RESUME;X OCT 1", [(4, 2, 12)]),
+    (" RELINT;D TCF D; SETLOC 4024; TS 10; CA X; XCH 10; RESUME;X OCT 1", []),
+    (" RELINT;D TCF D; SETLOC 4024; XCH 10; TCF H; SETLOC 4100;H EXTEND; MP X; XCH 10; RESUME;X OCT 1", [(8, 2, 12)]),
+    (" RELINT;D TCF D; SETLOC 4024; DXCH 10; TCF H; SETLOC 4100;H EXTEND; MP X; DXCH 10; RESUME;X OCT 1", []),
+    # Q, which TC leaves another word; where it is kept before, and where it goes back through Q
+    (" RELINT;D TCF D; SETLOC 4024; XCH 10; TC S; XCH 10; RESUME;S RETURN", [(5, 2, 12)]),
+    (" RELINT;D TCF D; SETLOC 4024; EXTEND; QXCH 12; TCF H; SETLOC 4100;H TC S; EXTEND; QXCH 12; RESUME;S RETURN", []),
+    # an address after SETLOC to no vector, and a routine that changes no register
+    (" RELINT;D TCF D; SETLOC 4025;H CA X; RESUME;X OCT 1; TCF H", []),
+    (" RELINT;D TCF D; SETLOC 4024; INCR X; RESUME;X EQUALS 100", []),
+    # a program that stands at a vector, with a label
+    (" RELINT; TCF S; SETLOC 4010;S CA X;D TCF D; SETLOC 4024; RESUME;X OCT 1", []),
+    # an interrupt that does not end, one that none lets in, one that goes back by a jump to RESUME or by INDEX 17
+    (" RELINT;D TCF D; SETLOC 4024; TCF D", [(4, 2, 13)]),
+    ("D TCF D; SETLOC 4024; TCF D", []),
+    (" RELINT;D TCF D; SETLOC 4024; TCF H; SETLOC 4100;H RESUME", []),
+    (" RELINT;D TCF D; SETLOC 4024; TCF D;BRUPT EQUALS 17; INDEX BRUPT; TCF D", []),
+    # a program that runs over the vectors; one that leaves before, one with a vector of its own, and one without interrupts
+    (" RELINT; CA X; TS X; CA X; TS X;D TCF D;X EQUALS 100", [(5, 2, 14)]),
+    (" RELINT; CA X; TS X; TCF S; TS X;S TCF S;X EQUALS 100", []),
+    (" RELINT; CA X; TS X; CA X; TS X;D TCF D; SETLOC 4024; RESUME;X EQUALS 100", []),
+    (" CA X; CA X; TS X; CA X; TS X;D TCF D;X EQUALS 100", []),
+    # two words at one place, at two, one of them without a name, and a table with a name for its first word
+    (" SETLOC 100;X ERASE; SETLOC 100;Y ERASE; SETLOC 4000; TS X; TS Y;D TCF D", [(4, 1, 15)]),
+    (" SETLOC 100;X ERASE; SETLOC 101;Y ERASE; SETLOC 4000; TS X; TS Y;D TCF D", []),
+    (" SETLOC 100;X ERASE; SETLOC 100; ERASE;Y ERASE; SETLOC 4000; TS X; TS Y;D TCF D", []),
+    (" SETLOC 100;X ERASE +3; SETLOC 100;Y ERASE; SETLOC 4000; TS X; TS Y;D TCF D", []),
+    # a word behind a jump; a table of jumps, what fills a vector, and the next vector
+    (" TCF D; CA X;D TCF D;X OCT 1", [(2, 2, 16)]),
+    (" TCF D; TCF D;D TCF D", []),
+    ("D TCF D; SETLOC 4024; RESUME; NOOP; NOOP; TCF D", []),
+    # the ways of CCS, what TS and a routine may skip, and jumps by numbers, with an offset and after INDEX
+    (" CCS X; TCF D; CA X; NOOP; TCF D;D TCF D;X EQUALS 100", []),
+    (" TS X; TCF D; CA X;D TCF D;X EQUALS 100", []),
+    (" TC S; TCF D; CA X;D TCF D;S RETURN;X EQUALS 100", []),
+    (" TCF +2; CA X;D TCF D;X OCT 1", []),
+    (" TCF D; CA X;D TCF D +1;X OCT 1", []),
+    (" INDEX X; TCF D; CA X; NOOP; CA X; TCF D; CA X;D TCF D;X EQUALS 100", []),
 ]
 # Mistakes that are no faults, a stroke between two lines, and what is said of each with --unused; of those of which nothing is, what does say it stands in front.
 SILENT = [
@@ -249,9 +288,14 @@ SILENT = [
     ("", " SETLOC 2000|VAR ERASE| SETLOC 4000| CA FIVE| TS VAR|DONE TCF DONE|FIVE OCT 5", [
         (5, 5, "W6: VAR stands in a switched erasable bank, and no line sets EB", "NAME ECADR VAR on a line of its own; before this CA NAME, and TS 3, which is EB")]),
     ("", " SETLOC 100|Q ERASE| SETLOC 4000| TS Q|DONE TCF DONE", [(2, 1, "W7: Q is a register's name, and stands for another place here", "Q EQUALS 2 is the register")]),
-    ("cover: a word that is never executed", " TCF DONE| CA FIVE|DONE TCF DONE|FIVE OCT 5", []),
+    ("", " TCF DONE| CA FIVE|DONE TCF DONE|FIVE OCT 5", [(2, 2, "W16: CA stands behind a jump without a label, and nothing leads here", "a label and a jump to it, or leave it out")]),
+    ("", " SETLOC 100|X ERASE| SETLOC 100|Y ERASE| SETLOC 4000| TS X| TS Y|DONE TCF DONE", [(4, 1, "W15: Y stands where an earlier line reserves a word", "no SETLOC between the two; for two names of one word Y EQUALS the other")]),
+    ("", " RELINT| CA X| TS X| CA X| TS X|DONE TCF DONE|X EQUALS 100", [
+        (5, 2, "W14: the program runs on over the vectors, 4004 to 4053, where interrupts enter", "TCF before it, and the program from 4054 on; behind SETLOC to its vector the routine of each interrupt")]),
+    ("", " RELINT|LOOP TCF LOOP| SETLOC 4024| CA X| RESUME|X OCT 1", [
+        (4, 2, "W12: an interrupt's routine comes here, and CA changes A, L or Q, which it has not kept", "XCH, LXCH or QXCH of a cell before it, and again before RESUME")]),
     ("nothing: no SETLOC, which is harmless", " CA FIVE|DONE TCF DONE|FIVE OCT 5", []),
-    ("run --notes: an interrupt that does not end", "ARUPT EQUALS 10| RELINT|LOOP TCF LOOP| SETLOC 4014| XCH ARUPT| TCF LOOP", []),
+    ("", "ARUPT EQUALS 10| RELINT|LOOP TCF LOOP| SETLOC 4014| XCH ARUPT| TCF LOOP", [(5, 2, "W13: an interrupt enters here, and no line is RESUME, which ends it", "RESUME as the last instruction of the routine")]),
 ]
 # Labels that are operators' names with --flight alone, and those that are in both languages: where W1 is told of each without and with the option.
 NAMED = [
@@ -518,7 +562,7 @@ class Check(Case):
         """Each warning of rows/refusals.txt is drawn on its line."""
         rows = re.findall(r"^\| W(\d+) \| (.*) \| `(.*)` \| (\d+) \|$", rows_of_refusals(), re.M)
         with self.subTest("the rows of warnings"):
-            self.assertEqual([int(it[0]) for it in rows], [*range(1, 12)])
+            self.assertEqual([int(it[0]) for it in rows], [*range(1, 17)])
         for number, mistake, source, line in rows:
             got = list(rows_explained(PROGRAM, f"W{number}"))
             with self.subTest(f"explain W{number} and refusals.txt"):
@@ -536,8 +580,8 @@ class Check(Case):
             self.assertTrue(ran("17") == ran("E17") or ran("17").stdout == ran("E17").stdout)
         warned = [int(it) for it in re.findall(rb"^W(\d+): .", ran().stdout, re.M)]
         with self.subTest("explain lists the numbers of warnings"):
-            self.assertEqual(warned, [*range(1, 12)])
-        for word in ("99", "E1", "X", "E", "256", "W", "W0", "W12", "w4"):
+            self.assertEqual(warned, [*range(1, 17)])
+        for word in ("99", "E1", "X", "E", "256", "W", "W0", "W17", "w4"):
             got = ran(word)
             with self.subTest(f"explain {word}"):
                 self.assertEqual((got.returncode, got.stdout, got.stderr), (2, b"", b"error: no refusal, no warning and no note is called so; agcws explain lists them\n"))

@@ -18,7 +18,7 @@ class CommandLine(Case):
 
     def test_command_line(self):
         """Help, and command lines that are wrong, against the texts of examples/help; and the version."""
-        for name in ["agcws", "asm", "run", "trace", "cover", "reach", "access", "delays", "whatif", "differ", "debug", "check", "expect", "explain", "upgrade", "words", "compare", "align", "find", "sums", "parity", "damages"]:
+        for name in ["agcws", "asm", "run", "trace", "cover", "reach", "bound", "access", "delays", "whatif", "differ", "debug", "check", "expect", "explain", "upgrade", "words", "compare", "align", "find", "sums", "parity", "damages"]:
             got = agcws(*([] if name == "agcws" else [name]), "--help")
             with self.subTest(f"the help of {name}"):
                 self.assertAnswer(got, 0, read(f"{TESTS}/help/{name}.txt"))

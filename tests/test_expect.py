@@ -27,7 +27,7 @@ CLAIMED = [
     ("AT START A = 1", ": line {}, step 0, cycle 0: it is 00000 (0); wanted = 00001 (1)"),
     ("AT TWO A = 2", ": line {}, step 20, cycle 24: nothing came; wanted = 00002 (2)"),
     ("COVERED 8", ""),
-    ("COVERED 9", ": line {}, step 20, cycle 24: it executes 8 words; wanted 9 or more"),
+    ("COVERED 9", ": line {}, step 20, cycle 24: it executes 8 instructions; wanted 9 or more"),
     ("CALLS TWICE 3", ": line {}, step 20, cycle 24: it is called 2 times; wanted 3"),
     ("CALLS TWICE 1", ": line {}, step 6, cycle 8: it is called 2 times; wanted 1"),
     ("CALLS TWO WITHIN 9 CYCLES", ": line {}, step 20, cycle 24: it is not called; wanted within 9 cycles"),
@@ -65,6 +65,25 @@ NOTES = [
 # A source of which `check` has two warnings, and one of which it has none.
 WARNED = b" SETLOC 4000\n CA 5\n CA 5\nDONE TCF DONE\n"
 CLEAN = b" SETLOC 4000\nDONE TCF DONE\n"
+# Runs that end where the program idles, worked by hand: a source, a feed, what STEPS says, a claim, and what is told of it.
+# TWICE comes to DONE in step 12; 16 is the first power of two from there on. NOTED comes to NOISE in step 3, and takes the input in step 98, so it is 128; one that puts out goes on; and so does one that is only to make its steps. A word of DEC is no instruction, though it is executed.
+PUTS = b" SETLOC 4000\nLOOP EXTEND\n WRITE 10\n TCF LOOP\n"
+RUNS_ON = b" SETLOC 4000\n CA TWO\nTWO DEC 2\n"
+IDLING = [
+    (TWICE, b"", "1000 UNTIL IDLE", "COVERED 9", "step 17, cycle 21: it executes 8 instructions; wanted 9 or more"),
+    (TWICE, b"", "16 UNTIL IDLE", "COVERED 9", "step 16, cycle 20: it executes 8 instructions; wanted 9 or more"),
+    (TWICE, b"", "1000", "COVERED 9", "step 1000, cycle 1004: it executes 8 instructions; wanted 9 or more"),
+    (NOTED, b"100 CHAN 15 1\n", "1000 UNTIL IDLE", "COVERED 5", "step 129, cycle 131: it executes 4 instructions; wanted 5 or more"),
+    (PUTS, b"", "900 UNTIL IDLE", "COVERED 4", "step 900, cycle 1200: it executes 3 instructions; wanted 4 or more"),
+    (RUNS_ON, b"", "2", "COVERED 2", "step 2, cycle 3: it executes 1 instructions; wanted 2 or more"),
+]
+# Lines of STEPS that are refused, with their columns and what is asked for.
+REFUSED_STEPS = [
+    ("STEPS UNTIL IDLE", 1, "STEPS and a number of steps, at most 1099511627774, are asked for"),
+    ("STEPS 9 9", 9, "UNTIL IDLE or the end of the line is asked for"),
+    ("STEPS 9 UNTL IDLE", 9, "UNTIL IDLE or the end of the line is asked for; UNTIL is near"),
+    ("STEPS 9 UNTIL IDLE 9", 9, "UNTIL IDLE or the end of the line is asked for"),
+]
 # Lines that are refused, with their columns and what is asked for.
 REFUSED_CLAIMS = [
     ("CALLS", 6, "a label or a place is asked for"),
@@ -81,8 +100,8 @@ REFUSED_CLAIMS = [
     ("NOTES SKIP QUOTENT", 12, "a kind of notes is asked for, as run --notes tells them; QUOTIENT is near"),
     ("NOTES NONE SKIP", 12, "the end of the line is asked for"),
     ("CHECK ALL", 7, "the end of the line is asked for"),
-    ("COVERED", 8, "how many words are executed at least is asked for"),
-    ("COVERED all", 9, "how many words are executed at least is asked for"),
+    ("COVERED", 8, "how many instructions are executed at least is asked for"),
+    ("COVERED all", 9, "how many instructions are executed at least is asked for"),
 ]
 
 
@@ -134,6 +153,18 @@ class Expect(Case):
             with self.subTest("claims of what check tells"):
                 self.assertTrue(status == bool(said) and out.decode().startswith(f"FAIL clean{said}" if said else "ok   clean\n"), f"{out!r} {err!r}")
                 self.assertEqual(out.endswith(b"; wanted none\n"), bool(said), out)
+        for source, feed, steps, claim, said in IDLING:
+            write(f"{self.room}/my.agc", source)
+            write(f"{self.room}/my.feed", feed)
+            file = write(f"{self.room}/my.expect", f"SOURCE my.agc\nFEED my.feed\nSTEPS {steps}\nTEST it\n {claim}\n".encode())
+            status, out, err = agcws("expect", file)
+            with self.subTest(f"{steps} steps of {source[:40]!r}"):
+                self.assertEqual((status, out.decode(), err), (1, f"FAIL it: line 5, {said}\n", b""))
+        for line, column, asked in REFUSED_STEPS:
+            file = write(f"{self.room}/refused.expect", f"SOURCE my.agc\n{line}\nTEST 1\n".encode())
+            status, out, err = agcws("expect", file)
+            with self.subTest(f"{line} is refused"):
+                self.assertEqual((status, out, err.decode().splitlines()[:1]), (2, b"", [f"{file}:2:{column}: error: {asked}"]), f"{out!r} {err!r}")
         # (steps: RELINT, INCR, TCF, the input, the entry, RESUME, INCR out of BRUPT, TCF, INCR, TCF)
         write(f"{self.room}/my.agc", PUT_OFF)
         write(f"{self.room}/my.feed", b"4 CHAN 15 1\n")

@@ -3,7 +3,7 @@ import glob
 import subprocess
 import unittest
 
-from common import EXAMPLES, PROGRAM, Case, write
+from common import EXAMPLES, PROGRAM, Case, read, write
 
 # Lines, a semicolon between two, and their words. 60000 is 3 times 2 ^ 14 and 10848; the constant of the Earth is 3.986032 E10 / 2 ^ 36 = .5800362, times 2 ^ 28 a whole number of two words.
 WORDS = [
@@ -69,7 +69,7 @@ class Flight(Case):
             with self.subTest(path):
                 self.assertEqual(ran[0].returncode, ran[1].returncode)
                 if ran[0].returncode == 0:
-                    self.assertEqual((ran[0].stdout, open(plain, "rb").read()), (ran[1].stdout, open(flight, "rb").read()))
+                    self.assertEqual((ran[0].stdout, read(plain)), (ran[1].stdout, read(flight)))
 
 
 if __name__ == "__main__":

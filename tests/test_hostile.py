@@ -367,6 +367,8 @@ class Memory(HostileCase):
             "delays": ("delays", source, feed, "300"),
             "cover --image": ("cover", "--image", "--rope", "1", old, feed, "300"),
             "reach": ("reach", source),
+            "bound": ("bound", source, "02,4000"),
+            "bound --image": ("bound", "--image", *names, "--loops", "02,4000 3", "--kept", "100", new, "02,4000"),
             "reach --image": ("reach", "--image", *names, new),
             "reach beside a run": ("reach", "--feed", feed, "--steps", "300", source),
             **sessions_of,

@@ -99,7 +99,7 @@ class Planted(Case):
                 for way, tells_so in (("check", checked), ("notes", kinds), ("expect", fails), ("any", got)):
                     found[way] += bool(tells_so)
         with self.subTest("how many of 37 mistakes are told"):
-            self.assertEqual(found, {"check": 5, "notes": 19, "expect": 32, "any": 37})
+            self.assertEqual(found, {"check": 10, "notes": 19, "expect": 32, "any": 37})
 
 
 if __name__ == "__main__":

@@ -51,6 +51,12 @@ class Run(Case):
             self.assertAnswer(agcws("trace", "--progress", source, feed, "2097152", *traced), 0, agcws("trace", source, feed, "2097152", *traced)[1], lines)
         with self.subTest("the progress of a profile"):
             self.assertAnswer(agcws("cover", "--progress", source, feed, "2097152"), 0, agcws("cover", source, feed, "2097152")[1], lines)
+        with self.subTest("a run that ends where the program idles: its steps are CA, EXTEND, WRITE, and two TCF, of which the first is step 4"):
+            self.assertAnswer(agcws("run", "--until-idle", "--progress", "--end", source, feed, "2097152"), 0, line, b"END STEPS 5 CYCLES 7 OUTPUTS 1 Z 4003\n")
+        with self.subTest("a run that ends before the program idles"):
+            self.assertAnswer(agcws("run", "--until-idle", "--end", source, feed, "4"), 0, line, b"END STEPS 4 CYCLES 6 OUTPUTS 1 Z 4003\n")
+        with self.subTest("notes of a run that ends where the program idles"):
+            self.assertEqual(agcws("run", "--until-idle", "--notes", source, feed, "4")[0], 2)
         with self.subTest("progress, and then the end"):
             self.assertAnswer(agcws("run", "--progress", "--end", source, feed, "1048576"), 0, line, lines[:21] + b"END STEPS 1048576 CYCLES 1048578 OUTPUTS 1 Z 4003\n")
         with open("/dev/full", "wb") as full:

@@ -57,6 +57,21 @@ ONE OCT 1
  INCR X
  RESUME
 """
+# Puts out X, makes it 1, and puts that out. By hand: the steps end at 2, 3, 5, 7, 9, 11, 12 and 14.
+PUTS = b""" SETLOC 100
+X ERASE
+ SETLOC 4000
+ CA X
+ EXTEND
+ WRITE 10
+ CAF ONE
+ TS X
+ CAF ONE
+ EXTEND
+ WRITE 11
+DONE TCF DONE
+ONE OCT 1
+"""
 
 
 class Shake(ViewCase):
@@ -200,6 +215,34 @@ class Shake(ViewCase):
         key = out.partition("RUPT 5:")[2]
         with self.subTest("a way back that is lost"):
             self.assertTrue("CH 011 word 1 is none in place of 00002; NOTE NOTKEPT" in key and "    at 02,4111 EXTEND, 02,4131 QXCH RTRN, 02,4132 TC Q\n" in key, out)
+
+    def test_audited_with_feed(self):
+        """The same two with its feed. In 2,000 steps its own interrupts come to the same wherever they are moved; in 3,000 they do not, and what an interrupt does itself
+        stands before. NOTKEPT is noted without it too, since the feed has keys; the way back that is lost leads to the word at L."""
+        for steps in ("2000", "3000"):
+            status, out, err = call("shake", f"{EXAMPLES}/audited.agc", steps, "--each-interrupt", "--feed", f"{EXAMPLES}/audited.feed")
+            with self.subTest("the status", steps=steps):
+                self.assertEqual((status, err), (1, ""))
+            second, key = out.partition("RUPT 2:")[2].partition("RUPT 4:")[0], out.partition("RUPT 5:")[2]
+            with self.subTest("a word that two levels use", steps=steps):
+                self.assertRegex(second, r"^ \d+ of 29 places give the same\n  CH 011 word 1 is 00001 in place of 00002(; NOTE .*)?\n    at 02,4122 CA TMP\n")
+            with self.subTest("a way back that is lost", steps=steps):
+                self.assertRegex(key, r"^ \d+ of 29 places give the same\n  CH 011 word 1 is none in place of 00002; NOTE .*\n    at 02,4111 EXTEND, 02,4131 QXCH RTRN, 02,4132 TC Q\n")
+
+    def test_restart(self):
+        """A restart after each step. By hand: PUTS puts out X at 5 and 1 at 14; X is 1 from 9 on. Each restart puts both out again."""
+        source = write(f"{self.room}/puts.agc", PUTS)
+        wanted = "without it: CH 010 00000; CH 011 00001\n2 of 8 steps: the same\n  2-3 02,4001 EXTEND to 02,4002 WRITE 010\n"
+        wanted += "2 of 8 steps: CH 010 word 2 is 00000 in place of none\n  5-7 02,4003 CA ONE to 02,4004 TS X\n"
+        wanted += "3 of 8 steps: CH 010 word 2 is 00001 in place of none\n  9-12 02,4005 CA ONE to 02,4007 WRITE 011\n"
+        wanted += "1 of 8 steps: CH 010 word 2 is 00001 in place of none; CH 011 word 2 is 00001 in place of none\n  14 02,4010 TCF DONE\n"
+        with self.subTest("each step"):
+            self.assertEqual(call("shake", source, "60", "RESTART"), (1, wanted, ""))
+        with self.subTest("a channel that a restart does not change"):
+            self.assertEqual(call("shake", source, "60", "RESTART", "--channel", "11", "--to", "12")[1].splitlines()[1], "7 of 7 steps: the same")
+        for words in (["--each-place"], ["--state", "X"], ["--second", "RUPT 1", "--second-at", "1-2"]):
+            with self.subTest(" ".join(words)):
+                self.assertEqual(call("shake", source, "60", "RESTART", *words)[0], 2)
 
     def test_kept(self):
         """What is kept is not made again, also after a line that was cut short; and what is kept of something else is refused."""

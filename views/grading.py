@@ -130,7 +130,7 @@ class Tests:
         with open(path, encoding="utf-8", errors="surrogateescape", newline="") as file:
             self.lines = file.read().split("\n")
         fields = [it.split("#")[0].split() for it in self.lines]
-        head = {it[0]: it[1] for it in reversed(fields) if len(it) == 2 and it[0] in ("SOURCE", "FEED", "STEPS")}
+        head = {it[0]: it[1] for it in reversed(fields) if it[:1] and it[0] in ("SOURCE", "FEED", "STEPS") and it[2:] in ([], ["UNTIL", "IDLE"]) and len(it) > 1}
         self.fields, self.names = fields, [" ".join(it[1:]) for it in fields if it[:1] == ["TEST"]]
         self.feed = os.path.join(os.path.dirname(path), head["FEED"]) if "FEED" in head else os.devnull
         if not head.get("STEPS", "").isdigit():

@@ -54,15 +54,21 @@ def told_of(result):
     return "; ".join(f"{name_of(channel)} {told(words)}" for channel, words in result.words) or "nothing is put out"
 
 
-def differences(usual, result):
-    """The first word of each channel that differs, and the first note."""
+def first_words(usual, result):
+    """The first word of each channel that differs: the channel, its number, what it was and what it is."""
     was, now = dict(usual.words), dict(result.words)
     for channel in sorted({*was, *now}, key=name_of):
         for number, (old, new) in enumerate(zip_longest(was.get(channel, ()), now.get(channel, ())), 1):
             if old != new:
-                which = "" if isinstance(channel, str) else f" word {number}"
-                yield f"{name_of(channel)}{which} is {word_or_none(new)} in place of {word_or_none(old)}"
+                yield channel, number, old, new
                 break
+
+
+def differences(usual, result):
+    """The first word of each channel that differs, and the first note."""
+    for channel, number, old, new in first_words(usual, result):
+        which = "" if isinstance(channel, str) else f" word {number}"
+        yield f"{name_of(channel)}{which} is {word_or_none(new)} in place of {word_or_none(old)}"
     if result.notes:
         yield f"{' '.join(('NOTE', *result.notes[0])).strip()}{f' and {len(result.notes) - 1} more' if len(result.notes) > 1 else ''}"
 

@@ -17,7 +17,7 @@ REFUSALS = {"source": range(10, 27), "feed": (30, 31, 32, 33, 35), "commands": (
 FIVE, KEY_ECHO, LOST_SUM, SECONDS = (f"{EXAMPLES}/{name}.agc" for name in ("five_plus_five", "key_echo", "lost_sum", "seconds"))
 NAMES, DOWNLIST = f"{EXAMPLES}/names.lst", f"{EXAMPLES}/flight/downlist.agc"
 # Operators of flight programs alone, each as it is written.
-FLIGHT_OPERATORS = "COUNT* BNKSUM SUBRO MEMORY OCTAL 2OCT VN 2DEC GENADR REMADR 1DNADR 6DNADR DNCHAN -CADR -GENADR -CCS -1DNADR -2CADR BBCON".split()
+FLIGHT_OPERATORS = "COUNT* BNKSUM SUBRO MEMORY CHECK= OCTAL 2OCT VN 2DEC DEC* 2DEC* GENADR REMADR 1DNADR 6DNADR DNCHAN -DNCHAN -CADR -GENADR -CCS -1DNADR -2CADR BBCON".split()
 # The refusals of a table of names, and of the image without an end that is read after it.
 TABLE_REFUSALS = (4, 36)
 FLIGHT = [f"{EXAMPLES}/flight/{name}.agc" for name in ("bankcall", "downlist", "waitlist")]
@@ -70,6 +70,7 @@ FURTHER_CALLS = {
         ["reach", "--feed", "case", "--steps", "300", LOST_SUM],
         ["whatif", LOST_SUM, "case", "300", EMPTY],
         ["whatif", LOST_SUM, EMPTY, "300", "case"],
+        ["whatif", "--notes", LOST_SUM, EMPTY, "300", "case"],
         ["differ", LOST_SUM, "case", "300", "--with", LOST_SUM, EMPTY],
         ["differ", LOST_SUM, EMPTY, "300", "--with", LOST_SUM, "case"],
         ["debug", "--extended", "--flight", DOWNLIST, "case"],

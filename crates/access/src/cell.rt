@@ -6,7 +6,7 @@ ghost use Rattle.access.specs.CellText.{cell_text, erasable_cell, near_cell};
 
 use arrayvec::ArrayVec;
 use cpu::Cell;
-use names::{Line, place_before, places_before, push_distance};
+use names::{Line, place_before, push_distance};
 use space::{Eras, Linear};
 use trace::{Names, PlaceNames, cell_name, place_name, place_text};
 use words::push_all;
@@ -42,13 +42,12 @@ fn push_near(line: &mut Line, names: &PlaceNames, place: Eras)
     ensures items { line.new.items ≡ line.old.items ++ near_cell names.now place }
     ensures short { array_vec_len line.new ≤ array_vec_len line.old + 14 }
 {
-    let place = Linear::Erasable(place);
-    for distance in 0..places_before(&place) + 1 {
-        if let Some(name) = names.symbol_at(&place_before(&place, distance)) {
+    for distance in 0..place.number() + 1 {
+        if let Some(name) = names.symbol_at(&place_before(&Linear::Erasable(place), distance)) {
             push_all(line, name);
             push_distance(line, distance);
             return;
         }
     }
-    push_all(line, place_text(place).as_slice());
+    push_all(line, place_text(Linear::Erasable(place)).as_slice());
 }

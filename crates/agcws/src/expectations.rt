@@ -23,7 +23,7 @@ static KEYWORDS: [&str; 12] = [
 ];
 
 /// The words that stand within a line.
-static LATER_KEYWORDS: [&str; 5] = ["WITHIN", "CYCLES", "THEN", "NOTHING", "END"];
+static LATER_KEYWORDS: [&str; 6] = ["UNTIL", "WITHIN", "CYCLES", "THEN", "NOTHING", "END"];
 
 /// The words that stand behind NOTES.
 static KINDS: [&str; 15] = [
@@ -313,6 +313,7 @@ fn asked_text(asked: Asked) -> &'static str {
     match asked {
         Asked::Source => "SOURCE and a path are asked for",
         Asked::Steps => "STEPS and a number of steps, at most 1099511627774, are asked for",
+        Asked::UntilIdle => "UNTIL IDLE or the end of the line is asked for",
         Asked::Test => "TEST and a name are asked for, before what is claimed",
         Asked::Claim =>
             "TEST, CHANNEL, AT, ALWAYS, NEVER, CALLS, NOTES, CHECK or COVERED is asked for",
@@ -332,7 +333,7 @@ fn asked_text(asked: Asked) -> &'static str {
         Asked::Calls => "a number of calls or WITHIN is asked for",
         Asked::Notes => "NONE or a kind of notes, as run --notes tells them, is asked for",
         Asked::Kind => "a kind of notes is asked for, as run --notes tells them",
-        Asked::Least => "how many words are executed at least is asked for",
+        Asked::Least => "how many instructions are executed at least is asked for",
         Asked::Relation => "one of = <> < > <= >= is asked for",
         Asked::Word => "a word is asked for; octal, or decimal where D ends it",
         Asked::End => "the end of the line is asked for",

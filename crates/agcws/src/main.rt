@@ -19,8 +19,8 @@ use files::{no_memory, with_stdout};
 use hints::tell_more;
 use plans::{Plan, planned};
 use programs::{
-    access, cover, debug, debug_extended, delays, differ, reach, reach_beside_run, run, trace,
-    whatif,
+    access, bound, cover, debug, debug_extended, delays, differ, reach, reach_beside_run, run,
+    trace, whatif,
 };
 use ropes::{
     align, carry, compare, compare_only, find, show_damages, show_mended, show_parity, show_sums,
@@ -47,6 +47,9 @@ const DIFFERENT: u8 = 1;
 /// The exit status where a run does not bear out what is claimed of it.
 const FAILED: u8 = 1;
 
+/// The exit status where no bound of a routine was found.
+const NOT_BOUND: u8 = 1;
+
 /// The exit status where a source has a fault.
 const REFUSED: u8 = 1;
 
@@ -66,6 +69,11 @@ const NO_STEPS: &[u8] =
 
 /// The exit status where not even a fault's line can be written.
 const NOT_REPORTED: u8 = 3;
+
+/// What is said where the routine, or a place or a cell, is none.
+const NO_ROUTINE: &[u8] =
+    b"error: ROUTINE or a place of --loops is no place of fixed memory, a number of --loops is missing, or a cell of \
+        --kept is none\n";
 
 /// What is said where no cell is shown as the one that is asked for, after what is asked for.
 const NO_CELL: &[u8] =
@@ -127,6 +135,7 @@ fn follow(rt: &HostRuntime, plan: &Plan<'_>) -> Result<u8, WorkshopFault> {
         Plan::Cover(profile) => cover(rt, profile),
         Plan::Reach(listed) => reach(rt, listed),
         Plan::ReachRun(asked) => reach_beside_run(rt, asked),
+        Plan::Bound(routine) => bound(rt, routine),
         Plan::Access(accesses) => access(rt, accesses),
         Plan::Delays(timed) => delays(rt, timed),
         Plan::Differ(pair) => differ(rt, pair),

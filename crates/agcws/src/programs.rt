@@ -8,17 +8,20 @@ use crate::files::{
 };
 use crate::hints::tell_reached;
 use crate::progress::make_listener;
-use crate::{DONE, NO_CELL, NO_SERIES, refuse_arguments};
+use crate::{DONE, NO_CELL, NO_ROUTINE, NO_SERIES, NOT_BOUND, refuse_arguments};
 use agc_text::{next_field, next_line};
-use plans::{Accesses, Listed, Pair, Profile, Program, Reaching, Run, Timed, Tracing, Trials};
+use plans::{
+    Accesses, Listed, Pair, Profile, Program, Reaching, Routine, Run, Timed, Tracing, Trials,
+};
 use words::{ReadAhead, Std, Write, read_text, write_all};
 use workshop::{
-    Counted, LineForm, Side, Summary, WorkshopFault, access_program, cover_program, debug_program,
-    delays_program, differ_program, reach_program, reach_run, read_trials, run_and_tell,
-    run_with_notes, tell_commands_end, trace_program, try_program, write_end,
+    Bounded, Counted, LineForm, Side, Summary, WorkshopFault, access_program, bound_program,
+    cover_program, debug_program, delays_program, differ_program, reach_program, reach_run,
+    read_trials, run_and_tell, run_until_idle, run_with_notes, tell_commands_end, trace_program,
+    try_notes, try_program, write_end,
 };
 
-/// `agcws run [--end] [--progress] [--notes [--json]] .. SRC FEED N`. All files are opened before anything is read.
+/// `agcws run [--end] [--progress] [--until-idle | --notes [--json]] .. SRC FEED N`. All files are opened before anything is read.
 pub fn run(rt: &HostRuntime, asked: &Run<'_>) -> Result<u8, WorkshopFault> {
     let program = opened_program(rt, &asked.program)?;
     let summary = with_stdout(rt, |out| run_told(rt, program, asked, out))?;
@@ -57,6 +60,16 @@ fn run_told<W: Write>(
             out,
             &mut progress,
             &mut Std::new(rt.stderr()),
+        )
+    } else if asked.until_idle {
+        run_until_idle(
+            rt.alloc(),
+            origin,
+            &mut file,
+            &mut feed,
+            steps,
+            out,
+            &mut progress,
         )
     } else {
         run_and_tell(
@@ -159,6 +172,24 @@ pub fn reach_beside_run(rt: &HostRuntime, asked: &Reaching<'_>) -> Result<u8, Wo
         |out| reach_run(rt.alloc(), origin, &mut file, &mut feed, steps, out),
     )?;
     Ok(DONE)
+}
+
+/// `agcws bound .. SRC ROUTINE [--loops TEXT] [--kept TEXT]`.
+pub fn bound(rt: &HostRuntime, asked: &Routine<'_>) -> Result<u8, WorkshopFault> {
+    let OpenListed { origin, file, form } = opened_listed(rt, &asked.listed)?;
+    let mut file = taken_in(file, form);
+    let routine = asked.name.as_bytes();
+    let loops = asked.loops.unwrap_or("").as_bytes();
+    let kept = asked.kept.unwrap_or("").as_bytes();
+    let bounded = with_stdout(
+        rt,
+        |out| bound_program(rt.alloc(), origin, &mut file, routine, loops, kept, out),
+    )?;
+    match bounded {
+        Bounded::Told => Ok(DONE),
+        Bounded::Refused => Ok(NOT_BOUND),
+        Bounded::NotNamed => refuse_arguments(rt, NO_ROUTINE),
+    }
 }
 
 /// `agcws access [--progress] .. SRC FEED N [PLACE]`. All files are opened before anything is read.
@@ -322,15 +353,12 @@ pub fn whatif(rt: &HostRuntime, asked: &Trials<'_>) -> Result<u8, WorkshopFault>
     let feed = read_text(rt.alloc(), &mut ReadAhead::new(feed), MOST_BYTES)?;
     let steps = asked.steps.count();
     with_stdout(rt, |out| {
-        try_program(
-            rt.alloc(),
-            origin,
-            &mut file,
-            &feed,
-            trials.plain(),
-            steps,
-            out,
-        )
+        let (alloc, trials) = (rt.alloc(), trials.plain());
+        if asked.tells_notes {
+            try_notes(alloc, origin, &mut file, &feed, trials, steps, out)
+        } else {
+            try_program(alloc, origin, &mut file, &feed, trials, steps, out)
+        }
     })?;
     Ok(DONE)
 }

@@ -14,6 +14,8 @@ pub enum Arguments<'a> {
     Cover(CoverArguments<'a>),
     /// It is shown which words of a program are reached.
     Reach(ReachArguments<'a>),
+    /// The most cycles of a routine are told.
+    Bound(BoundArguments<'a>),
     /// The reads and writes of a run are counted.
     Access(AccessArguments<'a>),
     /// How long the interrupts of a run waited is told.
@@ -117,13 +119,15 @@ pub struct AsmArguments<'a> {
     pub has_xref: bool,
 }
 
-/// `agcws run [--end] [--progress] [--notes [--json]] .. SRC FEED N`.
+/// `agcws run [--end] [--progress] [--until-idle | --notes [--json]] .. SRC FEED N`.
 #[derive(Clone, Copy)]
 pub struct RunArguments<'a> {
     /// What is run.
     pub program: ProgramArguments<'a>,
     /// How many steps.
     pub steps: u64,
+    /// `--until-idle`: whether fewer steps are made where the program idles before.
+    pub until_idle: bool,
     /// `--end`: whether it is told how the run has ended.
     pub tells_end: bool,
     /// `--progress`: whether it is told how many steps are made.
@@ -190,6 +194,19 @@ pub struct ReachRun<'a> {
     pub steps: u64,
 }
 
+/// `agcws bound .. SRC ROUTINE [--loops TEXT] [--kept TEXT]`.
+#[derive(Clone, Copy)]
+pub struct BoundArguments<'a> {
+    /// The program.
+    pub listed: ReachArguments<'a>,
+    /// The routine.
+    pub routine: &'a str,
+    /// `--loops`: pairs of a place and of how often a way comes to it at most.
+    pub loops: Option<&'a str>,
+    /// `--kept`: the cells that keep Q.
+    pub kept: Option<&'a str>,
+}
+
 /// `agcws access [--progress] .. SRC FEED N [PLACE]`.
 #[derive(Clone, Copy)]
 pub struct AccessArguments<'a> {
@@ -223,6 +240,8 @@ pub struct WhatIfArguments<'a> {
     pub steps: u64,
     /// The inputs that are tried, a file.
     pub trials: &'a str,
+    /// `--notes`: what they change in the notes is told.
+    pub tells_notes: bool,
 }
 
 /// `agcws differ [--why K] .. SRC FEED N --with SRC2 FEED2`.

@@ -14,3 +14,4 @@ mod rows;
 pub use comparison::write_comparison;
 pub use form::UncertainForm;
 pub use places::UncertainPlaces;
+pub use rows::{PlaceMargin, is_second, place_before, text_on};

@@ -19,7 +19,7 @@ const NO_PLACE: &[u8] = b"---";
 const LEAST: u8 = 0o100;
 
 /// The place of the word of a row, as three bytes.
-pub(crate) struct PlaceMargin;
+pub struct PlaceMargin;
 
 impl Margin for PlaceMargin {
     ghost use Rattle.certain.specs.Rows.{place_margin};
@@ -50,7 +50,7 @@ fn margin_at(bank: Bank, offset: Offset) -> [u8; 3]
 }
 
 /// The bank and the offset before a row, where its word has them.
-pub(crate) fn place_before(row: &[u8]) -> Option<(u16, u16)>
+pub fn place_before(row: &[u8]) -> Option<(u16, u16)>
     ensures { result ≡ place_before row.now }
 {
     if row.len() < 3 {
@@ -65,14 +65,14 @@ pub(crate) fn place_before(row: &[u8]) -> Option<(u16, u16)>
 }
 
 /// Whether a row is that of the second word of a line of a number.
-pub(crate) fn is_second(number: u64, row: &[u8]) -> bool
+pub fn is_second(number: u64, row: &[u8]) -> bool
     ensures { result ≡ is_second number row.now }
 {
     row.len() == front_length(number) && place_before(row).is_some()
 }
 
 /// The text of a line of a number, by its row.
-pub(crate) fn text_on(number: u64, row: &[u8]) -> &[u8]
+pub fn text_on(number: u64, row: &[u8]) -> &[u8]
     ensures { result.now ≡ text_on number row.now }
 {
     row.get(front_length(number) + 2..).unwrap_or(&[])

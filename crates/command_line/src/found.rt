@@ -1,23 +1,110 @@
 //! The values of the arguments that a call gives.
 
-use crate::names::{
-    ACCESS, ALIGN, AS_OCTAL, AS_SOURCE, ASM, BANK, BANK_COUNT, BANKS, BOTH_FORMS, CHECK, COMPARE,
-    COVER, DAMAGES, DEBUG, DELAYS, DIFFER, END, EXPECT, EXPLAIN, EXTENDED, FEED, FEEDS, FILES,
-    FIND, FLIGHT, FORM, FORMS, FROM, IGNORED_PARITY, IMAGE, JSON, JUNIT, NEW, NEW_FORM,
-    NEW_VERSION, NOTES, NUMBER, OLD, OLD_FORM, OLD_VERSION, ONLY, PARITY, PASSAGE, PLACE, PROGRESS,
-    REACH, READS, ROPE, RUN, RUN_FEED, RUN_STEPS, SAY, SOURCE, STEPS, SUMS, SYMBOLS, TAP, TO,
-    TRACE, TRIALS, UNUSED, UPGRADE, VERSION, VERSION_ONE, WHATIF, WHERE, WHY, WITH, WITH_SUMS,
-    WITH_XREF, WORDS,
-};
-use arguments::{
-    AccessArguments, AlignArguments, Arguments, AsmArguments, CheckArguments, CompareArguments,
-    CoverArguments, DamagesArguments, DebugArguments, DelaysArguments, DifferArguments,
-    FindArguments, ImageArguments, ImageLayout, ImageVersion, ProgramArguments, ReachArguments,
-    ReachRun, RunArguments, SumsArguments, TraceArguments, UpgradeArguments, VerdictArguments,
-    WhatIfArguments, WordsArguments,
-};
+use crate::names::ACCESS;
+use crate::names::ALIGN;
+use crate::names::AS_OCTAL;
+use crate::names::AS_SOURCE;
+use crate::names::ASM;
+use crate::names::BANK;
+use crate::names::BANK_COUNT;
+use crate::names::BANKS;
+use crate::names::BOTH_FORMS;
+use crate::names::BOUND;
+use crate::names::CHECK;
+use crate::names::COMPARE;
+use crate::names::COVER;
+use crate::names::DAMAGES;
+use crate::names::DEBUG;
+use crate::names::DELAYS;
+use crate::names::DIFFER;
+use crate::names::END;
+use crate::names::EXPECT;
+use crate::names::EXPLAIN;
+use crate::names::EXTENDED;
+use crate::names::FEED;
+use crate::names::FEEDS;
+use crate::names::FILES;
+use crate::names::FIND;
+use crate::names::FLIGHT;
+use crate::names::FORM;
+use crate::names::FORMS;
+use crate::names::FROM;
+use crate::names::IGNORED_PARITY;
+use crate::names::IMAGE;
+use crate::names::JSON;
+use crate::names::JUNIT;
+use crate::names::KEPT;
+use crate::names::LOOPS;
+use crate::names::NEW;
+use crate::names::NEW_FORM;
+use crate::names::NEW_VERSION;
+use crate::names::NOTES;
+use crate::names::NUMBER;
+use crate::names::OLD;
+use crate::names::OLD_FORM;
+use crate::names::OLD_VERSION;
+use crate::names::ONLY;
+use crate::names::PARITY;
+use crate::names::PASSAGE;
+use crate::names::PLACE;
+use crate::names::PROGRESS;
+use crate::names::REACH;
+use crate::names::READS;
+use crate::names::ROPE;
+use crate::names::ROUTINE;
+use crate::names::RUN;
+use crate::names::RUN_FEED;
+use crate::names::RUN_STEPS;
+use crate::names::SAY;
+use crate::names::SOURCE;
+use crate::names::STEPS;
+use crate::names::SUMS;
+use crate::names::SYMBOLS;
+use crate::names::TAP;
+use crate::names::TO;
+use crate::names::TRACE;
+use crate::names::TRIALS;
+use crate::names::UNTIL_IDLE;
+use crate::names::UNUSED;
+use crate::names::UPGRADE;
+use crate::names::VERSION;
+use crate::names::VERSION_ONE;
+use crate::names::WHATIF;
+use crate::names::WHERE;
+use crate::names::WHY;
+use crate::names::WITH;
+use crate::names::WITH_SUMS;
+use crate::names::WITH_XREF;
+use crate::names::WORDS;
+use arguments::AccessArguments;
+use arguments::AlignArguments;
+use arguments::Arguments;
+use arguments::AsmArguments;
+use arguments::BoundArguments;
+use arguments::CheckArguments;
+use arguments::CompareArguments;
+use arguments::CoverArguments;
+use arguments::DamagesArguments;
+use arguments::DebugArguments;
+use arguments::DelaysArguments;
+use arguments::DifferArguments;
+use arguments::FindArguments;
+use arguments::ImageArguments;
+use arguments::ImageLayout;
+use arguments::ImageVersion;
+use arguments::ProgramArguments;
+use arguments::ReachArguments;
+use arguments::ReachRun;
+use arguments::RunArguments;
+use arguments::SumsArguments;
+use arguments::TraceArguments;
+use arguments::UpgradeArguments;
+use arguments::VerdictArguments;
+use arguments::WhatIfArguments;
+use arguments::WordsArguments;
 use clap::ArgMatches;
-use std::alloc::{AllocError, Global};
+use std::alloc::AllocError;
+use std::alloc::Global;
 
 /// The subcommand that was found, with its arguments; `None` where one is missing that `clap` has seen to be there.
 pub fn arguments<'a>(
@@ -33,6 +120,7 @@ pub fn arguments<'a>(
         TRACE => trace(matches).map(Arguments::Trace),
         COVER => cover(matches).map(Arguments::Cover),
         REACH => reach(matches).map(Arguments::Reach),
+        BOUND => bound(matches).map(Arguments::Bound),
         ACCESS => access(matches).map(Arguments::Access),
         DELAYS => delays(matches).map(Arguments::Delays),
         WHATIF => whatif(matches).map(Arguments::WhatIf),
@@ -68,6 +156,7 @@ fn run<'a>(matches: &ArgMatches<'a>) -> Option<RunArguments<'a>> {
     Some(RunArguments {
         program: program(matches)?,
         steps: matches.get_one(STEPS)?,
+        until_idle: matches.get_flag(UNTIL_IDLE),
         tells_end: matches.get_flag(END),
         tells_progress: matches.get_flag(PROGRESS),
         tells_notes: matches.get_flag(NOTES),
@@ -97,12 +186,17 @@ fn cover<'a>(matches: &ArgMatches<'a>) -> Option<CoverArguments<'a>> {
 }
 
 fn reach<'a>(matches: &ArgMatches<'a>) -> Option<ReachArguments<'a>> {
+    listed(matches, reach_run(matches))
+}
+
+/// A program that is shown, beside a run or not.
+fn listed<'a>(matches: &ArgMatches<'a>, run: Option<ReachRun<'a>>) -> Option<ReachArguments<'a>> {
     Some(ReachArguments {
         file: image(matches, SOURCE, VERSION, FORM)?,
         is_image: matches.get_flag(IMAGE),
         is_flight: matches.get_flag(FLIGHT),
         symbols: matches.get_str(SYMBOLS),
-        run: reach_run(matches),
+        run,
     })
 }
 
@@ -111,6 +205,15 @@ fn reach_run<'a>(matches: &ArgMatches<'a>) -> Option<ReachRun<'a>> {
     Some(ReachRun {
         feed: matches.get_str(RUN_FEED)?,
         steps: matches.get_one(RUN_STEPS)?,
+    })
+}
+
+fn bound<'a>(matches: &ArgMatches<'a>) -> Option<BoundArguments<'a>> {
+    Some(BoundArguments {
+        listed: listed(matches, None)?,
+        routine: matches.get_str(ROUTINE)?,
+        loops: matches.get_str(LOOPS),
+        kept: matches.get_str(KEPT),
     })
 }
 
@@ -136,6 +239,7 @@ fn whatif<'a>(matches: &ArgMatches<'a>) -> Option<WhatIfArguments<'a>> {
         program: program(matches)?,
         steps: matches.get_one(STEPS)?,
         trials: matches.get_str(TRIALS)?,
+        tells_notes: matches.get_flag(NOTES),
     })
 }
 

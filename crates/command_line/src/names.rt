@@ -21,6 +21,18 @@ pub const RUN_FEED: &str = "feed-of-run";
 /// How many steps that run makes.
 pub const RUN_STEPS: &str = "steps-of-run";
 
+/// The subcommand that tells the most cycles of a routine.
+pub const BOUND: &str = "bound";
+
+/// A routine.
+pub const ROUTINE: &str = "ROUTINE";
+
+/// How often a way comes to the heads of loops at most.
+pub const LOOPS: &str = "loops";
+
+/// Cells that keep Q.
+pub const KEPT: &str = "kept";
+
 /// The subcommand that counts the reads and writes of a run.
 pub const ACCESS: &str = "access";
 
@@ -154,6 +166,9 @@ pub const WITH_SUMS: &str = "WITH_SUMS";
 
 /// That it is told what lines do with each name.
 pub const WITH_XREF: &str = "WITH_XREF";
+
+/// That a run ends where the program idles.
+pub const UNTIL_IDLE: &str = "UNTIL_IDLE";
 
 /// That it is told how a run has ended.
 pub const END: &str = "END";

@@ -30,6 +30,9 @@ pub const RUN_HELP: &str = "Files:
 Output: one line for each word written to a channel but 1, 2 and 7, as
   7 CH 010 00012
 with the cycles in decimal, and the channel and the word in octal.
+With --until-idle the run ends after a step where all is, but for the cycles,
+as after the last step before whose number is a power of two, no input is to
+come since then and nothing was put out: the same loop goes on for ever.
 With --end, when all steps are made, also one line to standard error, as
   END STEPS 4 CYCLES 7 OUTPUTS 1 Z 4004
 with the lines written as OUTPUTS, and in octal Z, where the program stands.
@@ -187,6 +190,43 @@ Exit status:
 Status 1 and 3 print one line to standard error, as agcws: E14 LINE 9. What the
 number means: agcws explain E14.";
 
+/// What `agcws bound --help` tells after its arguments.
+pub const BOUND_HELP: &str = "Files:
+  SRC  a source, as agcws run takes it, or with --image a rope image, for which
+       --symbols is a table of names, as agcws words takes it
+
+Output: one line. Where all ways through the routine end,
+  AT MOST 57 CYCLES
+from its first word to TC Q, or to TC of a cell of --kept, both counted, over
+all ways on which no place of --loops is come to more often than is stated
+there. Each routine that is called on the way is counted from TC to its return,
+and in each of its calls comes to these places as often at most. Else the place
+where no bound was found, and why:
+  NO BOUND: 02,4002 IS IN A LOOP WITHOUT A BOUND
+  JUMPS UNDER INDEX              where the jump goes no word tells
+  LEADS TO NO KNOWN WORD         to erasable memory, or to a bank of FB
+  WRITES Z OR ITS OWN BANK       what is next no word tells
+  RESUMES
+  CALLS A ROUTINE IN PROGRESS    which would not end
+  IS IN A LOOP WITHOUT A BOUND   one without a place of --loops
+  HAS TOO MANY WORDS OR CYCLES   8192 words, or 2^32 cycles
+--loops has pairs of a place and a number, as 'LOOP 11 INNER 121': of all ways
+through the routine, so that of an inner loop the rounds of all rounds of the
+outer one count. A place where CCS begins a round is come to once more than it
+goes back. Of loops in loops the inner has the greater number. The bound is
+exact where each place is come to once in each round of its loop, and else may
+be greater than the longest way.
+Interrupts and inputs of counters, which take cycles too, are left out. INDEX is
+taken to turn no instruction into another, and none into one that writes Z.
+
+Exit status:
+  0  the bound is told
+  1  the source, or the image, or the table is refused; or no bound was found
+  2  the command line is wrong; or ROUTINE, or a place or cell, is none
+  3  a file, a device or memory failed
+Status 1 and 3 print one line to standard error, as agcws: E14 LINE 9, unless no
+bound was found. What the number means: agcws explain E14.";
+
 /// What `agcws access --help` tells after its arguments.
 pub const ACCESS_HELP: &str = "Files:
   SRC   a source, as agcws run takes it, or with --image a rope image, for
@@ -305,6 +345,14 @@ After each of them, where the run stands at its end, of the first of these
 trials; and the first word of erasable memory from 61 on that differs from that
 of the run without:
   END 02,4016 CELL E0,0064 00003 NOT 00002
+
+With --notes, in place of all that, the kinds and places of which agcws run
+--notes would tell at a step: those of the run without a trial, and after each
+line of trials those that come with them, and those that go:
+  NOTE SKIP 02,4006
+  FROM 26 TO 27 COUNT 2
+  MORE NOTKEPT 02,4016
+  LESS SKIP 02,4006
 
 The steps up to the cycle of a trial are not made again for it.
 
@@ -471,6 +519,7 @@ With --extended there are these besides, and after E50 COMMAND stands why:
                        and with it, that came at P: as agcws whatif has them,
                        of the other words the first. Nothing changes
   .. K from A to B     the same at each of the steps A to B, up to K after B
+  whatif RESTART, ..   the same of a restart; of one alone all other words
   find TEXT            the symbols whose names begin so, as FIND; COUNT
   breaks               the breakpoints, one a line, as BREAK I at PLACE; COUNT
   clear I              breakpoint I is taken away: CLEAR I, or NONE

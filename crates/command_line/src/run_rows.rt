@@ -1,8 +1,9 @@
 //! The subcommands of runs, and their arguments.
 
 use crate::names::{
-    ACCESS, COVER, DEBUG, DELAYS, DIFFER, END, EXTENDED, FROM, JSON, NOTES, PLACE, REACH, READS,
-    RUN, RUN_FEED, RUN_STEPS, SAY, TO, TRACE, TRIALS, WHATIF, WHY, WITH,
+    ACCESS, BOUND, COVER, DEBUG, DELAYS, DIFFER, END, EXTENDED, FROM, JSON, KEPT, LOOPS, NOTES,
+    PLACE, REACH, READS, ROUTINE, RUN, RUN_FEED, RUN_STEPS, SAY, TO, TRACE, TRIALS, UNTIL_IDLE,
+    WHATIF, WHY, WITH,
 };
 use crate::row::{Row, Subcommand, Value};
 use crate::rows::{
@@ -11,8 +12,8 @@ use crate::rows::{
     SYMBOLS_OF_PROGRAM, VERSION_OF_PROGRAM,
 };
 use crate::run_help::{
-    ACCESS_HELP, COVER_HELP, DEBUG_HELP, DELAYS_HELP, DIFFER_HELP, REACH_HELP, RUN_HELP,
-    TRACE_HELP, WHATIF_HELP,
+    ACCESS_HELP, BOUND_HELP, COVER_HELP, DEBUG_HELP, DELAYS_HELP, DIFFER_HELP, REACH_HELP,
+    RUN_HELP, TRACE_HELP, WHATIF_HELP,
 };
 
 /// `agcws run`.
@@ -25,7 +26,7 @@ pub fn run() -> Subcommand {
     }
 }
 
-static RUN_ROWS: [Row; 12] = [
+static RUN_ROWS: [Row; 13] = [
     FLIGHT_OF_PROGRAM,
     IMAGE_OPTION,
     VERSION_OF_PROGRAM,
@@ -34,6 +35,12 @@ static RUN_ROWS: [Row; 12] = [
     SOURCE_ARGUMENT,
     FEED_ARGUMENT,
     STEP_COUNT,
+    Row {
+        name: UNTIL_IDLE,
+        long: Some("until-idle"),
+        help: "Ends the run where the program idles, if it does before",
+        ..FLAG
+    },
     Row {
         name: END,
         long: Some("end"),
@@ -44,6 +51,7 @@ static RUN_ROWS: [Row; 12] = [
     Row {
         name: NOTES,
         long: Some("notes"),
+        conflicts: &[UNTIL_IDLE],
         help: "Tells what is seldom meant, on standard error",
         ..FLAG
     },
@@ -170,6 +178,45 @@ static REACH_ROWS: [Row; 9] = [
     },
 ];
 
+/// `agcws bound`.
+pub fn bound() -> Subcommand {
+    Subcommand {
+        name: BOUND,
+        about: "Tells the most cycles that a routine takes",
+        help: BOUND_HELP,
+        rows: &BOUND_ROWS,
+    }
+}
+
+static BOUND_ROWS: [Row; 10] = [
+    FLIGHT_OF_PROGRAM,
+    IMAGE_OPTION,
+    VERSION_OF_PROGRAM,
+    PARITY_OF_PROGRAM,
+    FORM_OF_PROGRAM,
+    SOURCE_ARGUMENT,
+    Row {
+        name: ROUTINE,
+        help: "The first word of the routine, as SORT or 02,4104",
+        ..NEEDED
+    },
+    SYMBOLS_OF_PROGRAM,
+    Row {
+        name: LOOPS,
+        long: Some("loops"),
+        value_names: &["TEXT"],
+        help: "How often a way comes to places, as 'LOOP 11'",
+        ..PLAIN
+    },
+    Row {
+        name: KEPT,
+        long: Some("kept"),
+        value_names: &["CELLS"],
+        help: "Cells that keep Q: TC of one is a return",
+        ..PLAIN
+    },
+];
+
 /// `agcws access`.
 pub fn access() -> Subcommand {
     Subcommand {
@@ -231,7 +278,7 @@ pub fn whatif() -> Subcommand {
     }
 }
 
-static WHATIF_ROWS: [Row; 10] = [
+static WHATIF_ROWS: [Row; 11] = [
     FLIGHT_OF_PROGRAM,
     IMAGE_OPTION,
     VERSION_OF_PROGRAM,
@@ -240,6 +287,12 @@ static WHATIF_ROWS: [Row; 10] = [
     SOURCE_ARGUMENT,
     FEED_ARGUMENT,
     STEP_COUNT,
+    Row {
+        name: NOTES,
+        long: Some("notes"),
+        help: "Tells what they change in the notes in place of what they put out",
+        ..FLAG
+    },
     Row {
         name: TRIALS,
         help: "The inputs that are tried, a file with the form of a feed",

@@ -99,6 +99,8 @@ pub const EXPECT_HELP: &str = "Files:
           SOURCE PATH   the source, beside FILE or below its folder
           FEED PATH     the timed inputs; without this line there are none
           STEPS N       how many steps are made
+          STEPS N UNTIL IDLE   fewer where the program idles before, as with
+                        run --until-idle
           TEST NAME     a test begins, of which the lines below are claims
         CHANNEL C WORD ..               these words are put out first on C
         CHANNEL C WITHIN N CYCLES WORD ..   and within N cycles
@@ -115,7 +117,7 @@ pub const EXPECT_HELP: &str = "Files:
         NOTES NONE                      run --notes tells nothing
         NOTES KIND ..                   nothing but of these kinds, as SKIP
         CHECK                           check tells no error and no warning
-        COVERED N                       N words or more are executed
+        COVERED N                       N instructions or more are executed
         Besides = there are <> < > <= >=. A PLACE is erasable: a symbol, a
         register, a counter, or an octal number; +n after it, as after LABEL,
         is n words on, in octal. A WORD is octal, or decimal where D ends it,

@@ -2,17 +2,18 @@
 
 use crate::rope_rows::{align, compare, damages, find, parity, sums, upgrade, words};
 use crate::row::Subcommand;
-use crate::run_rows::{access, cover, debug, delays, differ, reach, run, trace, whatif};
+use crate::run_rows::{access, bound, cover, debug, delays, differ, reach, run, trace, whatif};
 use crate::source_rows::{asm, check, expect, explain};
 
 /// The subcommands.
-pub fn subcommands() -> [Subcommand; 21] {
+pub fn subcommands() -> [Subcommand; 22] {
     [
         asm(),
         run(),
         trace(),
         cover(),
         reach(),
+        bound(),
         access(),
         delays(),
         whatif(),

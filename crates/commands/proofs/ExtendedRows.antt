@@ -25,6 +25,7 @@ use Rattle.commands.specs.declared.extended.ExtendedLine.TheVariants.{Plain, Com
 use Rattle.commands.specs.declared.extended.ExtendedLine.TheVariants.{WhyStep, Why, Words, Where, Find, Trace, Inputs, Over, Out, Listed}
 use Rattle.commands.specs.declared.extended.ExtendedLine.TheVariants.{Values, Channels, Differs, WhySince, TailSteps, Survey, Say, WhatIf}
 use Rattle.commands.specs.declared.whatif.Extent.TheVariants.{Here, Each}
+use Rattle.commands.specs.declared.whatif.Trial.TheVariants.{Given, Restart}
 use Rattle.commands.specs.declared.extended.ExtendedLine.TheVariants.{Calls, WhyWay, WhyControl, WhyInputs, WhyInterrupts, Never}
 use Rattle.commands.specs.declared.extended.LinkLines.{LinkLines}
 
@@ -456,14 +457,14 @@ states = refl
 trials : asked (codes "whatif TIME3 PINC" ∷ codes "whatif RUPT 4 20 # soon" ∷ codes "whatif CHAN 15 21"
     ∷ codes "whatif CHAN 015 00021 1099511627776" ∷ codes "whatif TIME3 PINC 5 from 6 to 6"
     ∷ codes "whatif CHAN 15 21 5 from 0 to 1099511627776" ∷ codes "whatif TIME3 MINC" ∷ codes "help whatif" ∷ [])
-    ≡ WhatIf (Count Time3 Pinc) (Here 1000)
-    ∷ WhatIf (Interrupt 4) (Here 20)
-    ∷ WhatIf (Word 0o15 0o21) (Here 1000)
-    ∷ WhatIf (Word 0o15 0o21) (Here 1099511627776)
-    ∷ WhatIf (Count Time3 Pinc) (Each 5 6 0)
-    ∷ WhatIf (Word 0o15 0o21) (Each 5 0 1099511627776)
+    ≡ WhatIf (Given (Count Time3 Pinc)) (Here 1000)
+    ∷ WhatIf (Given (Interrupt 4)) (Here 20)
+    ∷ WhatIf (Given (Word 0o15 0o21)) (Here 1000)
+    ∷ WhatIf (Given (Word 0o15 0o21)) (Here 1099511627776)
+    ∷ WhatIf (Given (Count Time3 Pinc)) (Each 5 6 0)
+    ∷ WhatIf (Given (Word 0o15 0o21)) (Each 5 0 1099511627776)
     ∷ Plain WrongCounter
-    ∷ Says (codes "HELP whatif takes an input as in a feed, [k [from A to B]]: what it would change\n") ∷ []
+    ∷ Says (codes "HELP whatif takes an input of a feed or RESTART, [k [from A to B]]: what it would change\n") ∷ []
 unfolding extended_line extended_forms usages forms runs parsed counters sequences registers window
 trials = refl
 
@@ -473,9 +474,17 @@ not_tried : asked (codes "whatif" ∷ codes "whatif RUPT" ∷ codes "whatif RUPT
     ∷ codes "whatif CHAN 15 21 1234567890123456" ∷ codes "whatif RUPT 4 5 from 7 to 6" ∷ codes "whatif RUPT 4 from 6 to 7"
     ∷ codes "whatif RUPT 4 5 at 6 to 7" ∷ codes "whatif RUPT 4 5 from 6 on 7" ∷ codes "whatif RUPT 4 5 from 6 to"
     ∷ codes "whatif RUPT 4 5 from 6 to 7 8" ∷ codes "whatif RUPT 4 5 from x to 7" ∷ [])
-    ≡ replicate 17 (Says (codes "E50 COMMAND whatif takes an input as in a feed, [k [from A to B]]\n"))
+    ≡ replicate 17 (Says (codes "E50 COMMAND whatif takes an input of a feed or RESTART, [k [from A to B]]\n"))
 unfolding extended_line extended_forms usages forms runs parsed counters sequences registers window
 not_tried = refl
+
+-- or a restart
+restarts : asked (codes "whatif RESTART" ∷ codes "whatif RESTART 20 # soon" ∷ codes "whatif RESTART 5 from 6 to 9"
+    ∷ codes "whatif RESTART 5 from 9 to 6" ∷ codes "whatif RESTART x" ∷ codes "whatif restart 5" ∷ [])
+    ≡ WhatIf Restart (Here 1000) ∷ WhatIf Restart (Here 20) ∷ WhatIf Restart (Each 5 6 3)
+    ∷ replicate 3 (Says (codes "E50 COMMAND whatif takes an input of a feed or RESTART, [k [from A to B]]\n"))
+unfolding extended_line extended_forms usages forms runs parsed counters sequences registers window
+restarts = refl
 
 -- what is surveyed: two steps, a number of buckets, and erasable places and channels
 surveys : asked (codes "survey 1 60 6" ∷ codes "survey 3 3 4096 SUM +1 CH013 A Q # four" ∷ codes "survey 1 9 1 A A A A A A A A"

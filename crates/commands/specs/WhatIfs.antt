@@ -1,4 +1,5 @@
--- What `whatif` takes: an input, as a line of a feed has it after its cycle; a number of steps or none; and the steps at which it is tried.
+-- What `whatif` takes: an input, as a line of a feed has it after its cycle, or a restart; a number of steps or none; and the steps at
+-- which it is tried.
 use Rattle.std.specs.Prelude.{ℕ, ◌-◌, nat_le, ◌&&◌, List, [], ◌∷◌, Option, None, Some, Result, Ok, Err, codes, if◌then◌else◌}
 use Rattle.agc_text.specs.Tables.{same_name}
 use Rattle.feed.specs.Statements.{short_input, long_input}
@@ -11,6 +12,7 @@ use Rattle.commands.specs.declared.extended.ExtendedLine.{ExtendedLine}
 use Rattle.commands.specs.declared.extended.ExtendedLine.TheVariants.{Plain, WhatIf}
 use Rattle.commands.specs.declared.whatif.Extent.{Extent}
 use Rattle.commands.specs.declared.whatif.Extent.TheVariants.{Here, Each}
+use Rattle.commands.specs.declared.whatif.Trial.TheVariants.{Given, Restart}
 
 -- how many steps it goes on where no number is named
 abbrev pub usual_steps : ℕ
@@ -36,7 +38,7 @@ extent_in fields = None
 -- an input that is tried so, where it has its form
 abbrev pub tried_in : Result Input LineFault → Option Extent → Option ExtendedLine
 tried_in input None = None
-tried_in (Ok input) (Some extent) = Some (WhatIf input extent)
+tried_in (Ok input) (Some extent) = Some (WhatIf (Given input) extent)
 tried_in (Err BadLine) (Some extent) = None
 tried_in (Err WrongCounter) (Some extent) = Some (Plain parsed.WrongCounter)
 
@@ -45,8 +47,17 @@ abbrev pub word_tried : List ℕ → List ℕ → List (List ℕ) → Option Ext
 word_tried name channel [] = None
 word_tried name channel (word ∷ more) = tried_in (long_input name channel word) (extent_in more)
 
+abbrev pub input_tried : List ℕ → List (List ℕ) → Option ExtendedLine
+input_tried name [] = None
+input_tried name (first ∷ more) =
+    if same_name name (codes "CHAN") then word_tried name first more else tried_in (short_input name first) (extent_in more)
+
+-- a restart that is tried so
+abbrev pub restart_tried : Option Extent → Option ExtendedLine
+restart_tried None = None
+restart_tried (Some extent) = Some (WhatIf Restart extent)
+
 abbrev pub whatif_form : List (List ℕ) → Option ExtendedLine
 whatif_form [] = None
-whatif_form (name ∷ []) = None
-whatif_form (name ∷ first ∷ more) =
-    if same_name name (codes "CHAN") then word_tried name first more else tried_in (short_input name first) (extent_in more)
+whatif_form (name ∷ more) =
+    if same_name name (codes "RESTART") then restart_tried (extent_in more) else input_tried name more

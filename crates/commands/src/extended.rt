@@ -27,7 +27,7 @@ use crate::refusal::refusal_line;
 use crate::subject::{Subject, channel_named, channel_subject, erasable_first, place_subject};
 use crate::survey::{Surveyed, survey_in};
 use crate::usage::help_of;
-use crate::whatif::{Extent, whatif_form};
+use crate::whatif::{Extent, Trial, whatif_form};
 use agc_text::{before_comment, next_field, split_field};
 use feed::{Input, word_in};
 use space::Chan;
@@ -128,8 +128,8 @@ pub enum ExtendedLine {
     Survey(Surveyed),
     /// `say K`: what each of the last so many steps did, in sentences.
     Say(u64),
-    /// What an input would change, that came where a session stands, or at each of some steps.
-    WhatIf(Input, Extent),
+    /// What an input, or a restart, would change, that came where a session stands, or at each of some steps.
+    WhatIf(Trial, Extent),
     /// The calls of routines that are in progress.
     Calls,
     /// Why the program never came to a place.

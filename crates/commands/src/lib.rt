@@ -31,4 +31,4 @@ pub use reading::{DeviceFault, LineReader};
 pub use subject::{Subject, channel_named};
 pub use survey::{MOST_BUCKETS, MOST_SURVEYED, Subjects, Surveyed};
 pub use usage::{HelpText, help_text};
-pub use whatif::Extent;
+pub use whatif::{Extent, Trial};

@@ -2,7 +2,8 @@
 
 ghost use Rattle.std.specs.Prelude.{◌≡◌};
 ghost use Rattle.agc_text.specs.Fields.{runs, texts};
-ghost use Rattle.commands.specs.WhatIfs.{each_in, extent_in, here_in, tried_in, usual_steps, whatif_form, word_tried};
+ghost use Rattle.commands.specs.WhatIfs.{each_in, extent_in, here_in, input_tried, restart_tried, tried_in};
+ghost use Rattle.commands.specs.WhatIfs.{usual_steps, whatif_form, word_tried};
 
 use crate::command::ParsedLine;
 use crate::extended::ExtendedLine;
@@ -13,7 +14,16 @@ use feed::{Input, LineFault, long_input, short_input};
 /// How many steps it goes on where no number is named.
 const USUAL_STEPS: u64 = 1_000;
 
-/// Where an input is tried, and how many steps on.
+/// What is tried.
+#[derive(Clone, Copy, PartialEq, Eq, Debug, Drop)]
+pub enum Trial {
+    /// An input more.
+    Given(Input),
+    /// A restart.
+    Restart,
+}
+
+/// Where it is tried, and how many steps on.
 #[derive(Clone, Copy, PartialEq, Eq, Debug, Drop)]
 pub enum Extent {
     /// So many steps on, at the position.
@@ -27,6 +37,27 @@ pub(crate) fn whatif_form(rest: &[u8]) -> Option<ExtendedLine>
     ensures { result ≡ whatif_form (texts (runs rest.now)) }
 {
     let (name, rest) = split_field(rest)?;
+    if is_word(name, "RESTART") {
+        restart_tried(extent_in(rest))
+    } else {
+        input_tried(name, rest)
+    }
+}
+
+// A restart that is tried so.
+fn restart_tried(extent: Option<Extent>) -> Option<ExtendedLine>
+    ensures { result ≡ restart_tried extent }
+{
+    match extent {
+        Some(extent) => Some(ExtendedLine::WhatIf(Trial::Restart, extent)),
+        None => None,
+    }
+}
+
+// An input that is tried: what it begins with, and the rest of it.
+fn input_tried(name: &[u8], rest: &[u8]) -> Option<ExtendedLine>
+    ensures { result ≡ input_tried name.now (texts (runs rest.now)) }
+{
     let (first, rest) = split_field(rest)?;
     if is_word(name, "CHAN") {
         word_tried(name, first, rest)
@@ -96,7 +127,7 @@ fn tried_in(input: Result<Input, LineFault>, extent: Option<Extent>) -> Option<E
 {
     let extent = extent?;
     match input {
-        Ok(input) => Some(ExtendedLine::WhatIf(input, extent)),
+        Ok(input) => Some(ExtendedLine::WhatIf(Trial::Given(input), extent)),
         Err(LineFault::BadLine) => None,
         Err(LineFault::WrongCounter) => Some(ExtendedLine::Plain(ParsedLine::WrongCounter)),
     }

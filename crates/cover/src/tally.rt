@@ -9,7 +9,7 @@ ghost use Rattle.cpu.specs.State.{FitsRun, Scenario};
 ghost use Rattle.cover.specs.Tallies.{account_count, account_number, AllAddUp, AreSmall, Counts, ShownAddUp};
 ghost use Rattle.cover.specs.Tallies.{figures_at, is_account, IsAccount, no_figures, one_step_more, put_down};
 
-use cpu::{Account, Machine, Processor};
+use cpu::{Account, Machine, Processor, make_step};
 use space::{BANK_WORDS, Linear};
 use std::alloc::{AllocError, Global};
 use std::marker::Model;
@@ -76,8 +76,8 @@ impl Tally {
         self.figures[number_of(account)]
     }
 
-    /// Makes more steps of a run of which some are done, and counts each. What they put out is passed over.
-    #[inline(never)]
+    /// Makes more steps of a run of which some are done, and counts each. What they put out is passed over. It is for
+    /// one caller, into which it is brought: for another there is `make_steps_apart`.
     pub fn make_steps(
         &mut self,
         processor: &mut Processor,
@@ -99,6 +99,46 @@ impl Tally {
         for _ in done..stop {
             self.step(processor, machine);
         }
+    }
+
+    /// The same as `make_steps`, by calls of `make_step`: slower, and another copy of the step that costs no other.
+    pub fn make_steps_apart(
+        &mut self,
+        processor: &mut Processor,
+        machine: &mut Machine,
+        done: u64,
+        stop: u64,
+    )
+        requires within { done ≤ stop }
+        requires few { stop ≤ 2 ^ 40 }
+        requires state { machine.old ≡ run processor.old.scenario done }
+        requires counts { Counts processor.old.scenario done self.old }
+        ensures scenario { processor.new.scenario ≡ processor.old.scenario }
+        ensures meter { processor.new.meter + done ≤ processor.old.meter + stop }
+        ensures state { machine.new ≡ run processor.old.scenario stop }
+        ensures counts { Counts processor.old.scenario stop self.new }
+    {
+        for _ in done..stop {
+            self.step_apart(processor, machine);
+        }
+    }
+
+    /// Makes a step by a call, and counts it. What it puts out is passed over.
+    fn step_apart(&mut self, processor: &mut Processor, machine: &mut Machine)
+        requires cycles { machine.old.cycles ≤ 2 ^ 62 }
+        requires fits { FitsRun processor.old.scenario machine.old }
+        requires small { (a : Account) → IsAccount a → AreSmall (figures_at self.old a) }
+        ensures scenario { processor.new.scenario ≡ processor.old.scenario }
+        ensures meter { processor.new.meter ≤ processor.old.meter + 1 }
+        ensures state { machine.new ≡ (next processor.old.scenario machine.old).0 }
+        ensures known { IsAccount (account_of processor.old.scenario machine.old) }
+        ensures counted { self.new ≡ put_down self.old (account_of processor.old.scenario machine.old)
+            (step_cycles processor.old.scenario machine.old) }
+    {
+        let number = number_of(processor.account(machine));
+        let before = machine.cycles();
+        make_step(processor, machine);
+        self.put_down(number, machine.cycles() - before);
     }
 
     /// Makes a step, and counts it. What it puts out is passed over.

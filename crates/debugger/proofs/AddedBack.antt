@@ -219,7 +219,7 @@ after_asked terms h d (On k) given good = after_stop terms.first (further h) d k
 after_asked terms h d (Until cycles) given good = after_until terms.first (further h) d cycles (first_at h d.steps cycles) good
 after_asked terms h d (Over k) given good = after_going terms.first (further h) d _ k _ good
 after_asked terms h d (Out k) given good = after_out terms.first (further h) d k _ good
-after_asked terms h d (WhatIf input extent) given good = subst (AreGood terms.first) (sym (keeps_scenario input extent d)) good
+after_asked terms h d (WhatIf trial extent) given good = subst (AreGood terms.first) (sym (keeps_scenario trial extent d)) good
 after_asked terms h d (WhyInputs subject) given good =
     let text = inputs_told terms.symbols d.scenario d.position (subject_spots subject) in
     subst (AreGood terms.first) (sym (tried_keeps (addition_to_come d.additions) d text)) good

@@ -35,7 +35,7 @@ use Rattle.commands.specs.declared.command.ParsedLine.TheVariants.{Nothing, TooL
 use Rattle.commands.specs.declared.subject.Subject.{Subject}
 use Rattle.commands.specs.declared.survey.Surveyed.{Surveyed}
 use Rattle.commands.specs.Surveys.{survey_in}
-use Rattle.commands.specs.WhatIfs.{extent_in, tried_in, whatif_form, word_tried}
+use Rattle.commands.specs.WhatIfs.{extent_in, input_tried, restart_tried, tried_in, whatif_form, word_tried}
 use Rattle.commands.specs.declared.whatif.Extent.{Extent}
 use Rattle.commands.specs.declared.extended.LinkLines.{LinkLines}
 use Rattle.commands.specs.declared.extended.ExtendedLine.{ExtendedLine}
@@ -290,12 +290,20 @@ word_adds : (name channel : List ℕ) (fs : List (List ℕ)) → IfSome (word_tr
 word_adds name channel [] = tt
 word_adds name channel (word ∷ more) = tried_adds (long_input name channel word) (extent_in more)
 
-whatif_adds : (fs : List (List ℕ)) → IfSome (whatif_form fs) AskedGivable
-whatif_adds [] = tt
-whatif_adds (name ∷ []) = tt
-whatif_adds (name ∷ first ∷ more) =
+restart_adds : (extent : Option Extent) → IfSome (restart_tried extent) AskedGivable
+restart_adds None = tt
+restart_adds (Some extent) = tt
+
+input_adds : (name : List ℕ) (fs : List (List ℕ)) → IfSome (input_tried name fs) AskedGivable
+input_adds name [] = tt
+input_adds name (first ∷ more) =
     chosen AskedGivable (same_name name (codes "CHAN")) _ _ (word_adds name first more)
     (tried_adds (short_input name first) (extent_in more))
+
+whatif_adds : (fs : List (List ℕ)) → IfSome (whatif_form fs) AskedGivable
+whatif_adds [] = tt
+whatif_adds (name ∷ more) =
+    chosen AskedGivable (same_name name (codes "RESTART")) _ _ (restart_adds (extent_in more)) (input_adds name more)
 
 abbrev AskedAdds : ExtendedForm → Type 0
 AskedAdds form = (fs : List (List ℕ)) → IfSome (form fs) AskedGivable

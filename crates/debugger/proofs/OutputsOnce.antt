@@ -354,8 +354,8 @@ after_asked terms h d s o (Values place k) =
     says_same d (rows_text Number terms.symbols terms.source d.scenario.rope h (here h d) place k)
     (rows_text Number terms.symbols terms.source d.scenario.rope (silent h) (here h d) place k)
     (same_rows Number terms.symbols terms.source d.scenario.rope h (here h d) place k)
-after_asked terms h d s o (WhatIf input extent) =
-    quiet d (tries input extent d) (keeps_scenario input extent d) (keeps_steps input extent d)
+after_asked terms h d s o (WhatIf trial extent) =
+    quiet d (tries trial extent d) (keeps_scenario trial extent d) (keeps_steps trial extent d)
 after_asked terms h d s o (WhyInputs subject) =
     let text = inputs_told terms.symbols d.scenario d.position (subject_spots subject) in
     quiet d (tells_inputs terms.symbols subject d) (tried_keeps (addition_to_come d.additions) d text)

@@ -1,19 +1,32 @@
--- What an input would change that came at the position, or at each of some steps.
-use Rattle.std.specs.Prelude.{ℕ, ◌+◌, nat_le, nat_lt, List, Option, None, Some, codes, if◌then◌else◌}
-use Rattle.feed.specs.declared.input.Input.{Input}
+-- What an input, or a restart, would change that came at the position, or at each of some steps.
+use Rattle.std.specs.Prelude.{ℕ, ◌+◌, nat_le, nat_lt, Bool, false, List, Option, None, Some, codes, if◌then◌else◌}
 use Rattle.commands.specs.declared.whatif.Extent.{Extent}
 use Rattle.commands.specs.declared.whatif.Extent.TheVariants.{Here, Each}
+use Rattle.commands.specs.declared.whatif.Trial.{Trial}
+use Rattle.commands.specs.declared.whatif.Trial.TheVariants.{Given, Restart}
 use Rattle.cpu.specs.Additions.{plain_inputs, most_plain_inputs}
 use Rattle.cpu.specs.State.{Scenario}
 use Rattle.replay.specs.Memory.{step_limit}
 use Rattle.whatif.specs.Here.{here_text}
+use Rattle.whatif.specs.Restarts.{restarts_text}
 use Rattle.debugger.specs.Growth.{later}
 use Rattle.debugger.specs.Replies.{Desk, Reply, addition_to_come, line, refuses, says}
 
--- from a step on, and in so many steps after the last at which it is tried: what the run puts out, and what it would with an input at the
--- cycles after that step, or after one of so many more, which comes after all others of its cycle; of the other words the first
-abbrev pub whatif_text : Scenario → ℕ → ℕ → Input → ℕ → List ℕ
-whatif_text scenario first more input k = here_text scenario first more input (first + more + k)
+-- from a step on, and of so many steps in all: what the run puts out, and what it would with an input at the
+-- cycles after that step, or after one of so many more, which comes after all others of its cycle; of the other words the first. Or with
+-- a restart after that step, or after one of so many more
+abbrev pub tried_text : Scenario → ℕ → ℕ → Trial → ℕ → List ℕ
+tried_text scenario first more (Given input) steps = here_text scenario first more input steps
+tried_text scenario first more Restart steps = restarts_text scenario first more steps
+
+-- in so many steps after the last at which it is tried
+abbrev pub whatif_text : Scenario → ℕ → ℕ → Trial → ℕ → List ℕ
+whatif_text scenario first more trial k = tried_text scenario first more trial (first + more + k)
+
+-- no input more may stand, where one is tried
+abbrev pub is_full : Trial → Scenario → Bool
+is_full (Given input) scenario = nat_le most_plain_inputs (plain_inputs scenario)
+is_full Restart scenario = false
 
 -- this is told, or memory runs out; nothing changes
 abbrev pub tried_by : Option ℕ → Desk → List ℕ → Reply
@@ -21,14 +34,14 @@ tried_by None d text = says (line (codes "E2 MEMORY")) (record d { additions = l
 tried_by (Some l) d text = says text (record d { additions = later d.additions })
 
 -- unless the steps do not stand yet, or a run has no so many, or no input more may stand
-abbrev pub tries_from : Input → ℕ → ℕ → ℕ → Desk → Reply
-tries_from input k first more d =
+abbrev pub tries_from : Trial → ℕ → ℕ → ℕ → Desk → Reply
+tries_from trial k first more d =
     if nat_lt d.steps (first + more) then refuses d (codes "E41 NOT YET")
     else (if nat_lt step_limit (first + more + k) then refuses d (codes "E40 LIMIT")
-    else (if nat_le most_plain_inputs (plain_inputs d.scenario) then refuses d (codes "E32 TOO MANY")
-    else tried_by (addition_to_come d.additions) d (whatif_text d.scenario first more input k)))
+    else (if is_full trial d.scenario then refuses d (codes "E32 TOO MANY")
+    else tried_by (addition_to_come d.additions) d (whatif_text d.scenario first more trial k)))
 
 -- at the position, or at each of some steps
-abbrev pub tries : Input → Extent → Desk → Reply
-tries input (Here k) d = tries_from input k d.position 0 d
-tries input (Each k first more) d = tries_from input k first more d
+abbrev pub tries : Trial → Extent → Desk → Reply
+tries trial (Here k) d = tries_from trial k d.position 0 d
+tries trial (Each k first more) d = tries_from trial k first more d

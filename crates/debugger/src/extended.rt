@@ -125,8 +125,8 @@ impl Desk {
             ExtendedLine::Say(steps) => {
                 self.trace(session, symbols, LineForm::Sentences, *steps, out)
             }
-            ExtendedLine::WhatIf(input, extent) => {
-                self.what_if(alloc, session, *input, *extent, out)
+            ExtendedLine::WhatIf(trial, extent) => {
+                self.what_if(alloc, session, *trial, *extent, out)
             }
             ExtendedLine::Never(place) => self.never(session, symbols, place, out),
             ExtendedLine::Calls => write_all(out, self.calls(session, symbols).as_slice()),

@@ -216,8 +216,28 @@ a_carriage_return_within_a_line = refl
 -- ## Texts
 heading : heading_of (record { line = 2; fields = codes "SOURCE" ∷ codes "a.agc" ∷ [] }
     ∷ record { line = 3; fields = codes "STEPS" ∷ codes "9" ∷ [] } ∷ []) ≡
-    Ok (record { source = codes "a.agc"; feed = None; steps = 9; tests = [] })
+    Ok (record { source = codes "a.agc"; feed = None; steps = 9; until_idle = false; tests = [] })
 heading = refl
+
+heading_until_idle : heading_of (record { line = 2; fields = codes "SOURCE" ∷ codes "a.agc" ∷ [] }
+    ∷ record { line = 3; fields = codes "STEPS" ∷ codes "9" ∷ codes "UNTIL" ∷ codes "IDLE" ∷ [] } ∷ []) ≡
+    Ok (record { source = codes "a.agc"; feed = None; steps = 9; until_idle = true; tests = [] })
+heading_until_idle = refl
+
+until_something_else : heading_of (record { line = 2; fields = codes "SOURCE" ∷ codes "a.agc" ∷ [] }
+    ∷ record { line = 3; fields = codes "STEPS" ∷ codes "9" ∷ codes "UNTIL" ∷ codes "IDEL" ∷ [] } ∷ [])
+    ≡ Err (record { line = 3; wrong = record { field = 2; asked = asked.UntilIdle } })
+until_something_else = refl
+
+until_idle_and_more : heading_of (record { line = 2; fields = codes "SOURCE" ∷ codes "a.agc" ∷ [] }
+    ∷ record { line = 3; fields = codes "STEPS" ∷ codes "9" ∷ codes "UNTIL" ∷ codes "IDLE" ∷ codes "9" ∷ [] } ∷ [])
+    ≡ Err (record { line = 3; wrong = record { field = 2; asked = asked.UntilIdle } })
+until_idle_and_more = refl
+
+steps_that_are_no_number : heading_of (record { line = 2; fields = codes "SOURCE" ∷ codes "a.agc" ∷ [] }
+    ∷ record { line = 3; fields = codes "STEPS" ∷ codes "UNTIL" ∷ codes "IDLE" ∷ [] } ∷ [])
+    ≡ Err (record { line = 3; wrong = record { field = 0; asked = asked.Steps } })
+steps_that_are_no_number = refl
 
 steps_first : heading_of (record { line = 2; fields = codes "STEPS" ∷ codes "9" ∷ [] } ∷ [])
     ≡ Err (record { line = 2; wrong = record { field = 0; asked = asked.Source } })

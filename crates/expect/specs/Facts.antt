@@ -9,8 +9,8 @@ use Rattle.expect.specs.declared.claim.Claim.TheVariants.{Covered}
 use Rattle.expect.specs.declared.claim.Stated.{Stated}
 use Rattle.expect.specs.declared.known.Known.{Known}
 
--- the notes of the run, a line each; what `check` tells of the source, and how many errors and warnings; how many words of the program it
--- has executed
+-- the notes of the run, a line each; what `check` tells of the source, and how many errors and warnings; how many instructions of the program
+-- it has executed
 pub record Facts : Type 0 where
   pub notes : List ℕ
   pub report : List ℕ
@@ -61,9 +61,9 @@ abbrev pub is_of_check : Claim → Bool
 is_of_check Check = true
 is_of_check _ = false
 
-abbrev pub is_of_words : Claim → Bool
-is_of_words (Covered least) = true
-is_of_words _ = false
+abbrev pub is_of_instructions : Claim → Bool
+is_of_instructions (Covered least) = true
+is_of_instructions _ = false
 
 abbrev pub ask_for_notes : List Stated → Bool
 ask_for_notes claims = list_any (λ stated. is_of_notes stated.claim) claims
@@ -71,5 +71,5 @@ ask_for_notes claims = list_any (λ stated. is_of_notes stated.claim) claims
 abbrev pub ask_for_check : List Stated → Bool
 ask_for_check claims = list_any (λ stated. is_of_check stated.claim) claims
 
-abbrev pub ask_for_words : List Stated → Bool
-ask_for_words claims = list_any (λ stated. is_of_words stated.claim) claims
+abbrev pub ask_for_instructions : List Stated → Bool
+ask_for_instructions claims = list_any (λ stated. is_of_instructions stated.claim) claims

@@ -219,7 +219,7 @@ notes_at at [] = asks at asked.Notes
 notes_at at (field ∷ more) =
     if same_name field (codes "NONE") then ended_at (at + 1) (Notes 0) more else kinds_at at 0 (field ∷ more)
 
--- ## Words that are executed: how many at least
+-- ## Instructions that are executed: how many at least
 abbrev pub with_least : ℕ → Option ℕ → List (List ℕ) → Reading Claim
 with_least at None more = asks at asked.Least
 with_least at (Some least) more = ended_at (at + 1) (Covered least) more

@@ -1,5 +1,5 @@
 -- A text of tests: what it runs, and what each of its tests claims; or where it is refused.
-use Rattle.std.specs.Prelude.{◌≡◌, ℕ, ◌+◌, ◌-◌, ◌^◌, ◌==◌, nat_le, List, [], ◌∷◌, ◌++◌, map, Option, None, Some, Result, Ok, Err, codes}
+use Rattle.std.specs.Prelude.{◌≡◌, ℕ, ◌+◌, ◌-◌, ◌^◌, ◌==◌, ◌&&◌, nat_le, Bool, true, false, List, [], ◌∷◌, ◌++◌, map, Option, None, Some, Result, Ok, Err, codes}
 use Rattle.std.specs.Prelude.{if◌then◌else◌, ⊤}
 use Rattle.agc_text.specs.Fields.{runs, texts}
 use Rattle.agc_text.specs.Lines.{lines}
@@ -33,11 +33,12 @@ refused n wrong = Err (record { line = n; wrong = wrong })
 abbrev pub refused_at : {X : Type 0} → ℕ → ℕ → Asked → Result X Refusal
 refused_at n field what = refused n (record { field = field; asked = what })
 
--- ## What is run: SOURCE and a path; FEED and a path, or no feed; STEPS and a number; and then the tests
+-- ## What is run: SOURCE and a path; FEED and a path, or no feed; STEPS and a number, and UNTIL IDLE or nothing more; and then the tests
 pub record Heading : Type 0 where
   pub source : List ℕ
   pub feed : Option (List ℕ)
   pub steps : ℕ
+  pub until_idle : Bool
   pub tests : List Statement
 
 -- the field after a word, where no other stands
@@ -47,18 +48,39 @@ setting word (name ∷ []) = None
 setting word (name ∷ value ∷ []) = if same_name name word then Some value else None
 setting word (name ∷ value ∷ next ∷ more) = None
 
+-- the field after STEPS, whatever follows it
+abbrev pub steps_field : List (List ℕ) → Option (List ℕ)
+steps_field [] = None
+steps_field (name ∷ []) = None
+steps_field (name ∷ value ∷ more) = if same_name name (codes "STEPS") then Some value else None
+
 -- a number of steps that a run may have
 abbrev pub steps_of : Option (List ℕ) → Option ℕ
 steps_of None = None
 steps_of (Some text) = passing (λ n. nat_le n (2 ^ 40 - 2)) (count_in text)
 
+-- whether UNTIL IDLE follows the number of steps, or nothing; none where something else does
+abbrev pub until_in : List (List ℕ) → Option Bool
+until_in [] = None
+until_in (name ∷ []) = None
+until_in (name ∷ steps ∷ []) = Some false
+until_in (name ∷ steps ∷ until ∷ []) = None
+until_in (name ∷ steps ∷ until ∷ idle ∷ []) =
+    if same_name until (codes "UNTIL") && same_name idle (codes "IDLE") then Some true else None
+until_in (name ∷ steps ∷ until ∷ idle ∷ next ∷ more) = None
+
+abbrev pub with_until : List ℕ → Option (List ℕ) → Statement → ℕ → Option Bool → List Statement → Result Heading Refusal
+with_until source feed s steps None more = refused_at s.line 2 asked.UntilIdle
+with_until source feed s steps (Some until_idle) more =
+    Ok (record { source = source; feed = feed; steps = steps; until_idle = until_idle; tests = more })
+
 abbrev pub with_steps : List ℕ → Option (List ℕ) → Statement → Option ℕ → List Statement → Result Heading Refusal
 with_steps source feed s None more = refused_at s.line 0 asked.Steps
-with_steps source feed s (Some steps) more = Ok (record { source = source; feed = feed; steps = steps; tests = more })
+with_steps source feed s (Some steps) more = with_until source feed s steps (until_in s.fields) more
 
 abbrev pub after_feed : List ℕ → Option (List ℕ) → List Statement → Result Heading Refusal
 after_feed source feed [] = refused_at 0 0 asked.Steps
-after_feed source feed (s ∷ more) = with_steps source feed s (steps_of (setting (codes "STEPS") s.fields)) more
+after_feed source feed (s ∷ more) = with_steps source feed s (steps_of (steps_field s.fields)) more
 
 abbrev pub with_feed : List ℕ → Statement → Option (List ℕ) → List Statement → Result Heading Refusal
 with_feed source s None more = after_feed source None (s ∷ more)

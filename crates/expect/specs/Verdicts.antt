@@ -65,7 +65,7 @@ came_text facts (CallsWithin place most) seen word = if seen == 0 then codes "it
 came_text facts (Notes kinds) seen word = []
 came_text facts Check seen word =
     (codes "check: errors " ++ decimal facts.errors ++ codes ", warnings ") ++ (decimal facts.warnings ++ codes ": ")
-came_text facts (Covered least) seen word = codes "it executes " ++ decimal facts.executed ++ codes " words"
+came_text facts (Covered least) seen word = codes "it executes " ++ decimal facts.executed ++ codes " instructions"
 came_text facts _ seen word = word_came_text word
 
 -- how a word has to stand to another

@@ -72,7 +72,7 @@ pub enum Claim {
     Notes(u64),
     /// `check` tells no error of the source, and no warning.
     Check,
-    /// So many words of the program are executed, or more.
+    /// So many instructions of the program are executed, or more.
     Covered(u64),
 }
 

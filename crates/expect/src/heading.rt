@@ -5,7 +5,8 @@ ghost use Rattle.std.specs.Option.{option_map};
 ghost use Rattle.agc_text.specs.Fields.{runs, texts};
 ghost use Rattle.agc_text.specs.Lines.{lines};
 ghost use Rattle.expect.specs.Statements.{statements};
-ghost use Rattle.expect.specs.Texts.{after_feed, after_source, heading_of, setting, steps_of};
+ghost use Rattle.expect.specs.Texts.{after_feed, after_source, heading_of, setting, steps_field, steps_of};
+ghost use Rattle.expect.specs.Texts.{until_in};
 
 use crate::condition::wrong;
 use crate::fields::{count_in, is_word};
@@ -25,14 +26,16 @@ pub struct Expectation<'a> {
     pub feed: Option<&'a [u8]>,
     /// How many steps are made.
     pub steps: u64,
+    /// Whether fewer are made where the program idles before.
+    pub until_idle: bool,
     /// How many lines stand before the tests.
     pub line: u64,
     /// The lines of the tests.
     pub tests: &'a [u8],
 }
 
-/// What a text of tests runs: after a line SOURCE, a line FEED or none, and a line STEPS; its tests follow. The first
-/// line that is another is told.
+/// What a text of tests runs: after a line SOURCE, a line FEED or none, and a line STEPS, with UNTIL IDLE or without;
+/// its tests follow. The first line that is another is told.
 pub fn expectation_in(text: &[u8]) -> Result<Expectation<'_>, Refusal>
     requires { length text.now ≤ 2 ^ 20 }
     ensures heading { MatchResult result
@@ -41,6 +44,7 @@ pub fn expectation_in(text: &[u8]) -> Result<Expectation<'_>, Refusal>
           source = e.source.now;
           feed = option_map (λ f. f.now) e.feed;
           steps = e.steps;
+          until_idle = e.until_idle;
           tests
               = statements e.line (lines e.tests.now);
         }))
@@ -66,6 +70,7 @@ fn after_source<'a>(source: &'a [u8], line: u64, text: &'a [u8]) -> Result<Expec
           source = e.source.now;
           feed = option_map (λ f. f.now) e.feed;
           steps = e.steps;
+          until_idle = e.until_idle;
           tests
               = statements e.line (lines e.tests.now);
         }))
@@ -96,6 +101,7 @@ fn after_feed<'a>(
           source = e.source.now;
           feed = option_map (λ f. f.now) e.feed;
           steps = e.steps;
+          until_idle = e.until_idle;
           tests
               = statements e.line (lines e.tests.now);
         }))
@@ -125,6 +131,7 @@ fn with_steps<'a>(
           source = e.source.now;
           feed = option_map (λ f. f.now) e.feed;
           steps = e.steps;
+          until_idle = e.until_idle;
           tests
               = statements e.line (lines e.tests.now);
         }))
@@ -134,15 +141,55 @@ fn with_steps<'a>(
     ensures few { IfOk result (λ e. e.line + length e.tests.now ≤ 2 ^ 20) }
     ensures steps { IfOk result (λ e. e.steps ≤ 2 ^ 40 - 2) }
 {
-    match steps_of(setting("STEPS", next.fields)) {
-        Some(steps) => Ok(Expectation {
+    let Some(steps) = steps_of(steps_field(next.fields)) else {
+        return Err(refused(next.line, Asked::Steps));
+    };
+    match until_in(next.fields) {
+        Some(until_idle) => Ok(Expectation {
             source,
             feed,
             steps,
+            until_idle,
             line: next.line,
             tests: next.rest,
         }),
-        None => Err(refused(next.line, Asked::Steps)),
+        None => Err(Refusal {
+            line: next.line,
+            wrong: wrong(2, Asked::UntilIdle),
+        }),
+    }
+}
+
+/// The field after STEPS.
+fn steps_field(fields: &[u8]) -> Option<&[u8]>
+    ensures { option_map (λ value. value.now) result ≡ steps_field (texts (runs fields.now)) }
+{
+    let (name, rest) = split_field(fields)?;
+    let (value, _) = split_field(rest)?;
+    if is_word(name, "STEPS") {
+        Some(value)
+    } else {
+        None
+    }
+}
+
+/// Whether UNTIL IDLE follows the number of steps, or nothing.
+fn until_in(fields: &[u8]) -> Option<bool>
+    ensures { result ≡ until_in (texts (runs fields.now)) }
+{
+    let (_, rest) = split_field(fields)?;
+    let (_, rest) = split_field(rest)?;
+    let Some((until, rest)) = split_field(rest) else {
+        return Some(false);
+    };
+    let (idle, rest) = split_field(rest)?;
+    if split_field(rest).is_some() {
+        return None;
+    }
+    if is_word(until, "UNTIL") && is_word(idle, "IDLE") {
+        Some(true)
+    } else {
+        None
     }
 }
 

@@ -15,8 +15,8 @@ use cpu::{Machine, Output, Processor, make_step};
 use std::alloc::{AllocError, Global};
 
 /// Makes some steps of a run from its start, where the machine stands, each once, and tells of each claim whether they
-/// bear it out, and if not where it fails first. Of notes, of what `check` tells and of words executed `settle` judges
-/// afterwards.
+/// bear it out, and if not where it fails first. Of notes, of what `check` tells and of instructions executed `settle`
+/// judges afterwards.
 ///
 /// Memory is taken once, before the first step; where it is refused no step is made.
 pub fn judge(

@@ -1,8 +1,8 @@
 //! What is known of a run beside its steps.
 
 ghost use Rattle.std.specs.Prelude.{◌≡◌};
-ghost use Rattle.expect.specs.Facts.{ask_for_check, ask_for_notes, ask_for_words, cited, facts_of, first_of};
-ghost use Rattle.expect.specs.Facts.{is_of_check, is_of_notes, is_of_words, misses};
+ghost use Rattle.expect.specs.Facts.{ask_for_check, ask_for_notes, ask_for_instructions, cited, facts_of, first_of};
+ghost use Rattle.expect.specs.Facts.{is_of_check, is_of_notes, is_of_instructions, misses};
 ghost use Rattle.agc_text.specs.Lines.{lines};
 
 use crate::claim::{Claim, Stated};
@@ -20,7 +20,7 @@ pub struct Known<'a> {
     pub errors: u64,
     /// How many warnings.
     pub warnings: u64,
-    /// How many words of the program it has executed.
+    /// How many instructions of the program it has executed.
     pub executed: u64,
 }
 
@@ -73,11 +73,13 @@ pub fn ask_for_check(claims: &[Stated]) -> bool
     claims.iter().any(|stated| is_of_check(&stated.claim))
 }
 
-/// Whether some claim asks how many words are executed.
-pub fn ask_for_words(claims: &[Stated]) -> bool
-    ensures { result ≡ ask_for_words claims.now }
+/// Whether some claim asks how many instructions are executed.
+pub fn ask_for_instructions(claims: &[Stated]) -> bool
+    ensures { result ≡ ask_for_instructions claims.now }
 {
-    claims.iter().any(|stated| is_of_words(&stated.claim))
+    claims
+        .iter()
+        .any(|stated| is_of_instructions(&stated.claim))
 }
 
 /// Whether a claim is one of notes.
@@ -100,9 +102,9 @@ fn is_of_check(claim: &Claim) -> bool
     }
 }
 
-/// Whether it is one of how many words are executed.
-fn is_of_words(claim: &Claim) -> bool
-    ensures { result ≡ is_of_words claim.now }
+/// Whether it is one of how many instructions are executed.
+fn is_of_instructions(claim: &Claim) -> bool
+    ensures { result ≡ is_of_instructions claim.now }
 {
     match claim {
         Claim::Covered(_) => true,

@@ -21,7 +21,7 @@ mod watch;
 pub use claim::{Claim, Condition, Relation, Sought, Stated};
 pub use heading::{Expectation, expectation_in};
 pub use judging::{judge, settle};
-pub use known::{Known, ask_for_check, ask_for_notes, ask_for_words};
+pub use known::{Known, ask_for_check, ask_for_instructions, ask_for_notes};
 pub use reading::claims_in;
 pub use refusal::{Asked, ExpectFault, Refusal, Wrong};
 pub use verdict::{are_all_met, write_verdicts};

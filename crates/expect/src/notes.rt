@@ -1,4 +1,4 @@
-//! What a line claims of the notes of a run, and of how many words it executes.
+//! What a line claims of the notes of a run, and of how many instructions it executes.
 
 ghost use Rattle.std.specs.Prelude.{◌≡◌, ◌≤◌, ◌*◌};
 ghost use Rattle.agc_text.specs.Fields.{runs, texts};
@@ -48,7 +48,7 @@ fn kinds_at(at: u64, kinds: u64, fields: &[u8]) -> Result<Claim, Wrong>
     }
 }
 
-/// What a line claims of the words that are executed: how many they are at least, which has a number among the fields.
+/// What a line claims of the instructions that are executed: how many they are at least, which has a number among the fields.
 pub(crate) fn covered_at(at: u64, fields: &[u8]) -> Result<Claim, Wrong>
     requires { at ≤ 1 }
     ensures { result ≡ covered_at at (texts (runs fields.now)) }

@@ -7,6 +7,8 @@ pub enum Asked {
     Source,
     /// `STEPS`, and a number of steps.
     Steps,
+    /// `UNTIL IDLE`, or the end of the line.
+    UntilIdle,
     /// `TEST`, which begins each test.
     Test,
     /// A word with which a line of a test begins.

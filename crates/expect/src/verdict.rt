@@ -277,16 +277,17 @@ fn push_warnings(text: &mut FailureText, warnings: u64)
     push_all(text, b": ");
 }
 
-/// Appends how many words are executed.
+/// Appends how many instructions are executed.
 #[tactic(auto, using(words::proofs::Digits::short_decimal))]
 fn push_executed(text: &mut FailureText, executed: u64)
     requires { array_vec_len text.old ≤ 90 }
-    ensures items { text.new.items ≡ text.old.items ++ (codes "it executes " ++ decimal executed ++ codes " words") }
-    ensures len { array_vec_len text.new ≤ array_vec_len text.old + 40 }
+    ensures items { text.new.items ≡ text.old.items
+        ++ (codes "it executes " ++ decimal executed ++ codes " instructions") }
+    ensures len { array_vec_len text.new ≤ array_vec_len text.old + 50 }
 {
     push_all(text, b"it executes ");
     push_decimal(text, executed);
-    push_all(text, b" words");
+    push_all(text, b" instructions");
 }
 
 /// Appends how many are wanted at least.

@@ -39,12 +39,12 @@ pub warned_step :
     (language : Language) (unused : Bool) (names : Names) (before : Before) (line : ℕ) (lines rest : List Parts) (parts : Parts)
     (o0 o1 : List Warning)
     → lines ≡ parts ∷ rest → o1 ≡ o0 ++ line_warnings language unused names before rest line parts
-    → o1 ++ warned_lines language unused names (before_next before parts) (line + 1) rest
+    → o1 ++ warned_lines language unused names (before_next names.handlers before parts) (line + 1) rest
     ≡ o0 ++ warned_lines language unused names before line lines
 warned_step language unused names before line lines rest parts o0 o1 next e =
-    ap (λ o. o ++ warned_lines language unused names (before_next before parts) (line + 1) rest) e
+    ap (λ o. o ++ warned_lines language unused names (before_next names.handlers before parts) (line + 1) rest) e
     ∙ append_assoc o0 (line_warnings language unused names before rest line parts)
-    (warned_lines language unused names (before_next before parts) (line + 1) rest)
+    (warned_lines language unused names (before_next names.handlers before parts) (line + 1) rest)
     ∙ ap (λ t. o0 ++ warned_lines language unused names before line t) (sym next)
 
 -- so many of some lines, where a line stands first

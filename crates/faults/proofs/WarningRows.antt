@@ -65,6 +65,32 @@ warned_rows =
     ∷ (codes " SETLOC 4100;D TCF D; SETLOC 4000; CADR D", (4, 2, 4, 11) ∷ [])
     ∷ (codes " SETLOC 4001;X OCT 5; CA X;D TCF D", [])
     ∷ (codes " OCT 5; DEC 6", [])
+    -- a routine that changes A before it keeps it, and one that keeps it; L behind a jump, and Q
+    ∷ (codes " RELINT;D TCF D; SETLOC 4024; CA X; RESUME;X OCT 1", (4, 2, 2, 12) ∷ [])
+    ∷ (codes " RELINT;D TCF D; SETLOC 4024; TS 10; CA X; XCH 10; RESUME;X OCT 1", [])
+    ∷ (codes " RELINT;D TCF D; SETLOC 4024; XCH 10; TCF H; SETLOC 4100;H EXTEND; MP X; XCH 10; RESUME;X OCT 1", (8, 2, 2, 12) ∷ [])
+    ∷ (codes " RELINT;D TCF D; SETLOC 4024; DXCH 10; TCF H; SETLOC 4100;H EXTEND; MP X; DXCH 10; RESUME;X OCT 1", [])
+    ∷ (codes " RELINT;D TCF D; SETLOC 4024; XCH 10; TC S; XCH 10; RESUME;S RETURN", (5, 2, 2, 12) ∷ [])
+    -- a program that stands at a vector, with a label
+    ∷ (codes " RELINT; TCF S; SETLOC 4010;S CA X;D TCF D; SETLOC 4024; RESUME;X OCT 1", [])
+    -- an interrupt that does not end; where none is let in, and where INDEX 17 may end it
+    ∷ (codes " RELINT;D TCF D; SETLOC 4024; TCF D", (4, 2, 3, 13) ∷ [])
+    ∷ (codes "D TCF D; SETLOC 4024; TCF D", [])
+    ∷ (codes " RELINT;D TCF D; SETLOC 4024; TCF D;BRUPT EQUALS 17; INDEX BRUPT; TCF D", [])
+    -- a program that runs over the vectors; one that leaves before, one with a vector of its own, and one without interrupts
+    ∷ (codes " RELINT; CA X; TS X; CA X; TS X;D TCF D;X EQUALS 100", (5, 2, 2, 14) ∷ [])
+    ∷ (codes " RELINT; CA X; TS X; TCF S; TS X;S TCF S;X EQUALS 100", [])
+    ∷ (codes " RELINT; CA X; TS X; CA X; TS X;D TCF D; SETLOC 4024; RESUME;X EQUALS 100", [])
+    ∷ (codes " CA X; CA X; TS X; CA X; TS X;D TCF D;X EQUALS 100", [])
+    -- two words at one place, at two, and one of them without a name
+    ∷ (codes " SETLOC 100;X ERASE; SETLOC 100;Y ERASE; SETLOC 4000; TS X; TS Y;D TCF D", (4, 1, 1, 15) ∷ [])
+    ∷ (codes " SETLOC 100;X ERASE; SETLOC 101;Y ERASE; SETLOC 4000; TS X; TS Y;D TCF D", [])
+    ∷ (codes " SETLOC 100;X ERASE; SETLOC 100; ERASE;Y ERASE; SETLOC 4000; TS X; TS Y;D TCF D", [])
+    -- a word behind a jump; a table of jumps, the ways of CCS, and a jump by a number
+    ∷ (codes " TCF D; CA X;D TCF D;X OCT 1", (2, 2, 2, 16) ∷ [])
+    ∷ (codes " TCF D; TCF D;D TCF D", [])
+    ∷ (codes " CCS X; TCF D; CA X; NOOP; TCF D;D TCF D;X EQUALS 100", [])
+    ∷ (codes " TCF +2; CA X;D TCF D;X OCT 1", [])
     -- names of registers
     ∷ (codes " SETLOC 100;Q ERASE; SETLOC 4000; TS Q;D TCF D", (2, 1, 1, 7) ∷ [])
     ∷ (codes " SETLOC 0;A ERASE;Q ERASE; SETLOC 4000; TC A; TC Q", (3, 1, 1, 7) ∷ [])

@@ -422,6 +422,20 @@ number_cause parts =
     else cured (codes "an operand is an address: @ is the register or the counter at place @, and not the number")
     (codes "the number has a line of its own, behind the last jump: NAME OCT @ (or DEC and decimal digits), and here % NAME")
 
+-- 12 to 16: what a routine of an interrupt does, where the program runs on, and what stands twice or is not reached
+abbrev pub way_cause : ℕ → Cause
+way_cause number =
+    if number == 12 then cured (codes "an interrupt's routine comes here, and % changes A, L or Q, which it has not kept")
+    (codes "XCH, LXCH or QXCH of a cell before it, and again before RESUME")
+    else if number == 13 then cured (codes "an interrupt enters here, and no line is RESUME, which ends it")
+    (codes "RESUME as the last instruction of the routine")
+    else if number == 14 then cured (codes "the program runs on over the vectors, 4004 to 4053, where interrupts enter")
+    (codes "TCF before it, and the program from 4054 on; behind SETLOC to its vector the routine of each interrupt")
+    else if number == 15 then cured (codes "& stands where an earlier line reserves a word")
+    (codes "no SETLOC between the two; for two names of one word & EQUALS the other")
+    else cured (codes "% stands behind a jump without a label, and nothing leads here")
+    (codes "a label and a jump to it, or leave it out")
+
 -- a warning of a line with some fields in words
 abbrev pub warning_cause : Parts → ℕ → Cause
 warning_cause parts number =
@@ -443,4 +457,5 @@ warning_cause parts number =
     (codes "another channel, or, where the register is meant, its name: L EQUALS 1, Q EQUALS 2")
     else if number == 11 then cured (codes "a run starts here, at 4000, and % is no instruction")
     (codes "the program first, or a jump to it, and constants behind its last jump")
+    else if nat_le 12 number && nat_le number 16 then way_cause number
     else said []

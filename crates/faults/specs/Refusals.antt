@@ -58,7 +58,7 @@ heading number = codes "E" ++ decimal number ++ codes ": " ++ meaning number ++ 
 
 -- the numbers of warnings
 abbrev pub warning_numbers : List ℕ
-warning_numbers = 1 ∷ 2 ∷ 3 ∷ 4 ∷ 5 ∷ 6 ∷ 7 ∷ 8 ∷ 9 ∷ 10 ∷ 11 ∷ []
+warning_numbers = 1 ∷ 2 ∷ 3 ∷ 4 ∷ 5 ∷ 6 ∷ 7 ∷ 8 ∷ 9 ∷ 10 ∷ 11 ∷ 12 ∷ 13 ∷ 14 ∷ 15 ∷ 16 ∷ []
 
 abbrev pub is_warned : ℕ → Bool
 is_warned number = list_any (λ n. n == number) warning_numbers
@@ -77,6 +77,11 @@ warning_meaning number =
     else if number == 9 then codes "a switched bank of fixed memory is reached, and no line sets FB"
     else if number == 10 then codes "a word is written on a channel that is a register, and does not go out"
     else if number == 11 then codes "a constant or an address stands where a run starts"
+    else if number == 12 then codes "an interrupt's routine changes A, L or Q and has not kept it"
+    else if number == 13 then codes "an interrupt's routine stands, and no line is RESUME"
+    else if number == 14 then codes "the program runs on over the vectors, while RELINT stands"
+    else if number == 15 then codes "a word is reserved where an earlier line reserves one"
+    else if number == 16 then codes "nothing leads to an instruction behind a jump"
     else []
 
 -- the number of a warning, and what it means

@@ -224,3 +224,13 @@ leads_on_to _ = false
 abbrev pub subtracts : Option Role → Bool
 subtracts (Some Role.Subtract) = true
 subtracts _ = false
+
+-- it goes on at any address, and leaves in Q where it came from
+abbrev pub is_call : Option Role → Bool
+is_call (Some Role.Call) = true
+is_call _ = false
+
+-- it goes on at an address of fixed memory, whatever stands in A
+abbrev pub is_jump : Option Role → Bool
+is_jump (Some Role.Jump) = true
+is_jump _ = false

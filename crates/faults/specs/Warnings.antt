@@ -1,6 +1,6 @@
 -- What in a source is likely a mistake, though it is no fault: definitions over its lines, whatever stands before them.
 use Rattle.std.specs.Prelude.{ℕ, ◌+◌, ◌-◌, ◌%◌, ◌==◌, ◌&&◌, ◌||◌, not, Bool, true, false, nat_le, nat_lt, List, [], ◌∷◌, ◌++◌, length, map}
-use Rattle.std.specs.Prelude.{Option, Some, None, is_some, codes, option_and_then, if◌then◌else◌}
+use Rattle.std.specs.Prelude.{Option, Some, None, is_some, codes, option_and_then, slice_get, if◌then◌else◌}
 use Rattle.std.specs.List.{fold, list_any}
 use Rattle.std.specs.Option.{option_map, option_map_or}
 use Rattle.agc_text.specs.Digits.{digits_value, sized}
@@ -11,13 +11,18 @@ use Rattle.agc_text.specs.Tables.{same_name, value_in}
 use Rattle.yayul.specs.Survey.{looked_at, span_of}
 use Rattle.yayul.specs.declared.language.Language.{Language}
 use Rattle.yayul.specs.declared.language.Language.TheVariants.{Flight, Standard}
-use Rattle.faults.specs.Roles.{gives_two, is_constant, is_equals, is_erase, is_index, is_leaving, is_setloc, keeps_location, moves_location}
-use Rattle.faults.specs.Roles.{names_bank, reads, reads_word, sets_bank, stores, takes_pair}
+use Rattle.faults.specs.Roles.{gives_two, is_call, is_constant, is_equals, is_erase, is_index, is_jump, is_leaving, is_setloc}
+use Rattle.faults.specs.Roles.{keeps_location, leads_on_to, leads_to_fixed, moves_location, names_bank, reads, reads_word, sets_bank}
+use Rattle.faults.specs.Roles.{stores, takes_pair}
 use Rattle.yayul.specs.Readings.{Parts, parts_for}
 use Rattle.yayul.specs.Roles.{is_operator_of}
 use Rattle.faults.specs.Registers.{registers}
 use Rattle.faults.specs.declared.flow.Before.{Before}
+use Rattle.faults.specs.declared.handlers.Handlers.{Handlers}
+use Rattle.faults.specs.declared.handlers.Unkept.{Unkept}
 use Rattle.faults.specs.declared.mistakes.Names.{Names}
+use Rattle.faults.specs.declared.reserved.Reserved.{Reserved}
+use Rattle.faults.specs.declared.unreached.Leads.{Leads}
 use Rattle.faults.specs.declared.switched.BankRegister.{BankRegister}
 use Rattle.faults.specs.declared.switched.BankRegister.TheVariants.{Eb, Fb}
 use Rattle.faults.specs.declared.switched.Banks.{Banks}
@@ -365,6 +370,274 @@ start_warnings instructs place line parts =
     at_field (λ p. warned_if (instructs && is_same_known place (Some 0o4000) && gives_word parts && is_constant parts.role) line 11 p)
     parts.operator
 
+-- ## 12: a routine of an interrupt that changes A, L or Q before it keeps it
+-- none, and all, of A, L and Q: those that a routine has neither kept nor changed, on the straight way from its vector
+abbrev pub none_unkept : Unkept
+none_unkept = record { a = false; l = false; q = false }
+
+abbrev pub all_unkept : Unkept
+all_unkept = record { a = true; l = true; q = true }
+
+-- what stores A, and what stores L
+abbrev pub keeping_a : List (List ℕ)
+keeping_a = codes "TS" ∷ codes "XCH" ∷ codes "DXCH" ∷ []
+
+abbrev pub keeping_l : List (List ℕ)
+keeping_l = codes "LXCH" ∷ codes "DXCH" ∷ []
+
+-- what leaves another word in A, and in L
+abbrev pub changing_a : List (List ℕ)
+changing_a = codes "CA" ∷ codes "CAE" ∷ codes "CAF" ∷ codes "CS" ∷ codes "AD" ∷ codes "SU" ∷ codes "MASK" ∷ codes "MSK" ∷ codes "CCS"
+    ∷ codes "MP" ∷ codes "DV" ∷ codes "MSU" ∷ codes "DCA" ∷ codes "DCS" ∷ codes "ADS" ∷ codes "DAS" ∷ codes "READ" ∷ codes "RAND"
+    ∷ codes "ROR" ∷ codes "RXOR" ∷ codes "WAND" ∷ codes "WOR" ∷ codes "COM" ∷ codes "DCOM" ∷ codes "DOUBLE" ∷ codes "DDOUBL"
+    ∷ codes "SQUARE" ∷ []
+
+abbrev pub changing_l : List (List ℕ)
+changing_l = codes "MP" ∷ codes "DV" ∷ codes "DCA" ∷ codes "DCS" ∷ codes "DAS" ∷ codes "ZL" ∷ codes "DCOM" ∷ codes "DDOUBL"
+    ∷ codes "SQUARE" ∷ []
+
+-- a register or a counter, by name or by number
+abbrev pub is_register_field : List ℕ → Bool
+is_register_field text = is_some (value_in registers text) || is_register_number text
+
+-- TC of a place that is no register
+abbrev pub calls : Parts → Bool
+calls parts = is_call parts.role && option_map_or (λ p. not (is_register_field p.text)) parts.operand false
+
+-- FB, Z or BB by name, or a place of 3 to 6 by number
+abbrev pub is_way_register : List ℕ → Bool
+is_way_register text = option_map_or is_jump_register (value_in registers text) false || is_bank_number Fb text
+
+-- a line stores where the next instruction is found
+abbrev pub stores_way : Parts → Bool
+stores_way parts = stores parts.role && option_map_or (λ p. is_way_register p.text) parts.operand false
+
+-- the next word is not reached from this one
+abbrev pub goes_elsewhere : Parts → Bool
+goes_elsewhere parts = is_leaving parts.role || stores_way parts
+
+-- A is stored or changed; so L and Q
+abbrev pub closes_a : Parts → Bool
+closes_a parts = has_operator keeping_a parts || has_operator changing_a parts
+
+abbrev pub closes_l : Parts → Bool
+closes_l parts = has_operator keeping_l parts || has_operator changing_l parts
+
+abbrev pub closes_q : Parts → Bool
+closes_q parts = has_operator (codes "QXCH" ∷ []) parts
+
+-- what is unkept after an instruction behind which the next is reached
+abbrev pub unkept_less : Unkept → Parts → Unkept
+unkept_less unkept parts = record {
+  a = unkept.a && not (closes_a parts);
+  l = unkept.l && not (closes_l parts);
+  q = unkept.q && not (closes_q parts);
+}
+
+-- what is unkept after a line
+abbrev pub unkept_after : Unkept → Parts → Unkept
+unkept_after unkept parts =
+    if moves_location parts.role then (if sets_vector parts then all_unkept else none_unkept)
+    else if not (gives_word parts) then unkept
+    else if goes_elsewhere parts then none_unkept
+    else unkept_less unkept parts
+
+-- what is unkept on a straight way, which ends at a label: others may come there
+abbrev pub on_straight : Unkept → Parts → Unkept
+on_straight unkept parts =
+    if is_some parts.label && not (moves_location parts.role || keeps_location parts.role) then none_unkept else unkept
+
+-- some names, and that to which a line leads where something is so
+abbrev pub with_target : Bool → List (List ℕ) → Parts → List (List ℕ)
+with_target condition names parts = if has_alone (condition && leads_to_fixed parts.role) parts then with_field names parts.operand else
+    names
+
+-- RESUME, or a number by which it can be made: 17 of INDEX, or its word
+abbrev pub is_resume_number : List ℕ → Bool
+is_resume_number text = option_map_or (λ number. number == 0o17 || number == 0o50017) (digits_value 8 text) false
+
+abbrev pub may_resume : Parts → Bool
+may_resume parts = has_operator (codes "RESUME" ∷ []) parts || option_map_or (λ p. is_resume_number p.text) parts.operand false
+
+-- what the lines so far say of routines of interrupts
+abbrev pub no_handlers : Handlers
+no_handlers = record {
+  unkept = none_unkept;
+  a = [];
+  l = [];
+  q = [];
+  resumes = false;
+  may_resume = false;
+  relints = false;
+  vectors = false;
+}
+
+abbrev pub handlers_after : Handlers → Parts → Handlers
+handlers_after handlers parts = record {
+  unkept = unkept_after (on_straight handlers.unkept parts) parts;
+  a = with_target (on_straight handlers.unkept parts).a handlers.a parts;
+  l = with_target (on_straight handlers.unkept parts).l handlers.l parts;
+  q = with_target (on_straight handlers.unkept parts).q handlers.q parts;
+  resumes = handlers.resumes || has_operator (codes "RESUME" ∷ []) parts;
+  may_resume = handlers.may_resume || may_resume parts;
+  relints = handlers.relints || has_operator (codes "RELINT" ∷ []) parts;
+  vectors = handlers.vectors || sets_vector parts;
+}
+
+abbrev pub handlers_of : List Parts → Handlers
+handlers_of lines = fold (λ handlers parts. handlers_after handlers parts) no_handlers lines
+
+-- the label of a line is one of some names
+abbrev pub has_label : List (List ℕ) → Parts → Bool
+has_label names parts = option_map_or (λ l. is_among names l.text) parts.label false
+
+-- what is unkept at a line, where a way from a vector comes straight or by a jump
+abbrev pub unkept_at : Handlers → Unkept → Parts → Unkept
+unkept_at handlers unkept parts =
+    if moves_location parts.role || keeps_location parts.role then unkept
+    else record {
+      a = (on_straight unkept parts).a || has_label handlers.a parts;
+      l = (on_straight unkept parts).l || has_label handlers.l parts;
+      q = (on_straight unkept parts).q || has_label handlers.q parts;
+    }
+
+-- a line changes what is unkept
+abbrev pub loses : Unkept → Parts → Bool
+loses unkept parts = (unkept.a && has_operator changing_a parts) || (unkept.l && has_operator changing_l parts)
+    || (unkept.q && calls parts)
+
+abbrev pub kept_warnings : Handlers → Unkept → ℕ → Parts → List Warning
+kept_warnings handlers unkept line parts =
+    at_field (λ p. warned_if (handlers.resumes && loses (unkept_at handlers unkept parts) parts) line 12 p) parts.operator
+
+-- ## 13: an interrupt that does not end: an instruction at a vector, without a label, while RELINT stands in the source and RESUME does
+-- not
+abbrev pub is_begun : Option ℕ → Bool
+is_begun filled = option_map_or (λ count. count == 0) filled false
+
+abbrev pub handler_warnings : Handlers → Option ℕ → ℕ → Parts → List Warning
+handler_warnings handlers filled line parts =
+    at_field (λ p. warned_if (handlers.relints && not handlers.may_resume && is_begun filled && is_instruction parts
+    && not (is_some parts.label)) line 13 p) parts.operator
+
+-- ## 14: the program runs on over the vectors, to 4004, while RELINT stands in the source and no SETLOC to a vector does
+abbrev pub crossing_warnings : Handlers → Option ℕ → Bool → ℕ → Parts → List Warning
+crossing_warnings handlers place left line parts =
+    at_field (λ p. warned_if (handlers.relints && not handlers.vectors && is_same_known place (Some 0o4004) && not left
+    && is_instruction parts) line 14 p) parts.operator
+
+-- ## 15: a word reserved at a place where an earlier line reserves one
+-- some places and one more
+abbrev pub is_reserved : List ℕ → ℕ → Bool
+is_reserved places place = list_any (λ p. p == place) places
+
+abbrev pub with_place : List ℕ → Option ℕ → List ℕ
+with_place places None = places
+with_place places (Some place) = if is_reserved places place then places else places ++ place ∷ []
+
+abbrev pub is_again : List ℕ → Option ℕ → Bool
+is_again places place = option_map_or (is_reserved places) place false
+
+-- a label beside ERASE alone
+abbrev pub names_one : Parts → Bool
+names_one parts = reserves_one parts && is_some parts.label
+
+-- what the lines so far say of words that are reserved: the place, the places of words with a label, and the labels of those that stand
+-- there again
+abbrev pub none_reserved : Reserved
+none_reserved = record { place = Some 0o4000; places = []; again = [] }
+
+abbrev pub reserved_after : Reserved → Parts → Reserved
+reserved_after reserved parts = record {
+  place = place_after reserved.place parts;
+  places = if names_one parts then with_place reserved.places reserved.place else reserved.places;
+  again = if reserves_one parts && is_again reserved.places reserved.place then with_field reserved.again parts.label else reserved.again;
+}
+
+abbrev pub reserved_of : List Parts → Reserved
+reserved_of lines = fold (λ reserved parts. reserved_after reserved parts) none_reserved lines
+
+abbrev pub again_warnings : Reserved → ℕ → Parts → List Warning
+again_warnings reserved line parts = at_field (λ p. warned_if (reserves_one parts && is_among reserved.again p.text) line 15 p) parts.label
+
+-- ## 16: a word behind a jump, to which nothing leads
+-- a sign stands first
+abbrev pub is_signed_text : List ℕ → Bool
+is_signed_text text = option_map_or (λ first. first == 0o53 || first == 0o55) (slice_get text 0) false
+
+-- what goes on where A, L or another word says
+abbrev pub computing : List (List ℕ)
+computing = codes "XXALQ" ∷ codes "XLQ" ∷ codes "TCAA" ∷ []
+
+-- an operand that names no label: a number, a place beside the line, or a register but Q
+abbrev pub is_unnamed : List ℕ → Bool
+is_unnamed text = is_some (digits_value 8 text) || is_signed_text text
+    || option_map_or (λ place. not (same_name place (codes "2"))) (value_in registers text) false
+
+-- a jump to no label, with an offset or after INDEX
+abbrev pub jumps_unnamed : Bool → Parts → Bool
+jumps_unnamed indexed parts =
+    leads_on_to parts.role && (indexed || is_some parts.offset || option_map_or (λ p. is_unnamed p.text) parts.operand false)
+
+-- an address or a name with an offset
+abbrev pub names_beyond : Parts → Bool
+names_beyond parts = (is_constant parts.role || is_equals parts.role) && is_some parts.offset
+
+-- what goes on where a register says
+abbrev pub goes_by_register : Parts → Bool
+goes_by_register parts = sets_bank parts.role || has_operator computing parts || stores_way parts
+
+-- a line may lead to a word without a label
+abbrev pub leads_unnamed : Bool → Parts → Bool
+leads_unnamed indexed parts = jumps_unnamed indexed parts || names_beyond parts || goes_by_register parts
+
+abbrev pub no_leads : Leads
+no_leads = record { indexed = false; unnamed = false }
+
+abbrev pub leads_after : Leads → Parts → Leads
+leads_after leads parts = record {
+  indexed = indexed_after leads.indexed parts;
+  unnamed = leads.unnamed || leads_unnamed leads.indexed parts;
+}
+
+abbrev pub leads_of : List Parts → Leads
+leads_of lines = fold (λ leads parts. leads_after leads parts) no_leads lines
+
+-- how many words behind it a line may lead to: the four ways of CCS; behind others that may skip, and routines that may, two
+abbrev pub skipping : Parts → ℕ
+skipping parts =
+    if has_operator (codes "CCS" ∷ []) parts then 4
+    else if is_call parts.role || is_index parts.role || has_operator (codes "TS" ∷ codes "OVSK" ∷ []) parts then 2
+    else 0
+
+-- how many more words may be led to so, after a line
+abbrev pub skips_after : ℕ → Parts → ℕ
+skips_after skips parts =
+    if not (gives_word parts) then skips
+    else if nat_lt (skipping parts) (skips - 1) then skips - 1
+    else skipping parts
+
+-- TCF, RETURN or RESUME stands last, after a line
+abbrev pub behind_after : Bool → Parts → Bool
+behind_after behind parts =
+    if gives_word parts then is_jump parts.role || has_operator (codes "RETURN" ∷ codes "RESUME" ∷ []) parts
+    else if moves_location parts.role || is_some parts.label then false
+    else behind
+
+-- an interrupt may enter at a place that is known, or else in a bank
+abbrev pub may_enter : Option ℕ → Option ℕ → Bool
+may_enter (Some place) bank = is_vector place
+may_enter None bank = option_map_or (λ b. b == 2) bank true
+
+-- an instruction that is no part of a table of jumps, and nothing that fills room
+abbrev pub is_work : Parts → Bool
+is_work parts = is_instruction parts && not (is_jump parts.role || is_call parts.role || has_operator (codes "NOOP" ∷ []) parts)
+
+abbrev pub unreached_warnings : Bool → Before → ℕ → Parts → List Warning
+unreached_warnings unnamed before line parts =
+    at_field (λ p. warned_if (not unnamed && before.behind && before.skips == 0 && is_work parts && not (is_some parts.label)
+    && not (may_enter before.place before.bank)) line 16 p) parts.operator
+
 -- ## What stands before a line
 -- how many words a vector has after a line, or nothing where none is filled
 abbrev pub filled_after : Option ℕ → Parts → Option ℕ
@@ -373,22 +646,35 @@ filled_after filled parts =
     else option_and_then (λ n. if nat_lt n 4 then Some (n + word_count parts) else if gives_word parts then None else Some n) filled
 
 -- what stands after a line
-abbrev pub before_next : Before → Parts → Before
-before_next before parts = record {
+abbrev pub before_next : Handlers → Before → Parts → Before
+before_next handlers before parts = record {
   indexed = indexed_after before.indexed parts;
   filled = filled_after before.filled parts;
   left = if gives_word parts then leaves parts else before.left;
   region = region_after before.region parts;
   place = place_after before.place parts;
   bank = bank_after before.bank parts;
+  unkept = unkept_after (unkept_at handlers before.unkept parts) parts;
+  behind = behind_after before.behind parts;
+  skips = skips_after before.skips parts;
 }
 
 abbrev pub at_start : Before
-at_start = record { indexed = false; filled = None; left = false; region = Common; place = Some 0o4000; bank = Some 2 }
+at_start = record {
+  indexed = false;
+  filled = None;
+  left = false;
+  region = Common;
+  place = Some 0o4000;
+  bank = Some 2;
+  unkept = none_unkept;
+  behind = false;
+  skips = 0;
+}
 
 -- ## All
 -- the names of some lines: those for which one word is reserved, those that an operand is and those that are read; and what is known of
--- banks
+-- banks, of routines of interrupts, of words that are reserved, and of what leads to words
 abbrev pub names_of : List Parts → Names
 names_of lines = record {
   singles = fold (λ names parts. with_single names parts) [] lines;
@@ -397,6 +683,9 @@ names_of lines = record {
   banks = banks_of lines;
   sets_erasable = may_set_erasable (banks_of lines);
   sets_fixed = may_set_fixed (banks_of lines);
+  handlers = handlers_of lines;
+  reserved = reserved_of lines;
+  leads = leads_of lines;
 }
 
 -- a source without forms of flight programs, whose words of other kinds are not told from instructions
@@ -407,13 +696,22 @@ is_standard Flight = false
 -- the warnings of a line's label; of one that nothing names where they are asked for
 abbrev pub name_warnings : Language → Bool → Names → Before → ℕ → Parts → List Warning
 name_warnings language unused names before line parts = label_warnings language line parts ++ register_warnings before.place line parts
+    ++ (if is_standard language then again_warnings names.reserved line parts else [])
     ++ (if unused then unused_warnings names.operands line parts else [])
+
+-- those of routines of interrupts, of their vectors, and of what is never reached
+abbrev pub way_warnings : Names → Before → ℕ → Parts → List Warning
+way_warnings names before line parts =
+    kept_warnings names.handlers before.unkept line parts ++ handler_warnings names.handlers before.filled line parts
+    ++ crossing_warnings names.handlers before.place before.left line parts
+    ++ unreached_warnings names.leads.unnamed before line parts
 
 -- the warnings of its operator, by what stands before it and the lines after it
 abbrev pub flow_warnings : Language → Names → Before → List Parts → ℕ → Parts → List Warning
 flow_warnings language names before after line parts
     = (if is_standard language then end_warnings names.read before after line parts
-    ++ start_warnings names.banks.instructs before.place line parts else []) ++ vector_warnings before line parts
+    ++ start_warnings names.banks.instructs before.place line parts ++ way_warnings names before line parts else [])
+    ++ vector_warnings before line parts
 
 -- the warnings of its operand
 abbrev pub operand_warnings : Names → Before → ℕ → Parts → List Warning
@@ -432,7 +730,7 @@ abbrev pub warned_lines : Language → Bool → Names → Before → ℕ → Lis
 warned_lines language unused names before line [] = []
 warned_lines language unused names before line (parts ∷ rest) =
     line_warnings language unused names before rest line parts
-    ++ warned_lines language unused names (before_next before parts) (line + 1) rest
+    ++ warned_lines language unused names (before_next names.handlers before parts) (line + 1) rest
 
 -- the lines of a source that are looked at, taken apart
 abbrev pub lines_apart : Language → List ℕ → List Parts

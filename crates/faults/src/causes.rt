@@ -12,6 +12,7 @@ ghost use Rattle.faults.specs.Causes.{room_cause, kind_cause, range_cause, cause
 ghost use Rattle.faults.specs.Causes.{near_label, said, cured, cured_by, text_of, holds, begins, holds_sign, is_signed};
 ghost use Rattle.faults.specs.Causes.{is_label, is_octal_bank, is_decimal_bank, has_parted_offset, lists_numbers};
 ghost use Rattle.faults.specs.Causes.{without_colon, long_cause, number_cause, is_foreign_comment, has_foreign_comment};
+ghost use Rattle.faults.specs.Causes.{way_cause};
 ghost use Rattle.faults.specs.Causes.{is_beyond_octal, foreign_operators};
 ghost use Rattle.faults.specs.Registers.{registers};
 ghost use Rattle.faults.specs.Views.{cause_in, entries};
@@ -171,7 +172,36 @@ pub(crate) fn warning_cause(parts: &Reading<'_>, number: u8) -> Cause
             b"a run starts here, at 4000, and % is no instruction",
             b"the program first, or a jump to it, and constants behind its last jump",
         ),
+        12..=16 => way_cause(number),
         _ => Cause::said(b""),
+    }
+}
+
+// 12 to 16: what a routine of an interrupt does, where the program runs on, and what stands twice or is not reached.
+fn way_cause(number: u8) -> Cause
+    ensures { cause_in result ≡ way_cause number }
+{
+    match number {
+        12 => Cause::cured(
+            b"an interrupt's routine comes here, and % changes A, L or Q, which it has not kept",
+            b"XCH, LXCH or QXCH of a cell before it, and again before RESUME",
+        ),
+        13 => Cause::cured(
+            b"an interrupt enters here, and no line is RESUME, which ends it",
+            b"RESUME as the last instruction of the routine",
+        ),
+        14 => Cause::cured(
+            b"the program runs on over the vectors, 4004 to 4053, where interrupts enter",
+            b"TCF before it, and the program from 4054 on; behind SETLOC to its vector the routine of each interrupt",
+        ),
+        15 => Cause::cured(
+            b"& stands where an earlier line reserves a word",
+            b"no SETLOC between the two; for two names of one word & EQUALS the other",
+        ),
+        _ => Cause::cured(
+            b"% stands behind a jump without a label, and nothing leads here",
+            b"a label and a jump to it, or leave it out",
+        ),
     }
 }
 

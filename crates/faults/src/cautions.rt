@@ -6,7 +6,7 @@ ghost use Rattle.faults.specs.Refusals.{warning_meaning, is_warned};
 use crate::refusals::Refusal;
 
 /// The numbers, rising.
-pub const WARNING_NUMBERS: [u8; 11] = [1, 2, 3, 4, 5, 6, 7, 8, 9, 10, 11];
+pub const WARNING_NUMBERS: [u8; 16] = [1, 2, 3, 4, 5, 6, 7, 8, 9, 10, 11, 12, 13, 14, 15, 16];
 
 /// The warning of a number, where there is one, and what draws it.
 pub fn warning_of(number: u8) -> Option<Refusal>
@@ -24,6 +24,11 @@ pub fn warning_of(number: u8) -> Option<Refusal>
         9 => CAUSES_9,
         10 => CAUSES_10,
         11 => CAUSES_11,
+        12 => CAUSES_12,
+        13 => CAUSES_13,
+        14 => CAUSES_14,
+        15 => CAUSES_15,
+        16 => CAUSES_16,
         _ => return None,
     };
     Some(Refusal { number, causes })
@@ -45,6 +50,11 @@ pub(crate) fn warning_meaning(number: u8) -> &'static [u8]
         9 => b"a switched bank of fixed memory is reached, and no line sets FB",
         10 => b"a word is written on a channel that is a register, and does not go out",
         11 => b"a constant or an address stands where a run starts",
+        12 => b"an interrupt's routine changes A, L or Q and has not kept it",
+        13 => b"an interrupt's routine stands, and no line is RESUME",
+        14 => b"the program runs on over the vectors, while RELINT stands",
+        15 => b"a word is reserved where an earlier line reserves one",
+        16 => b"nothing leads to an instruction behind a jump",
         _ => b"",
     }
 }
@@ -136,4 +146,53 @@ const CAUSES_11: &[u8] = b"
      CA X
     D TCF D
   Cure: the program first, or a jump to it, and constants behind its last jump
+";
+
+const CAUSES_12: &[u8] = b"
+- an instruction on the straight way from a vector, 4004 to 4050, without labels but the one to which its TCF, BZF or BZMF leads, that changes A, L or Q, as CA, MP and TC of a label do, where none before it has stored that, as XCH, LXCH and QXCH do; in a source with RESUME, and not with --flight
+    D TCF D
+     SETLOC 4024
+  >  CA X
+     RESUME
+    X OCT 1
+  Cure: XCH, LXCH or QXCH of a cell before it, and again before RESUME
+";
+
+const CAUSES_13: &[u8] = b"
+- an instruction without a label at a vector, while RELINT stands in the source, and no RESUME, nor 17 or 50017 as an operand; and not with --flight
+     RELINT
+    D TCF D
+     SETLOC 4024
+  >  TCF D
+  Cure: RESUME as the last instruction of the routine
+";
+
+const CAUSES_14: &[u8] = b"
+- an instruction at 4004, where the word before goes on to it, while RELINT stands in the source, and no SETLOC to a vector; and not with --flight
+     RELINT
+     CA X
+     TS X
+     CA X
+  >  TS X
+    D TCF D
+    X EQUALS 100
+  Cure: TCF before it, and the program from 4054 on; behind SETLOC to its vector the routine of each interrupt
+";
+
+const CAUSES_15: &[u8] = b"
+- a label beside ERASE alone, at a place where ERASE alone stands beside an earlier one; and not with --flight
+     SETLOC 100
+    X ERASE
+     SETLOC 100
+  > Y ERASE
+  Cure: no SETLOC between the two; for two names of one word Y EQUALS X
+";
+
+const CAUSES_16: &[u8] = b"
+- an instruction without a label behind TCF, RETURN or RESUME; not TC, TCF or NOOP, not at a vector, nor within four words behind CCS, or two behind TS, TC or INDEX; in a source in which jumps and addresses are labels alone, and not with --flight
+     TCF D
+  >  CA X
+    D TCF D
+    X OCT 1
+  Cure: a label and a jump to it, or leave it out
 ";

@@ -13,6 +13,7 @@ ghost use Rattle.faults.specs.Registers.{registers};
 ghost use Rattle.std.specs.Option.{option_map, option_map_or};
 
 use crate::causes::value_in;
+use crate::handlers::{Handlers, Unkept};
 use crate::mistakes::{has_alone, indexed_after, is_register_number, warn_if};
 use crate::names::NameSet;
 use crate::registers::registers;
@@ -22,6 +23,7 @@ use crate::roles::{
 use crate::standing::{bank_after, leads_on, place_after};
 use crate::switched::{Region, region_after};
 use crate::told::Warning;
+use crate::unreached::{behind_after, skips_after};
 use agc_text::{Field, Number, octal_value};
 use std::alloc::AllocError;
 use yayul::Reading;
@@ -44,6 +46,12 @@ pub(crate) struct Before {
     pub(crate) place: Option<u32>,
     /// The bank behind whose words it stands, likewise.
     pub(crate) bank: Option<u32>,
+    /// What the routine of an interrupt has not kept.
+    pub(crate) unkept: Unkept,
+    /// Whether TCF, RETURN or RESUME stands last.
+    pub(crate) behind: bool,
+    /// How many words from here on may be led to by what skips.
+    pub(crate) skips: u8,
 }
 
 impl Before {
@@ -58,12 +66,15 @@ impl Before {
             region: Region::Common,
             place: Some(0o4000),
             bank: Some(2),
+            unkept: Unkept::none(),
+            behind: false,
+            skips: 0,
         }
     }
 
     /// What stands after a line.
-    pub(crate) fn next(self, parts: &Reading<'_>) -> Before
-        ensures { result ≡ before_next self (parts_in parts.now) }
+    pub(crate) fn next(self, handlers: &Handlers, parts: &Reading<'_>) -> Before
+        ensures { result ≡ before_next handlers.now self (parts_in parts.now) }
     {
         Before {
             indexed: indexed_after(self.indexed, parts),
@@ -76,6 +87,9 @@ impl Before {
             region: region_after(self.region, parts),
             place: place_after(self.place, parts),
             bank: bank_after(self.bank, parts),
+            unkept: handlers.unkept_at(self.unkept, parts).after(parts),
+            behind: behind_after(self.behind, parts),
+            skips: skips_after(self.skips, parts),
         }
     }
 }
@@ -132,8 +146,8 @@ fn is_overrun(before: Before) -> bool
     matches!(before.filled, Some(count) if count >= VECTOR_WORDS) && !before.left
 }
 
-// SETLOC and the place of a vector.
-fn sets_vector(parts: &Reading<'_>) -> bool
+/// SETLOC and the place of a vector.
+pub(crate) fn sets_vector(parts: &Reading<'_>) -> bool
     ensures { result ≡ sets_vector (parts_in parts.now) }
 {
     match parts.operand {
@@ -146,7 +160,14 @@ fn sets_vector(parts: &Reading<'_>) -> bool
 fn is_vector(text: &[u8]) -> bool
     ensures { result ≡ option_map_or is_vector (digits_value 8 text.now) false }
 {
-    matches!(octal_value(text), Some(Number::Small(place)) if place % 4 == 0 && (0o4004..=0o4050).contains(&place))
+    matches!(octal_value(text), Some(Number::Small(place)) if is_vector_place(place))
+}
+
+/// Whether an interrupt enters at a place.
+pub(crate) fn is_vector_place(place: u32) -> bool
+    ensures { result ≡ is_vector place }
+{
+    place % 4 == 0 && (0o4004..=0o4050).contains(&place)
 }
 
 /// An instruction that goes on to a constant, or where no word stands.
@@ -264,8 +285,8 @@ fn names_jump_place(field: Option<Field<'_>>) -> bool
     }
 }
 
-// Whether a text is the name of a register whose change may lead elsewhere.
-fn is_jump_name(text: &[u8]) -> bool
+/// Whether a text is the name of a register whose change may lead elsewhere.
+pub(crate) fn is_jump_name(text: &[u8]) -> bool
     ensures { result ≡ option_map_or is_jump_register (value_in registers text.now) false }
 {
     match value_in(registers(), text) {

@@ -12,14 +12,18 @@ ghost use Rattle.faults.specs.Warnings.{is_register_number, indexed_after, numbe
 ghost use Rattle.faults.specs.Warnings.{with_single, pair_warnings, unused_warnings, name_warnings, flow_warnings};
 ghost use Rattle.faults.specs.Warnings.{operand_warnings, erasable_warnings, fixed_warnings, with_read, banks_after};
 ghost use Rattle.faults.specs.Warnings.{names_of, at_start, line_warnings, lines_apart, warned_lines, warnings};
+ghost use Rattle.faults.specs.Warnings.{handlers_after, reserved_after, leads_after, way_warnings};
 
 use crate::flow::{Before, is_instruction, warn_of_end, warn_of_start, warn_of_vector};
+use crate::handlers::Handlers;
 use crate::names::{NameSet, is_among, is_short};
 use crate::outputs::warn_of_output;
 use crate::registers::warn_of_register;
+use crate::reserved::Reserved;
 use crate::roles::{is_erase, is_index, keeps_location, reads, reads_word, takes_pair};
 use crate::switched::{Banks, Region, is_common};
 use crate::told::Warning;
+use crate::unreached::{Leads, warn_of_unreached};
 use agc_text::{Field, Number, next_line, octal_value};
 use std::alloc::{AllocError, Global};
 use yayul::{Language, Reading, Span, is_operator, most_lines, reading_of};
@@ -81,6 +85,12 @@ struct Names {
     sets_erasable: bool,
     /// Whether some line may set FB.
     sets_fixed: bool,
+    /// What is known of routines of interrupts.
+    handlers: Handlers,
+    /// What is known of words that are reserved.
+    reserved: Reserved,
+    /// What is known of where jumps lead.
+    leads: Leads,
 }
 
 // One function, and not its parts at each place where names are let go.
@@ -93,6 +103,9 @@ impl Drop for Names {
             banks: _,
             sets_erasable: _,
             sets_fixed: _,
+            handlers: _,
+            reserved: _,
+            leads: _,
         } = self;
     }
 }
@@ -109,6 +122,9 @@ impl Names {
             banks: Banks::new(alloc),
             sets_erasable: false,
             sets_fixed: false,
+            handlers: Handlers::new(alloc),
+            reserved: Reserved::new(alloc),
+            leads: Leads::none(),
         };
         for parts in lines {
             names.note(parts)?;
@@ -125,6 +141,9 @@ impl Names {
             ≡ with_field self.old.operands (option_map piece parts.now.operand)) }
         ensures read { OnOk result (self.new.read ≡ with_read self.old.read (parts_in parts.now)) }
         ensures banks { OnOk result (self.new.banks ≡ banks_after self.old.banks (parts_in parts.now)) }
+        ensures handlers { OnOk result (self.new.handlers ≡ handlers_after self.old.handlers (parts_in parts.now)) }
+        ensures reserved { OnOk result (self.new.reserved ≡ reserved_after self.old.reserved (parts_in parts.now)) }
+        ensures leads { OnOk result (self.new.leads ≡ leads_after self.old.leads (parts_in parts.now)) }
     {
         if reserves_one(parts) {
             add_field(&mut self.singles, parts.label)?;
@@ -133,7 +152,11 @@ impl Names {
             add_field(&mut self.read, parts.operand)?;
         }
         add_field(&mut self.operands, parts.operand)?;
-        self.banks.note(parts)
+        self.banks.note(parts)?;
+        self.handlers.note(parts)?;
+        self.reserved.note(parts)?;
+        self.leads = self.leads.next(parts);
+        Ok(())
     }
 
     // Appends the warnings of the lines.
@@ -153,7 +176,7 @@ impl Names {
             let after = lines_after(lines, index);
             let line = index as u32 + 1;
             self.warn_of(language, unused, before, after, line, parts, found)?;
-            before = before.next(parts);
+            before = before.next(&self.handlers, parts);
         }
         Ok(())
     }
@@ -193,6 +216,9 @@ impl Names {
     {
         warn_of_label(language, line, parts, found)?;
         warn_of_register(before.place, line, parts, found)?;
+        if matches!(language, Language::Standard) {
+            self.reserved.warn_of_again(line, parts, found)?;
+        }
         if unused {
             warn_of_unused(&self.operands, line, parts, found)?;
         }
@@ -216,8 +242,27 @@ impl Names {
         if matches!(language, Language::Standard) {
             warn_of_end(&self.read, before, after, line, parts, found)?;
             warn_of_start(self.banks.instructs, before.place, line, parts, found)?;
+            self.warn_of_ways(before, line, parts, found)?;
         }
         warn_of_vector(before, line, parts, found)
+    }
+
+    // Appends those of routines of interrupts, of their vectors, and of what is never reached.
+    fn warn_of_ways(
+        &self,
+        before: Before,
+        line: u32,
+        parts: &Reading<'_>,
+        found: &mut Vec<Warning>,
+    ) -> Result<(), AllocError>
+        ensures { OnOk result (found.new.items
+            ≡ found.old.items ++ way_warnings self.now before line (parts_in parts.now)) }
+    {
+        let handlers = &self.handlers;
+        handlers.warn_of_lost(before.unkept, line, parts, found)?;
+        handlers.warn_of_endless(before.filled, line, parts, found)?;
+        handlers.warn_of_crossing(before.place, before.left, line, parts, found)?;
+        warn_of_unreached(self.leads.unnamed, before, line, parts, found)
     }
 
     // Appends those of its operand.

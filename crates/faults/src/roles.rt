@@ -7,7 +7,7 @@ ghost use Rattle.faults.specs.Roles.{is_octal_pair, is_setloc, is_verb_noun, kee
 ghost use Rattle.faults.specs.Roles.{leads_to_fixed, moves_location, names_bank, reads, reads_erasable, reads_word};
 ghost use Rattle.faults.specs.Roles.{refuses_label, sets_bank, stores, takes_channel, takes_decimal};
 ghost use Rattle.faults.specs.Roles.{takes_erasable_place, takes_fixed_place, takes_low_bank, takes_nothing};
-ghost use Rattle.faults.specs.Roles.{takes_pair, writes_erasable};
+ghost use Rattle.faults.specs.Roles.{is_call, is_jump, takes_pair, writes_erasable};
 
 use yayul::Role;
 
@@ -296,4 +296,18 @@ pub(crate) fn subtracts(role: Option<Role>) -> bool
     ensures { result ≡ subtracts role }
 {
     matches!(role, Some(Role::Subtract))
+}
+
+/// It goes on at any address, and leaves in Q where it came from.
+pub(crate) fn is_call(role: Option<Role>) -> bool
+    ensures { result ≡ is_call role }
+{
+    matches!(role, Some(Role::Call))
+}
+
+/// It goes on at an address of fixed memory, whatever stands in A.
+pub(crate) fn is_jump(role: Option<Role>) -> bool
+    ensures { result ≡ is_jump role }
+{
+    matches!(role, Some(Role::Jump))
 }

@@ -184,8 +184,8 @@ fn names_bank_place(register: BankRegister, field: Option<Field<'_>>) -> bool
     }
 }
 
-// Octal digits of a place by which a register is set.
-fn is_bank_number(register: BankRegister, text: &[u8]) -> bool
+/// Octal digits of a place by which a register is set.
+pub(crate) fn is_bank_number(register: BankRegister, text: &[u8]) -> bool
     ensures { result ≡ is_bank_number register text.now }
 {
     match octal_value(text) {

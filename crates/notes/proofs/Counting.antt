@@ -590,7 +590,7 @@ quiet_none named rope s f p q =
     (rw (q.waited, not_in_erasable rope f.place q.placed) refl) refl (rw q.other refl) (rw (q.extra, q.resumes) refl)
     (rw (q.waited, q.zeros) refl) refl (rw (q.extra, q.resumes, q.unshared) refl) (rw q.other refl)
 
-step_none : (named : Named) (rope : Words) (s : State) (step : NextStep) (p : Past) → is_quiet_step named rope s p step ≡ true
+pub step_none : (named : Named) (rope : Words) (s : State) (step : NextStep) (p : Past) → is_quiet_step named rope s p step ≡ true
     → (kind : Kind)
     → happens_in named rope s p kind step ≡ false
 step_none named rope s (made.Takes input) p e = absurd (cc)
@@ -607,7 +607,7 @@ still_so : (b : Bool) → b ≡ (b && true)
 still_so true = refl
 still_so false = refl
 
-quiet_past : (named : Named) (rope : Words) (s : State) (step : NextStep) (p : Past) → is_quiet_step named rope s p step ≡ true
+pub quiet_past : (named : Named) (rope : Words) (s : State) (step : NextStep) (p : Past) → is_quiet_step named rope s p step ≡ true
     → p ≡ past_by s p step
 quiet_past named rope s (made.Takes input) p e = absurd (cc)
 quiet_past named rope s (made.Enters k) p e = absurd (cc)

@@ -4,3 +4,4 @@ pub mod Unread
 pub mod RunNotes
 pub mod Waits
 pub mod Counted
+pub mod Noted

@@ -7,6 +7,7 @@ pub mod laws;
 mod ledger;
 mod lines;
 mod notebook;
+mod noted;
 mod objects;
 mod other_bank;
 mod past;
@@ -20,4 +21,5 @@ mod zeros;
 
 pub use kind::Kind;
 pub use notebook::Notebook;
+pub use noted::{Note, NotedSteps, has_note};
 pub use text::write_notes;

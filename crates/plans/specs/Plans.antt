@@ -22,6 +22,7 @@ use Rattle.arguments.specs.declared.CoverArguments.{CoverArguments}
 use Rattle.arguments.specs.declared.ReachArguments.{ReachArguments}
 use Rattle.arguments.specs.declared.ReachRun.{ReachRun as RunOf}
 use Rattle.arguments.specs.declared.AccessArguments.{AccessArguments}
+use Rattle.arguments.specs.declared.BoundArguments.{BoundArguments}
 use Rattle.arguments.specs.declared.DelaysArguments.{DelaysArguments}
 use Rattle.arguments.specs.declared.WhatIfArguments.{WhatIfArguments}
 use Rattle.arguments.specs.declared.DifferArguments.{DifferArguments}
@@ -36,7 +37,7 @@ use Rattle.plans.specs.declared.plan.Verdicts.{Verdicts}
 use Rattle.plans.specs.declared.plan.Verdicts.TheVariants.{Lines, Tap, Junit}
 use Rattle.plans.specs.declared.plan.Plan.TheVariants.{Assemble, AssembleWithSums, Run, Trace, Cover, Reach, ReachRun, Debug, DebugExtended}
 use Rattle.plans.specs.declared.plan.Plan.TheVariants.{Check, Explain, Upgrade, Show, Compare, CompareOnly, Sum, SumBothForms, ShowParity}
-use Rattle.plans.specs.declared.plan.Plan.TheVariants.{ShowDamages, ShowMended, NoSteps, TooManySteps, Access, Delays, Differ, Align, Carry}
+use Rattle.plans.specs.declared.plan.Plan.TheVariants.{ShowDamages, ShowMended, NoSteps, TooManySteps, Access, Bound, Delays, Differ, Align, Carry}
 use Rattle.plans.specs.declared.plan.Plan.TheVariants.{Find, Expect, WhatIf}
 use Rattle.arguments.specs.declared.AlignArguments.{AlignArguments}
 use Rattle.arguments.specs.declared.FindArguments.{FindArguments}
@@ -116,6 +117,7 @@ abbrev pub run_of : RunArguments → Plan
 run_of a = with_steps a.steps (Run (record {
   program = program_of a.program;
   steps = a.steps;
+  until_idle = a.until_idle;
   tells_progress = a.tells_progress;
   tells_notes = a.tells_notes;
   notation = notation_of a.is_json;
@@ -180,6 +182,10 @@ reach_by l (Some run) = with_steps run.steps (ReachRun (record { program = run_o
 abbrev pub reach_of : ReachArguments → Plan
 reach_of a = reach_by (listed_of a) a.run
 
+-- the most cycles of a routine
+abbrev pub bound_of : BoundArguments → Plan
+bound_of a = Bound (record { listed = listed_of a.listed; name = a.routine; loops = a.loops; kept = a.kept })
+
 -- the reads and writes of a run
 abbrev pub access_of : AccessArguments → Plan
 access_of a = with_steps a.steps (Access (record {
@@ -203,6 +209,7 @@ whatif_of a = with_steps a.steps (WhatIf (record {
   program = program_of a.program;
   steps = a.steps;
   path = a.trials;
+  tells_notes = a.tells_notes;
 }))
 
 -- two runs beside each other
@@ -295,6 +302,7 @@ plan_of (asked.Run a) = run_of a
 plan_of (asked.Trace a) = trace_of a
 plan_of (asked.Cover a) = cover_of a
 plan_of (asked.Reach a) = reach_of a
+plan_of (asked.Bound a) = bound_of a
 plan_of (asked.Access a) = access_of a
 plan_of (asked.Delays a) = delays_of a
 plan_of (asked.WhatIf a) = whatif_of a

@@ -7,6 +7,7 @@ ghost use Rattle.plans.specs.Plans.{
   align_of,
   asm_of,
   bank_of,
+  bound_of,
   compare_of,
   cover_of,
   damages_of,
@@ -37,14 +38,14 @@ ghost use Rattle.plans.specs.Plans.{
 
 use crate::plan::{
     Accesses, Assembly, Check, Image, Kind, Listed, Original, Pair, Plan, Profile, Program,
-    Reaching, Run, Shown, Tests, Timed, Tracing, Trials, Verdicts, Words,
+    Reaching, Routine, Run, Shown, Tests, Timed, Tracing, Trials, Verdicts, Words,
 };
 use crate::steps::Steps;
 use arguments::{
-    AccessArguments, AlignArguments, Arguments, AsmArguments, CompareArguments, CoverArguments,
-    DamagesArguments, DebugArguments, DelaysArguments, DifferArguments, FindArguments,
-    ImageArguments, ImageVersion, ProgramArguments, ReachArguments, RunArguments, SumsArguments,
-    TraceArguments, WhatIfArguments, WordsArguments,
+    AccessArguments, AlignArguments, Arguments, AsmArguments, BoundArguments, CompareArguments,
+    CoverArguments, DamagesArguments, DebugArguments, DelaysArguments, DifferArguments,
+    FindArguments, ImageArguments, ImageVersion, ProgramArguments, ReachArguments, RunArguments,
+    SumsArguments, TraceArguments, WhatIfArguments, WordsArguments,
 };
 use json_text::Notation;
 use rope::{Form, Version};
@@ -61,6 +62,7 @@ pub fn planned<'a>(arguments: Arguments<'a>) -> Plan<'a>
         Arguments::Trace(asked) => trace(asked),
         Arguments::Cover(asked) => cover(asked),
         Arguments::Reach(asked) => reach(asked),
+        Arguments::Bound(asked) => bound(asked),
         Arguments::Access(asked) => access(asked),
         Arguments::Delays(asked) => delays(asked),
         Arguments::WhatIf(asked) => whatif(asked),
@@ -130,6 +132,7 @@ fn run<'a>(asked: RunArguments<'a>) -> Plan<'a>
         Some(steps) => Plan::Run(Run {
             program: program(asked.program),
             steps,
+            until_idle: asked.until_idle,
             tells_progress: asked.tells_progress,
             tells_notes: asked.tells_notes,
             notation: notation(asked.is_json),
@@ -219,6 +222,18 @@ fn listed<'a>(asked: ReachArguments<'a>) -> Listed<'a>
     }
 }
 
+/// Tells the most cycles of a routine.
+fn bound<'a>(asked: BoundArguments<'a>) -> Plan<'a>
+    ensures { result ≡ bound_of asked.entry }
+{
+    Plan::Bound(Routine {
+        listed: listed(asked.listed),
+        name: asked.routine,
+        loops: asked.loops,
+        kept: asked.kept,
+    })
+}
+
 /// Counts the reads and writes of a run.
 fn access<'a>(asked: AccessArguments<'a>) -> Plan<'a>
     ensures { result ≡ access_of asked.entry }
@@ -257,6 +272,7 @@ fn whatif<'a>(asked: WhatIfArguments<'a>) -> Plan<'a>
             program: program(asked.program),
             steps,
             path: asked.trials,
+            tells_notes: asked.tells_notes,
         }),
         None => Plan::TooManySteps,
     }

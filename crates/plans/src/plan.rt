@@ -24,6 +24,8 @@ pub enum Plan<'a> {
     Reach(Listed<'a>),
     /// The same beside a run.
     ReachRun(Reaching<'a>),
+    /// The most cycles of a routine are told.
+    Bound(Routine<'a>),
     /// The reads and writes of a run are counted.
     Access(Accesses<'a>),
     /// How long the interrupts of a run waited is told.
@@ -109,6 +111,19 @@ pub struct Program<'a> {
     pub feed: &'a str,
 }
 
+/// A routine whose most cycles are told.
+#[derive(Clone, Copy)]
+pub struct Routine<'a> {
+    /// The program.
+    pub listed: Listed<'a>,
+    /// The routine.
+    pub name: &'a str,
+    /// Pairs of a place and of how often a way comes to it at most.
+    pub loops: Option<&'a str>,
+    /// The cells that keep Q.
+    pub kept: Option<&'a str>,
+}
+
 /// A program that is shown and not run.
 #[derive(Clone, Copy)]
 pub struct Listed<'a> {
@@ -173,6 +188,8 @@ pub struct Run<'a> {
     pub program: Program<'a>,
     /// How many steps are made.
     pub steps: Steps,
+    /// Whether fewer are made where the program idles before.
+    pub until_idle: bool,
     /// Whether it is told how many steps are made.
     pub tells_progress: bool,
     /// Whether it is told what is seldom meant.
@@ -246,6 +263,8 @@ pub struct Trials<'a> {
     pub steps: Steps,
     /// The file of the inputs.
     pub path: &'a str,
+    /// What they change in the notes is told, and not what is put out.
+    pub tells_notes: bool,
 }
 
 /// A source and feeds that are checked.

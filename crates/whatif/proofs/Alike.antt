@@ -21,7 +21,7 @@ next_alike : (scenario : Scenario) (other : List Entry) (s : State) → due othe
 unfolding next
 next_alike scenario other s same = ap (λ o. next_by scenario.rope s o (entry s)) same
 
-step_alike : (scenario : Scenario) (other : List Entry) (s : State) → due other s.taken s.cycles ≡ due scenario.inputs s.taken s.cycles
+pub step_alike : (scenario : Scenario) (other : List Entry) (s : State) → due other s.taken s.cycles ≡ due scenario.inputs s.taken s.cycles
     → next_step (record scenario { inputs = other }) s ≡ next_step scenario s
 unfolding next_step
 step_alike scenario other s same = ap (λ o. next_step_by scenario.rope s o (entry s)) same

@@ -1,14 +1,15 @@
 mod Writing
 mod Same
 mod Stray
-mod Alike
+pub mod Alike
 mod Finding
-mod OneMore
-mod Steps
-mod Given
-mod Rising
+pub mod OneMore
+pub mod Steps
+pub mod Given
+pub mod Rising
 mod Told
 mod Words
 mod Rows
 mod Stepwise
 mod Holding
+mod Restarting

@@ -74,16 +74,16 @@ due_same (y ∷ ys) l m c x below above k cycles =
     ]
 
 -- what runs, with other inputs
-with_inputs : (scenario fork : Scenario) → fork.rope ≡ scenario.rope → fork ≡ record scenario { inputs = fork.inputs }
+pub with_inputs : (scenario fork : Scenario) → fork.rope ≡ scenario.rope → fork ≡ record scenario { inputs = fork.inputs }
 with_inputs scenario fork rope = ap (λ r. record { rope = r; inputs = fork.inputs }) rope
 
-given_tried : (scenario fork : Scenario) (t : Plain) → AddsLast scenario.inputs t.cycle t.input fork.inputs → (k cycles : ℕ)
+pub given_tried : (scenario fork : Scenario) (t : Plain) → AddsLast scenario.inputs t.cycle t.input fork.inputs → (k cycles : ℕ)
     → due fork.inputs k cycles ≡ due (tried scenario t).inputs k cycles
 unfolding tried
 given_tried scenario fork t adds k cycles = rw adds.new_is
     (due_same scenario.inputs adds.line (line_above scenario.inputs) t.cycle t.input adds.after (above_all scenario.inputs) k cycles)
 
-tried_rope : (scenario : Scenario) (t : Plain) → (tried scenario t).rope ≡ scenario.rope
+pub tried_rope : (scenario : Scenario) (t : Plain) → (tried scenario t).rope ≡ scenario.rope
 unfolding tried
 tried_rope scenario t = refl
 
@@ -117,7 +117,7 @@ given_at : (scenario : Scenario) (other : List Entry) (j cycle : ℕ) (input : I
 given_at scenario other j cycle input same adds (inl below) = same (run scenario j).taken (run scenario j).cycles below
 given_at scenario other j cycle input same adds (inr given) = due_beside scenario other j cycle input adds given.0 given.1
 
-given_before : (scenario : Scenario) (other : List Entry) (n cycle : ℕ) (input : Input) → AreSameBelow cycle scenario.inputs other
+pub given_before : (scenario : Scenario) (other : List Entry) (n cycle : ℕ) (input : Input) → AreSameBelow cycle scenario.inputs other
     → AddsLast scenario.inputs cycle input other → IsBefore scenario n cycle
     → AreGivenSame scenario other n
 given_before scenario other n cycle input same adds before j less = given_at scenario other j cycle input same adds (before j less)

@@ -6,3 +6,4 @@ pub mod Spans
 pub mod Laws
 pub mod Here
 pub mod Images
+pub mod Restarts

@@ -147,7 +147,7 @@ impl Going {
 
 /// Makes a step, and sees what it does.
 #[inline(always)]
-fn step_and_see(
+pub(crate) fn step_and_see(
     processor: &mut Processor,
     machine: &mut Machine,
     base: &[Sent],

@@ -10,6 +10,7 @@ mod here;
 mod images;
 pub mod laws;
 mod others;
+mod restart;
 mod sent;
 mod span;
 mod text_reader;
@@ -17,6 +18,7 @@ mod trying;
 
 pub use fault::TrialFault;
 pub use here::{TrialsTold, try_steps};
+pub use restart::try_restarts;
 pub use sent::Sent;
 pub use text_reader::TextReader;
 pub use trying::try_inputs;

@@ -18,7 +18,7 @@ use Rattle.workshop.specs.declared.expecting.Judged.TheVariants.{Met}
 use Rattle.workshop.specs.declared.fault.WorkshopFault.{WorkshopFault}
 use Rattle.workshop.specs.declared.fault.WorkshopFault.TheVariants.{NoMemory}
 use Rattle.workshop.specs.Expectations.{Judges, JudgesClaims, JudgesRun, JudgesTests, Source, Subject, Task, read_of}
-use Rattle.workshop.specs.Expectations.{checked_for, executed_for, facts, facts_by, noted}
+use Rattle.workshop.specs.Expectations.{checked_for, executed_for, facts, facts_by, made, noted}
 use Rattle.workshop.specs.Failures.{Writer}
 use Rattle.workshop.specs.Loading.{Reads, ReadsInputs, ReadsText}
 use Rattle.workshop.specs.Ropes.{WritesText}
@@ -44,20 +44,21 @@ judges_nothing task subject scenario (Err refusal) out = (inl refl, refl)
 -- where the tests were read their claims are judged
 pub judges_read : (task : Task) (subject : Subject) (scenario : Scenario) (read : Result (List Stated) Refusal) (claims : List Stated)
     (before after : Writer) (result : Result Judged WorkshopFault) → read ≡ Ok claims
-    → JudgesClaims task subject scenario claims before after result → JudgesTests task subject scenario read before after result
+    → JudgesClaims (made task scenario) subject scenario claims before after result
+    → JudgesTests task subject scenario read before after result
 judges_read task subject scenario read claims before after result is judges = rw is judges
 
 -- what is known is what claims ask for
 pub facts_are : (task : Task) (subject : Subject) (claims : List Stated) (scenario : Scenario) (notes : List ℕ) (r : List ℕ × Tally)
     (executed : ℕ) → notes ≡ noted claims subject.symbols subject.named scenario task.steps → r ≡ checked_for claims task.name subject.text
-    → executed ≡ executed_for claims scenario task.steps → facts_by notes r executed ≡ facts task subject claims scenario
+    → executed ≡ executed_for claims subject.lines scenario task.steps → facts_by notes r executed ≡ facts task subject claims scenario
 facts_are task subject claims scenario notes r executed is_noted is_checked is_executed = rw (is_noted, is_checked, is_executed) refl
 
 -- all verdicts are those of what is known
 pub judges_all : (task : Task) (subject : Subject) (scenario : Scenario) (claims : List Stated) (notes : List ℕ) (r : List ℕ × Tally)
     (executed : ℕ) (settled : List Watch) (before after : Writer) (result : Result Judged WorkshopFault)
     → notes ≡ noted claims subject.symbols subject.named scenario task.steps → r ≡ checked_for claims task.name subject.text
-    → executed ≡ executed_for claims scenario task.steps
+    → executed ≡ executed_for claims subject.lines scenario task.steps
     → settled ≡ all_judged (facts_by notes r executed) scenario task.steps claims
     → WritesText (verdicts (facts_by notes r executed) 0 settled task.tests) before after result
     → IfOk result (λ answer. answer ≡ Met (are_all_met settled))

@@ -11,16 +11,12 @@ use Rattle.workshop.specs.Failures.{Writer}
 use Rattle.workshop.specs.Inputs.{scenario_of}
 use Rattle.workshop.specs.Loading.{Files, Loads}
 use Rattle.workshop.specs.Ropes.{WritesText}
+use Rattle.workshop.specs.Runs.{Running}
 
 -- two programs, each with its feed, and where it is written
 pub record Pairing : Type 0 where
   pub one : Files
   pub other : Files
-  pub out : Writer
-
--- what is read and written after the first program and its feed
-pub record Beside : Type 0 where
-  pub files : Files
   pub out : Writer
 
 -- a run, with the symbols that name its places
@@ -38,13 +34,13 @@ DifferThen one steps why (Ok l) before after result = DifferRun one (named_of l)
 DifferThen one steps why (Err fault) before after result = (result ≡ Err fault) × (after ≡ before)
 
 -- the other program and its feed are read beside the first
-pub record TellsBeside (from : Origin) (one : Named) (steps : ℕ) (why : Option ℕ) (before after : Beside)
+pub record TellsBeside (from : Origin) (one : Named) (steps : ℕ) (why : Option ℕ) (before after : Running)
     (result : Result (Unit {0}) WorkshopFault) : Type 0 where
   pub loaded : Result Loaded WorkshopFault
   pub loads : Loads from before.files after.files loaded
   pub next : DifferThen one steps why loaded before.out after.out result
 
-abbrev pub BesideThen : Origin → ℕ → Option ℕ → Result Loaded WorkshopFault → Beside → Beside → Result (Unit {0}) WorkshopFault → Type 0
+abbrev pub BesideThen : Origin → ℕ → Option ℕ → Result Loaded WorkshopFault → Running → Running → Result (Unit {0}) WorkshopFault → Type 0
 BesideThen from steps why (Ok l) before after result = TellsBeside from (named_of l) steps why before after result
 BesideThen from steps why (Err fault) before after result = (result ≡ Err fault) × (after ≡ before)
 

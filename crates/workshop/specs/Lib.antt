@@ -1,6 +1,7 @@
 pub mod Aligning
 pub mod Assemblies
 pub mod Covers
+pub mod RunsUntilIdle
 pub mod AccessRuns
 pub mod DelayRuns
 pub mod DifferRuns
@@ -19,10 +20,12 @@ pub mod Notings
 pub mod Refused
 pub mod Reaches
 pub mod RunReaches
+pub mod BoundRuns
 pub mod Ropes
 pub mod Runs
 pub mod Traces
 pub mod Tries
+pub mod NoteTries
 pub mod Progress
 pub mod NotedProgress
 pub mod CommandsEnd

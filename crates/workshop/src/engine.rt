@@ -155,7 +155,7 @@ pub(crate) const STEPS_BETWEEN_FLUSHES: u64 = 1 << 20;
 
 /// Makes some steps from the start, and writes the lines of what they put out. Lines are handed on while it goes, so
 /// that those of a long run are seen, and stand where it is broken off.
-fn run<W: Write, T: Write>(
+pub(crate) fn run<W: Write, T: Write>(
     processor: &mut Processor,
     steps: u64,
     out: &mut W,

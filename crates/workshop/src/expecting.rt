@@ -6,14 +6,14 @@ ghost use Rattle.expect.specs.Texts.{claims_after};
 ghost use Rattle.json_text.specs.declared.notation.Notation.TheVariants as Notation;
 ghost use Rattle.notes.specs.RunNotes.{notes_text};
 ghost use Rattle.workshop.specs.Expectations.{Judges, JudgesClaims, JudgesRun, checked, checked_for, executed_for};
-ghost use Rattle.workshop.specs.Expectations.{noted, read_of, task_of};
+ghost use Rattle.workshop.specs.Expectations.{made, noted, read_of, task_of};
 ghost use Rattle.workshop.specs.Failures.{reader, writer};
 ghost use Rattle.workshop.specs.Loading.{Reads, ReadsText};
 ghost use Rattle.workshop.specs.Runs.{running};
 ghost use Rattle.workshop.specs.declared.fault.WorkshopFault.TheVariants as WorkshopFault;
 
 use crate::checking::{Tally, told_of};
-use crate::executed::executed_words;
+use crate::executed::executed_instructions;
 use crate::fault::WorkshopFault;
 use crate::inputs::read_feed;
 use crate::noting::run_then_note;
@@ -21,15 +21,16 @@ use crate::progress::Unheard;
 use cpu::{Machine, Processor};
 use expect::{
     ExpectFault, Expectation, Known, Refusal as TextRefusal, Stated, are_all_met, ask_for_check,
-    ask_for_notes, ask_for_words, claims_in, judge, settle, write_verdicts,
+    ask_for_instructions, ask_for_notes, claims_in, judge, settle, write_verdicts,
 };
 use feed::Feed;
+use idle::steps_until_idle;
 use json_text::Notation;
 use notes::Notebook;
 use std::alloc::Global;
 use trace::PlaceNames;
 use words::{Buffer, MOST_BYTES, Read, Write, read_text};
-use yayul::{Language, NamedPlaces, Program, assemble, findings};
+use yayul::{Language, NamedPlaces, Program, SourceRows, assemble, findings};
 
 /// What a text of tests comes to.
 #[derive(Clone, Copy, Debug, Drop)]
@@ -41,7 +42,8 @@ pub enum Judged {
 }
 
 /// Reads a source and then a feed, makes the steps of a text of tests, and writes for each test whether the run bears
-/// it out: see `write_verdicts`. The steps are made once, and again for their notes where a test is of these.
+/// it out: see `write_verdicts`. The steps are made once, and again for their notes where a test is of these, and
+/// before where the run ends where the program idles.
 ///
 /// The first fault of the source is answered, else that of the feed, else the first line of the text that is refused,
 /// or that memory ran out, and then nothing is written.
@@ -93,7 +95,7 @@ fn judge_source<W: Write>(
     let Ok(named) = program.named_places(alloc) else {
         return Err(WorkshopFault::NoMemory);
     };
-    let (rope, symbols) = program.split();
+    let (rope, symbols, rows) = program.split_all();
     let claims = match claims_in(alloc, &symbols, tests.line, tests.tests) {
         Ok(claims) => claims,
         Err(ExpectFault::NoMemory) => return Err(WorkshopFault::NoMemory),
@@ -103,16 +105,42 @@ fn judge_source<W: Write>(
         return Err(WorkshopFault::NoMemory);
     };
     let mut processor = Processor::new(rope, feed);
+    let made = made(tests, &mut processor);
     judge_claims(
         alloc,
-        tests,
+        &made,
         &claims,
         text,
+        &rows,
         named,
         &names,
         &mut processor,
         out,
     )
+}
+
+/// The same tests with the steps that are made: fewer where the program idles before, if that is asked for.
+fn made<'a>(tests: &Expectation<'a>, processor: &mut Processor) -> Expectation<'a>
+    requires steps { tests.now.steps ≤ 2 ^ 40 - 2 }
+    ensures task { task_of result ≡ made (task_of tests.now) processor.old.scenario }
+    ensures steps { result.steps ≤ tests.now.steps }
+    ensures line { result.line ≡ tests.now.line }
+    ensures text { result.tests.now ≡ tests.now.tests.now }
+    ensures scenario { processor.new.scenario ≡ processor.old.scenario }
+{
+    let steps = if tests.until_idle {
+        steps_until_idle(processor, tests.steps)
+    } else {
+        tests.steps
+    };
+    Expectation {
+        source: tests.source,
+        feed: tests.feed,
+        steps,
+        until_idle: tests.until_idle,
+        line: tests.line,
+        tests: tests.tests,
+    }
 }
 
 /// Makes the steps, looks up what else is asked for, and writes the verdicts.
@@ -121,6 +149,7 @@ fn judge_claims<W: Write>(
     tests: &Expectation<'_>,
     claims: &[Stated],
     text: &[u8],
+    rows: &SourceRows,
     named: NamedPlaces,
     names: &PlaceNames,
     processor: &mut Processor,
@@ -129,7 +158,7 @@ fn judge_claims<W: Write>(
     requires steps { tests.now.steps ≤ 2 ^ 40 - 2 }
     requires short { tests.now.line + length tests.now.tests.now ≤ 2 ^ 20 }
     ensures { JudgesClaims (task_of tests.now)
-        (record { text = text.now; symbols = names.now; named = named })
+        (record { text = text.now; lines = rows.now; symbols = names.now; named = named })
         processor.old.scenario claims.now
         (writer W.told W.written W.failures out.old) (writer W.told W.written W.failures out.new) result }
 {
@@ -137,7 +166,7 @@ fn judge_claims<W: Write>(
     let Ok(watches) = judge(alloc, processor, &mut machine, claims, tests.steps) else {
         return Err(WorkshopFault::NoMemory);
     };
-    let Ok(executed) = executed_for(alloc, claims, processor, tests.steps) else {
+    let Ok(executed) = executed_for(alloc, claims, rows, processor, tests.steps) else {
         return Err(WorkshopFault::NoMemory);
     };
     let Ok(notes) = noted(alloc, claims, named, names, processor, tests.steps) else {
@@ -248,19 +277,20 @@ fn checked(alloc: Global, name: &[u8], source: &[u8]) -> Result<(Vec<u8>, Tally)
     }
 }
 
-/// How many words some steps from the start execute, where a claim asks for it.
+/// How many instructions some steps from the start execute, where a claim asks for it.
 fn executed_for(
     alloc: Global,
     claims: &[Stated],
+    rows: &SourceRows,
     processor: &mut Processor,
     steps: u64,
 ) -> Result<u64, WorkshopFault>
     requires { steps ≤ 2 ^ 40 - 2 }
-    ensures count { IfOk result (λ count. count ≡ executed_for claims.now processor.old.scenario steps) }
+    ensures count { IfOk result (λ count. count ≡ executed_for claims.now rows.now processor.old.scenario steps) }
     ensures scenario { processor.new.scenario ≡ processor.old.scenario }
 {
-    if ask_for_words(claims) {
-        executed_words(alloc, processor, steps)
+    if ask_for_instructions(claims) {
+        executed_instructions(alloc, rows, processor, steps)
     } else {
         Ok(0)
     }

@@ -4,6 +4,7 @@
 mod accessing;
 mod aligning;
 mod assembly;
+mod bounding;
 mod checking;
 mod commands_end;
 mod covering;
@@ -16,6 +17,7 @@ mod engine;
 mod executed;
 mod expecting;
 mod fault;
+mod idling;
 mod inputs;
 pub mod laws;
 mod naming;
@@ -28,11 +30,13 @@ mod ropes;
 mod run_reaching;
 mod tracing;
 mod trying;
+mod trying_notes;
 
 pub use accessing::access_program;
 pub use aligning::{align_engine, carry_engine, find_engine};
 pub use assembly::{asm_engine, asm_with_check_words, report_no_room};
 pub use audit::{Layout, arranged, module_image};
+pub use bounding::{Bounded, bound_program};
 pub use checking::{Tally, check_feed, check_source, unread_text, write_tally};
 pub use commands_end::{Counted, tell_commands_end};
 pub use covering::cover_program;
@@ -55,6 +59,7 @@ pub use faults::{
     NoteKind, Refusal, all_headings, explanation, near_in, note_explanation, note_kind, refusal_of,
     warning_explanation, warning_of,
 };
+pub use idling::run_until_idle;
 pub use naming::{named_source_engine, read_names};
 pub use noting::run_with_notes;
 pub use origin::Origin;
@@ -72,4 +77,5 @@ pub use say::LineForm;
 pub use space::Bank;
 pub use tracing::trace_program;
 pub use trying::{read_trials, try_program};
+pub use trying_notes::try_notes;
 pub use yayul::{Language, Symbols};

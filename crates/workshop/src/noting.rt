@@ -104,7 +104,7 @@ pub fn run_with_notes<P: Read, F: Read, W: Write, T: Write, N: Write>(
 }
 
 /// Reads a program, and which places its words name: those of an image none.
-fn read_named<P: Read>(
+pub(crate) fn read_named<P: Read>(
     alloc: Global,
     origin: Origin,
     program: &mut P,

@@ -5,6 +5,6 @@ use Rattle.workshop.proofs.executed.executed_of.Given as goal
 
 abbrev pub invariant-loop-number : goal.invariant-loop-number
 invariant-loop-number l = record {
-  count : l.count ≡ executed_before (figures_at l.tally) l.rope l.number;
+  count : l.count ≡ executed_before (figures_at l.tally) l.instructions l.number;
   few : l.count ≤ l.number;
 }

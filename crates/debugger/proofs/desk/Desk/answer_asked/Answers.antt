@@ -276,8 +276,8 @@ pub returns-in-WhatIf-clause-executes : goal.returns-in-WhatIf-clause-executes
 unfolding extended_reply
 returns-in-WhatIf-clause-executes g c = λ told.
     rw c.in-WhatIf.is (replies-same g.K.Keeper.may_refuse
-    (to_asked (terms c.args.symbols.now c.args.rows.now c.args.first_added) (WhatIf c.in-WhatIf.input c.in-WhatIf.extent))
-    (tries c.in-WhatIf.input c.in-WhatIf.extent) _ _ _ _ _ (λ answers additions. refl) (c.what_if.ensures.executes told))
+    (to_asked (terms c.args.symbols.now c.args.rows.now c.args.first_added) (WhatIf c.in-WhatIf.trial c.in-WhatIf.extent))
+    (tries c.in-WhatIf.trial c.in-WhatIf.extent) _ _ _ _ _ (λ answers additions. refl) (c.what_if.ensures.executes told))
 
 pub returns-in-WhyInputs-clause-executes : goal.returns-in-WhyInputs-clause-executes
 unfolding extended_reply

@@ -3,7 +3,7 @@ use Rattle.std.specs.List.{fold}
 use Rattle.std.proofs.lemmas.List.{drop_more}
 use Rattle.yayul.specs.declared.reading.Reading.{Reading}
 use Rattle.yayul.specs.Readings.{parts_in}
-use Rattle.faults.specs.Warnings.{banks_after, with_field, with_read, with_single}
+use Rattle.faults.specs.Warnings.{banks_after, handlers_after, leads_after, reserved_after, with_field, with_read, with_single}
 use Rattle.faults.proofs.mistakes.Names.of.Goals as goal
 
 abbrev nothing : Reading
@@ -23,4 +23,10 @@ loop-parts-preserved c =
           ∙ ap (fold (λ names parts. with_read names parts) names.read) next ∙ c.loop-parts.invariant.read;
       banks = ap (λ held. fold (λ banks parts. banks_after banks parts) held rest) c.in_ok-note.ensures.banks
           ∙ ap (fold (λ banks parts. banks_after banks parts) names.banks) next ∙ c.loop-parts.invariant.banks;
+      handlers = ap (λ held. fold (λ handlers parts. handlers_after handlers parts) held rest) c.in_ok-note.ensures.handlers
+          ∙ ap (fold (λ handlers parts. handlers_after handlers parts) names.handlers) next ∙ c.loop-parts.invariant.handlers;
+      reserved = ap (λ held. fold (λ reserved parts. reserved_after reserved parts) held rest) c.in_ok-note.ensures.reserved
+          ∙ ap (fold (λ reserved parts. reserved_after reserved parts) names.reserved) next ∙ c.loop-parts.invariant.reserved;
+      leads = ap (λ held. fold (λ leads parts. leads_after leads parts) held rest) c.in_ok-note.ensures.leads
+          ∙ ap (fold (λ leads parts. leads_after leads parts) names.leads) next ∙ c.loop-parts.invariant.leads;
     }

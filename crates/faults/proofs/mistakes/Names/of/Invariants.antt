@@ -1,7 +1,8 @@
 use Rattle.std.proofs.Common.{◌≡◌, [], drop, map}
 use Rattle.std.specs.List.{fold}
 use Rattle.yayul.specs.Readings.{parts_in}
-use Rattle.faults.specs.Warnings.{banks_after, banks_of, with_field, with_read, with_single}
+use Rattle.faults.specs.Warnings.{banks_after, banks_of, handlers_after, handlers_of, leads_after, leads_of, reserved_after, reserved_of}
+use Rattle.faults.specs.Warnings.{with_field, with_read, with_single}
 use Rattle.faults.proofs.mistakes.Names.of.Given as goal
 
 abbrev pub invariant-loop-parts : goal.invariant-loop-parts
@@ -14,4 +15,10 @@ invariant-loop-parts l = record {
       ≡ fold (λ names parts. with_read names parts) [] (map parts_in l.lines);
   banks : fold (λ banks parts. banks_after banks parts) l.names.banks (map parts_in (drop l.parts-index l.lines))
       ≡ banks_of (map parts_in l.lines);
+  handlers : fold (λ handlers parts. handlers_after handlers parts) l.names.handlers (map parts_in (drop l.parts-index l.lines))
+      ≡ handlers_of (map parts_in l.lines);
+  reserved : fold (λ reserved parts. reserved_after reserved parts) l.names.reserved (map parts_in (drop l.parts-index l.lines))
+      ≡ reserved_of (map parts_in l.lines);
+  leads : fold (λ leads parts. leads_after leads parts) l.names.leads (map parts_in (drop l.parts-index l.lines))
+      ≡ leads_of (map parts_in l.lines);
 }

@@ -1,0 +1,28 @@
+-- What is answered of a routine, as text.
+use Rattle.std.specs.Prelude.{ℕ, ◌%◌, List, ◌++◌, codes, decimal}
+use Rattle.space.specs.declared.place.Linear.TheVariants.{Fixed}
+use Rattle.yayul.specs.Listing.{place_text}
+use Rattle.bound.specs.declared.finding.Answer.{Answer}
+use Rattle.bound.specs.declared.finding.Answer.TheVariants.{Most, Refused}
+use Rattle.bound.specs.declared.site.Site.{Site}
+use Rattle.bound.specs.declared.turn.Why.{Why}
+use Rattle.bound.specs.declared.turn.Why.TheVariants.{Indexed, Leaves, Steers, Resumes, Recursive, Unbounded, TooMany}
+
+abbrev pub why_text : Why → List ℕ
+why_text Indexed = codes " JUMPS UNDER INDEX"
+why_text Leaves = codes " LEADS TO NO KNOWN WORD"
+why_text Steers = codes " WRITES Z OR ITS OWN BANK"
+why_text Resumes = codes " RESUMES"
+why_text Recursive = codes " CALLS A ROUTINE IN PROGRESS"
+why_text Unbounded = codes " IS IN A LOOP WITHOUT A BOUND"
+why_text TooMany = codes " HAS TOO MANY WORDS OR CYCLES"
+
+abbrev pub most_text : ℕ → List ℕ
+most_text most = codes "AT MOST " ++ decimal most ++ codes " CYCLES\n"
+
+abbrev pub refused_text : Site → Why → List ℕ
+refused_text p why = codes "NO BOUND: " ++ place_text (Fixed p.bank (p.address % 0o2000)) ++ why_text why ++ codes "\n"
+
+abbrev pub answer_text : Answer → List ℕ
+answer_text (Most most) = most_text most
+answer_text (Refused p why) = refused_text p why

@@ -1,0 +1,4 @@
+-- What private contracts cite.
+pub mod Kinds
+pub mod Checks
+pub mod Searches

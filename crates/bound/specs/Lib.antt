@@ -1,0 +1,5 @@
+pub mod Turns
+pub mod Bounds
+pub mod Asked
+pub mod BoundText
+pub mod Inside

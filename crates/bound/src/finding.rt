@@ -1,0 +1,210 @@
+//! The bound of a routine.
+
+ghost use Rattle.std.specs.Prelude.{◌≡◌, ◌+◌, ◌≤◌, ℕ, IfOk, IfSome, Some, map};
+ghost use Rattle.bound.specs.Bounds.{IsAnswer};
+ghost use Rattle.bound.specs.Inside.Checks.{AreBounds, allowed, number_at};
+ghost use Rattle.bound.specs.Inside.Searches.{IsAttempt};
+
+use crate::charge::{Charge, Limit};
+use crate::checking::{Row, all_hold, number_at};
+use crate::graph::{Explored, Graph};
+use crate::search::{BASE, Numbered, number};
+use crate::site::Site;
+use crate::turn::Why;
+use rope::Rope;
+use space::Addr12;
+use std::alloc::{AllocError, Global};
+
+/// The most attempts to find bounds: two for each routine that is called.
+const MOST_ATTEMPTS: usize = 4096;
+
+/// The most cycles that are told.
+const MOST_CYCLES: u64 = 0xFFFF_FFFF;
+
+/// What is answered of a routine.
+#[derive(Clone, Copy, PartialEq, Eq, Debug)]
+pub enum Answer {
+    /// It takes at most so many cycles.
+    Most(u32),
+    /// At a word it is found, by a cause, that no bound is.
+    Refused(Site, Why),
+}
+
+/// What comes of an attempt.
+#[derive(Clone, Copy)]
+pub(crate) enum Attempt {
+    /// The routine takes at most so many cycles.
+    Most(u32),
+    /// At a word it calls one of which no bound is known.
+    Calls(Site, Site),
+    /// At a word it is found, by a cause, that no bound is.
+    Stops(Site, Why),
+}
+
+/// The most cycles of a routine, or why they are not told. Some addresses are of cells that keep Q: TC of one is a
+/// return. No way comes to the place of a limit more often than the limit allows.
+pub fn bound(
+    alloc: Global,
+    rope: &Rope,
+    kept: &[Addr12],
+    limits: &[Limit],
+    routine: &Site,
+) -> Result<Answer, AllocError>
+    ensures { IfOk result (λ answer. IsAnswer rope.now kept.now limits.now routine.now answer) }
+{
+    let mut known = Vec::new(alloc);
+    let mut open = Vec::new(alloc);
+    for _ in 0..MOST_ATTEMPTS {
+        if let Some(most) = number_at(known.as_slice(), routine) {
+            return Ok(Answer::Most(most));
+        }
+        let site = last_of(open.as_slice(), routine);
+        match try_bound(alloc, rope, kept, limits, known.as_slice(), &site)? {
+            Attempt::Most(number) => {
+                known.push(Row { site, number })?;
+                let _last = open.pop();
+            }
+            Attempt::Calls(at, callee) => {
+                if callee.is(routine) || is_open(open.as_slice(), &callee) {
+                    return Ok(Answer::Refused(at, Why::Recursive));
+                }
+                open.push(callee)?;
+            }
+            Attempt::Stops(at, why) => return Ok(Answer::Refused(at, why)),
+        }
+    }
+    Ok(Answer::Refused(*routine, Why::TooMany))
+}
+
+/// The last of the routines in progress.
+fn last_of(open: &[Site], routine: &Site) -> Site {
+    match open.last() {
+        Some(site) => *site,
+        None => *routine,
+    }
+}
+
+/// Whether a routine is in progress.
+fn is_open(open: &[Site], callee: &Site) -> bool {
+    for site in open {
+        if site.is(callee) {
+            return true;
+        }
+    }
+    false
+}
+
+/// Tries to find the bound of a routine, where those of some are known.
+fn try_bound(
+    alloc: Global,
+    rope: &Rope,
+    kept: &[Addr12],
+    limits: &[Limit],
+    known: &[Row],
+    routine: &Site,
+) -> Result<Attempt, AllocError>
+    requires { AreBounds rope.now kept.now limits.now known.now }
+    ensures { IfOk result (λ attempt. IsAttempt rope.now kept.now limits.now routine.now attempt) }
+{
+    let mut graph = Graph::of(alloc, routine)?;
+    match graph.explore(rope, kept, known)? {
+        Explored::Whole => number_and_check(alloc, rope, kept, limits, known, &graph, routine),
+        Explored::Calls(at, callee) => Ok(Attempt::Calls(at, callee)),
+        Explored::Stops(at, why) => Ok(Attempt::Stops(at, why)),
+    }
+}
+
+/// Tries to find the bound of a routine of some words.
+fn number_and_check(
+    alloc: Global,
+    rope: &Rope,
+    kept: &[Addr12],
+    limits: &[Limit],
+    known: &[Row],
+    graph: &Graph,
+    routine: &Site,
+) -> Result<Attempt, AllocError>
+    requires { AreBounds rope.now kept.now limits.now known.now }
+    ensures { IfOk result (λ attempt. IsAttempt rope.now kept.now limits.now routine.now attempt) }
+{
+    match number(alloc, graph, limits)? {
+        Numbered::All(rows, weights) => {
+            let charges = charges(alloc, limits, weights.as_slice())?;
+            Ok(checked(
+                rope,
+                kept,
+                charges.as_slice(),
+                known,
+                rows.as_slice(),
+                routine,
+            ))
+        }
+        Numbered::Loops(at) => Ok(Attempt::Stops(at, Why::Unbounded)),
+    }
+}
+
+/// The bound by numbers and costs that were found, where these are right.
+fn checked(
+    rope: &Rope,
+    kept: &[Addr12],
+    charges: &[Charge],
+    known: &[Row],
+    rows: &[Row],
+    routine: &Site,
+) -> Attempt
+    requires { AreBounds rope.now kept.now (map (λ charge. charge.limit) charges.now) known.now }
+    ensures { IsAttempt rope.now kept.now (map (λ charge. charge.limit) charges.now) routine.now result }
+{
+    if !all_hold(rope, kept, charges, known, rows, BASE) {
+        return Attempt::Stops(*routine, Why::Unbounded);
+    }
+    match most(charges, rows, routine) {
+        Some(most) => Attempt::Most(most),
+        None => Attempt::Stops(*routine, Why::TooMany),
+    }
+}
+
+/// The cycles that the number of a word and the costs of limits allow.
+fn most(charges: &[Charge], rows: &[Row], routine: &Site) -> Option<u32>
+    ensures { IfSome result (λ most. (number : ℕ) × (number_at rows.now routine.now ≡ Some number)
+        × (number + allowed charges.now ≤ most + BASE)) }
+{
+    let number = number_at(rows, routine)?;
+    let costs = allowed(charges)?;
+    let most = (u64::from(number) + costs).saturating_sub(u64::from(BASE));
+    u32::try_from(most).ok()
+}
+
+/// What it costs to come to each place of a limit as often as it allows, unless that is too much.
+fn allowed(charges: &[Charge]) -> Option<u64>
+    ensures { IfSome result (λ sum. (sum ≡ allowed charges.now) × (sum ≤ MOST_CYCLES)) }
+{
+    let mut sum: u64 = 0;
+    for charge in charges {
+        let cost = u64::from(charge.limit.most).checked_mul(u64::from(charge.weight))?;
+        if cost > MOST_CYCLES - sum {
+            return None;
+        }
+        sum += cost;
+    }
+    Some(sum)
+}
+
+/// Limits, each with its cost.
+fn charges(alloc: Global, limits: &[Limit], weights: &[u32]) -> Result<Vec<Charge>, AllocError>
+    ensures { IfOk result (λ charges. map (λ charge. charge.limit) charges.items ≡ limits.now) }
+{
+    let mut charges = Vec::new(alloc);
+    for (number, limit) in limits.iter().enumerate() {
+        let weight = if number < weights.len() {
+            weights[number]
+        } else {
+            0
+        };
+        charges.push(Charge {
+            limit: *limit,
+            weight,
+        })?;
+    }
+    Ok(charges)
+}

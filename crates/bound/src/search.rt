@@ -1,0 +1,271 @@
+//! The search for numbers that have room for all ways. What is found here is not relied upon: it is checked afterwards.
+
+use crate::charge::Limit;
+use crate::checking::Row;
+use crate::graph::{Edge, Graph};
+use crate::site::Site;
+use std::alloc::{AllocError, Global};
+
+/// What is added to each number of cycles that a word has, so that none is below 0.
+pub(crate) const BASE: u32 = 0x4000_0000;
+
+/// What was found of a routine's words: numbers for them and what it costs to come to each limit, or a word of a loop
+/// without a bound.
+#[derive(Drop)]
+pub(crate) enum Numbered {
+    /// Numbers, and costs.
+    All(Vec<Row>, Vec<u32>),
+    /// A word of a loop.
+    Loops(Site),
+}
+
+/// The numbers of words while they grow, and for each the word that its way leads to.
+#[derive(Drop)]
+struct Numbers {
+    values: Vec<u32>,
+    best: Vec<usize>,
+    // Whose numbers stay.
+    fixed: Vec<bool>,
+    // What it costs to come to each.
+    costs: Vec<u32>,
+}
+
+/// Finds numbers for the words of a routine, and costs of limits. Limits that allow more are taken to be of inner loops.
+pub(crate) fn number(
+    alloc: Global,
+    graph: &Graph,
+    limits: &[Limit],
+) -> Result<Numbered, AllocError> {
+    let mut weights = Vec::new(alloc);
+    let mut done = Vec::new(alloc);
+    for _ in limits {
+        weights.push(0)?;
+        done.push(false)?;
+    }
+    for _ in limits {
+        if let Some(head) = next_head(limits, done.as_slice()) {
+            let mut numbers = numbers_to(
+                alloc,
+                graph,
+                limits,
+                weights.as_slice(),
+                done.as_slice(),
+                head,
+            )?;
+            if let Some(site) = settle(graph, &mut numbers) {
+                return Ok(Numbered::Loops(site));
+            }
+            let weight = longest_round(graph, limits, head, &numbers);
+            if head < weights.len() && head < done.len() {
+                weights[head] = weight;
+                done[head] = true;
+            }
+        }
+    }
+    number_all(alloc, graph, limits, weights)
+}
+
+/// Finds the numbers of all words, where costs of limits are found.
+fn number_all(
+    alloc: Global,
+    graph: &Graph,
+    limits: &[Limit],
+    weights: Vec<u32>,
+) -> Result<Numbered, AllocError> {
+    let mut numbers = numbers_back(alloc, graph, limits, weights.as_slice())?;
+    if let Some(site) = settle(graph, &mut numbers) {
+        return Ok(Numbered::Loops(site));
+    }
+    let mut rows = Vec::new(alloc);
+    for (number, site) in graph.sites.as_slice().iter().enumerate() {
+        let value = value_of(numbers.values.as_slice(), number);
+        rows.push(Row {
+            site: *site,
+            number: value,
+        })?;
+    }
+    Ok(Numbered::All(rows, weights))
+}
+
+/// The limit that allows most of those that are left.
+fn next_head(limits: &[Limit], done: &[bool]) -> Option<usize> {
+    let mut found = None;
+    let mut most = 0;
+    for (head, limit) in limits.iter().enumerate() {
+        let is_left = head < done.len() && !done[head];
+        if is_left && (found.is_none() || limit.most > most) {
+            found = Some(head);
+            most = limit.most;
+        }
+    }
+    found
+}
+
+/// The limit of a word's place.
+fn head_of(limits: &[Limit], site: &Site) -> Option<usize> {
+    for (head, limit) in limits.iter().enumerate() {
+        if limit.has(site) {
+            return Some(head);
+        }
+    }
+    None
+}
+
+/// Numbers of which those at a limit's place alone are known: the cycles to there are looked for, by way of no place of
+/// a limit that is left.
+fn numbers_to(
+    alloc: Global,
+    graph: &Graph,
+    limits: &[Limit],
+    weights: &[u32],
+    done: &[bool],
+    head: usize,
+) -> Result<Numbers, AllocError> {
+    let mut numbers = Numbers::none(alloc);
+    for site in graph.sites.as_slice() {
+        let other = head_of(limits, site);
+        let is_target = other == Some(head);
+        let is_left = match other {
+            Some(other) => other < done.len() && !done[other],
+            None => false,
+        };
+        let value = if is_target { BASE } else { 0 };
+        numbers.add(value, is_left, cost_of(weights, other))?;
+    }
+    Ok(numbers)
+}
+
+/// Numbers of which none is known but those of words that lead back.
+fn numbers_back(
+    alloc: Global,
+    graph: &Graph,
+    limits: &[Limit],
+    weights: &[u32],
+) -> Result<Numbers, AllocError> {
+    let mut numbers = Numbers::none(alloc);
+    for site in graph.sites.as_slice() {
+        numbers.add(0, false, cost_of(weights, head_of(limits, site)))?;
+    }
+    for edge in graph.backs.as_slice() {
+        let cost = value_of(numbers.costs.as_slice(), edge.from);
+        if edge.from < numbers.values.len() {
+            numbers.values[edge.from] = BASE.saturating_add(edge.cycles).saturating_sub(cost);
+        }
+    }
+    Ok(numbers)
+}
+
+impl Numbers {
+    /// None.
+    fn none(alloc: Global) -> Numbers {
+        Numbers {
+            values: Vec::new(alloc),
+            best: Vec::new(alloc),
+            fixed: Vec::new(alloc),
+            costs: Vec::new(alloc),
+        }
+    }
+
+    /// One word more.
+    fn add(&mut self, value: u32, is_fixed: bool, cost: u32) -> Result<(), AllocError> {
+        self.values.push(value)?;
+        self.best.push(0)?;
+        self.fixed.push(is_fixed)?;
+        self.costs.push(cost)?;
+        Ok(())
+    }
+
+    /// Lets the number of a word grow to what a way on asks for. Answers whether it did.
+    fn grow(&mut self, edge: &Edge) -> bool {
+        let ahead = value_of(self.values.as_slice(), edge.to);
+        let from = edge.from;
+        if ahead == 0 || is_fixed(self.fixed.as_slice(), from) {
+            return false;
+        }
+        let cost = value_of(self.costs.as_slice(), from);
+        let value = ahead.saturating_add(edge.cycles).saturating_sub(cost);
+        if from < self.values.len() && from < self.best.len() && value > self.values[from] {
+            self.values[from] = value;
+            self.best[from] = edge.to;
+            true
+        } else {
+            false
+        }
+    }
+}
+
+/// Lets numbers grow until they stay. Answers a word of a loop where they never do.
+fn settle(graph: &Graph, numbers: &mut Numbers) -> Option<Site> {
+    for _ in 0..graph.sites.len() {
+        if grown(graph, numbers).is_none() {
+            return None;
+        }
+    }
+    let from = grown(graph, numbers)?;
+    looping(graph, numbers.best.as_slice(), from)
+}
+
+/// Lets each number grow once. Answers a word whose number did.
+fn grown(graph: &Graph, numbers: &mut Numbers) -> Option<usize> {
+    let mut grown = None;
+    for edge in graph.edges.as_slice().iter().rev() {
+        if numbers.grow(edge) {
+            grown = Some(edge.from);
+        }
+    }
+    grown
+}
+
+/// A word of the loop to which the ways of growing numbers lead.
+fn looping(graph: &Graph, best: &[usize], from: usize) -> Option<Site> {
+    let mut at = from;
+    for _ in 0..graph.sites.len() {
+        if at < best.len() {
+            at = best[at];
+        }
+    }
+    graph.sites.get(at).copied()
+}
+
+/// The cycles of the longest round from a limit's place to itself.
+fn longest_round(graph: &Graph, limits: &[Limit], head: usize, numbers: &Numbers) -> u32 {
+    let mut longest = 0;
+    for edge in graph.edges.as_slice() {
+        let ahead = value_of(numbers.values.as_slice(), edge.to);
+        let round = ahead.saturating_add(edge.cycles).saturating_sub(BASE);
+        if is_at(graph, limits, edge.from, head) && ahead != 0 && round > longest {
+            longest = round;
+        }
+    }
+    longest
+}
+
+/// Whether a word stands at a limit's place.
+fn is_at(graph: &Graph, limits: &[Limit], number: usize, head: usize) -> bool {
+    match graph.sites.get(number) {
+        Some(site) => head_of(limits, site) == Some(head),
+        None => false,
+    }
+}
+
+/// What it costs to come to a limit's place.
+fn cost_of(weights: &[u32], head: Option<usize>) -> u32 {
+    match head {
+        Some(head) => value_of(weights, head),
+        None => 0,
+    }
+}
+
+/// One of some numbers.
+fn value_of(values: &[u32], number: usize) -> u32 {
+    if number < values.len() {
+        values[number]
+    } else {
+        0
+    }
+}
+
+/// Whether the number of a word stays.
+fn is_fixed(fixed: &[bool], number: usize) -> bool {
+    number < fixed.len() && fixed[number]
+}

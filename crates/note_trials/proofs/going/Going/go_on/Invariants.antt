@@ -1,0 +1,13 @@
+use Rattle.std.proofs.Common.{◌≡◌, ◌+◌, ◌≤◌}
+use Rattle.cpu.specs.Run.{run}
+use Rattle.notes.specs.Noted.{noted}
+use Rattle.note_trials.proofs.going.Going.go_on.Given as goal
+
+abbrev pub invariant-loop : goal.invariant-loop
+invariant-loop l = record {
+  scenario : l.processor.scenario ≡ l.fn.processor.scenario;
+  machine : l.self.machine ≡ run l.fn.processor.scenario l.counter;
+  noted : l.self.noted ≡ noted l.named l.fn.self.from l.fn.processor.scenario l.counter;
+  from : l.self.from ≡ l.fn.self.from;
+  meter : l.processor.meter + l.fn.self.done ≤ l.fn.processor.meter + l.counter;
+}

@@ -1,0 +1,10 @@
+//! Which notes a run would have with one input more: each of some inputs is tried alone.
+#![tactic(auto)]
+
+mod branch;
+mod change;
+mod going;
+mod span;
+mod trying;
+
+pub use trying::note_trials;

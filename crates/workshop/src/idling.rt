@@ -1,0 +1,50 @@
+//! The engine that runs a program until it idles.
+
+ghost use Rattle.std.specs.Prelude.{◌≡◌, ◌-◌, ◌≤◌, ◌<◌, ◌^◌, true, OnOk};
+ghost use Rattle.workshop.specs.Failures.{reader, writer};
+ghost use Rattle.workshop.specs.Loading.{program_and_feed};
+ghost use Rattle.workshop.specs.Progress.{telling};
+ghost use Rattle.workshop.specs.Runs.{running};
+ghost use Rattle.workshop.specs.RunsUntilIdle.{RunsUntilIdle, TellsUntilIdle};
+
+use crate::engine::{Summary, run};
+use crate::fault::WorkshopFault;
+use crate::inputs::load;
+use crate::origin::Origin;
+use cpu::Processor;
+use idle::steps_until_idle;
+use std::alloc::Global;
+use words::{Read, Write};
+
+/// Reads a program and then a feed, and runs the program until it idles, at most for so many steps, as `run_and_tell`
+/// does. When it idles `idle::steps_until_idle` says. Its steps are made twice: to find the last, before anything is
+/// written, and to write what they put out.
+pub fn run_until_idle<P: Read, F: Read, W: Write, T: Write>(
+    alloc: Global,
+    origin: Origin,
+    program: &mut P,
+    feed: &mut F,
+    most: u64,
+    out: &mut W,
+    progress: &mut T,
+) -> Result<Summary, WorkshopFault>
+    requires { most ≤ 2 ^ 40 - 2 }
+    ensures runs { RunsUntilIdle origin most
+        (running (reader P.told P.left P.failures program.old) (reader F.told F.left F.failures feed.old)
+        (writer W.told W.written W.failures out.old))
+        (running (reader P.told P.left P.failures program.new) (reader F.told F.left F.failures feed.new)
+        (writer W.told W.written W.failures out.new))
+        result }
+    ensures handed_on { W.told ≡ true → 0 < most → OnOk result (W.handed_on out.new ≡ W.written out.new) }
+    ensures progress { TellsUntilIdle origin most
+        (program_and_feed (reader P.told P.left P.failures program.old) (reader F.told F.left F.failures feed.old))
+        (program_and_feed (reader P.told P.left P.failures program.new) (reader F.told F.left F.failures feed.new))
+        (telling (writer W.told W.written W.failures out.old) (writer T.told T.written T.failures progress.old))
+        (telling (writer W.told W.written W.failures out.new) (writer T.told T.written T.failures progress.new))
+        result }
+{
+    let loaded = load(alloc, origin, program, feed)?;
+    let mut processor = Processor::new(loaded.rope, loaded.feed);
+    let steps = steps_until_idle(&mut processor, most);
+    run(&mut processor, steps, out, progress)
+}
