@@ -236,6 +236,16 @@ MUTANTS = [
 ]
 # Takes blocks, makes them larger and smaller and gives them back, as lines say: NUMBER SIZE, where a size of 0 gives one back. Each is filled with its own bytes,
 # which are there until the end; and when all are given back, one of nearly all the memory is had without more.
+MOVED = """
+const fs = require('fs'), imports = new Proxy({}, {get: () => () => 0n});
+const it = new WebAssembly.Instance(new WebAssembly.Module(fs.readFileSync(process.argv[1])), {host: imports}).exports;
+for (const name of process.argv.slice(2)) {
+    const bytes = new Uint8Array(it.memory.buffer, 4096, 256).map((_, i) => i + 1 & 255);
+    new Uint8Array(it.memory.buffer).set(bytes, 4096);
+    it[name](4099n, ...(name.startsWith('copy') ? [4201n] : []));
+    console.log(Buffer.from(it.memory.buffer, 4096, 256).toString('hex'));
+}
+"""
 HEAP = """
 const fs = require('fs'), imports = new Proxy({}, {get: () => () => 0n});
 const it = new WebAssembly.Instance(new WebAssembly.Module(fs.readFileSync(process.argv[1])), {host: imports}).exports;
@@ -625,6 +635,42 @@ class Arithmetic(ModuleCase):
         with self.subTest("arithmetic of 128 bits"):
             self.assertTrue(len(got) == len(rows) and not wrong, f"{wrong[:2]} {ran.stderr[-400:]}")
         print(f"arithmetic: {len(rows)} rows", flush=True)
+
+
+class Moves(ModuleCase):
+    """What is cleared and copied by calls."""
+
+    def test_calls(self):
+        """Small functions alone call the layer, for so many bytes and no more."""
+        import retarget
+
+        clears = "  call void @llvm.memset.p0.i64(ptr noundef align 8 dereferenceable(24) %a, i8 {}, i64 {}, i1 false), !x !3\n"
+        copies = "  tail call void @llvm.memcpy.p0.p0.i64(ptr align 8 %a, ptr nonnull @b, i64 {}, i1 false)\n"
+        body = clears.format(0, 24) + clears.format(1, 24) + clears.format(0, 25) + copies.format(16) + copies.format(17)
+        called = "  call void @zero_24(ptr %a)\n" + clears.format(1, 24) + clears.format(0, 25) + "  call void @copy_16(ptr %a, ptr @b)\n" + copies.format(17)
+        text = "define void @f(ptr %a) #0 {{\n{}}}\ndefine void @g(ptr %a) #1 {{\n{}}}\nattributes #0 = {{ minsize nounwind }}\nattributes #1 = {{ nounwind }}\n"
+        wanted = text.format(called, body) + "\ndeclare void @copy_16(ptr, ptr)\ndeclare void @zero_24(ptr)\n"
+        with self.subTest("calls in place of what clears and copies"):
+            self.assertEqual(retarget.with_calls(text.format(body, body)), wanted)
+
+    def test_layer(self):
+        """Each function of the layer clears, or copies, as many bytes as its name says, at any address."""
+        import build
+        import retarget
+
+        if why := build.missing():
+            self.skipTest(why)
+        names = [f"zero_{it}" for it in retarget.ZEROS] + [f"copy_{it}" for it in retarget.COPIES]
+        build.layer_alone(f"{self.room}/layer.wasm", names)
+        ran = subprocess.run(["node", "-e", MOVED, f"{self.room}/layer.wasm", *names], capture_output=True, text=True, timeout=MOST_SECONDS_OF_CALL)
+        bytes_before, wanted = bytes((i + 1) & 255 for i in range(256)), []
+        for name in names:
+            what, size = name.split("_")
+            size = int(size)
+            put = bytes(size) if what == "zero" else bytes_before[105 : 105 + size]
+            wanted.append((bytes_before[:3] + put + bytes_before[3 + size :]).hex())
+        with self.subTest("so many bytes"):
+            self.assertEqual(ran.stdout.split(), wanted, ran.stderr[-400:])
 
 
 class Browsers(ModuleCase):

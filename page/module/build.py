@@ -6,13 +6,16 @@ import subprocess
 import tempfile
 
 from files import read, write
-from retarget import TRIPLE, retargeted
+from retarget import TRIPLE, retargeted, with_calls
 import toolchain
 
 HERE = os.path.dirname(os.path.realpath(__file__))
 # The memory with which it begins: its stack, which lies lowest, so that what goes beyond it is refused by the engine, and its data.
 STACK_BYTES, FIRST_PAGES, PAGE_BYTES = 1 << 20, 32, 65536
 TARGET = [f"--target={TRIPLE}", "-O2", "-fno-unroll-loops"]
+# Functions that are alike become one; no pass is run.
+MERGED = ["-Xclang", "-fmerge-functions"]
+AS_IT_IS = ["-Xclang", "-disable-llvm-passes"]
 LAYER = "-ffreestanding -nostdlib -std=c17 -Wall -Wextra -Wno-unused-parameter -Werror".split()
 # Of C's main alone something is called from outside, and memory comes from there, so that each run has a bound of its own.
 LINKED = f"""-mwasm64 -O2 -s --gc-sections --no-entry --export=main --import-memory --initial-memory={FIRST_PAGES * PAGE_BYTES} --max-memory={1 << 32}
@@ -62,12 +65,14 @@ def module_of(bitcode, version, is_proved):
     clang = toolchain.clang()
     with tempfile.TemporaryDirectory(prefix="module-") as room:
         # (the text is what every tool of LLVM of this version reads alike; no pass is run on the way)
-        run(clang, "-x", "ir", "-S", "-emit-llvm", "-Xclang", "-disable-llvm-passes", "-O1", "-o", f"{room}/program.ll", bitcode)
+        run(clang, "-x", "ir", "-S", "-emit-llvm", *AS_IT_IS, "-O1", "-o", f"{room}/program.ll", bitcode)
         try:
             write(f"{room}/module.ll", retargeted(read(f"{room}/program.ll").decode()).encode())
         except ValueError as error:
             toolchain.stop(f"the bitcode cannot be retargeted: {error}")
-        run(clang, *TARGET, "-x", "ir", "-c", "-o", f"{room}/program.o", f"{room}/module.ll")
+        run(clang, *TARGET, *MERGED, "-x", "ir", "-S", "-emit-llvm", "-o", f"{room}/optimised.ll", f"{room}/module.ll")
+        write(f"{room}/calling.ll", with_calls(read(f"{room}/optimised.ll").decode()).encode())
+        run(clang, *TARGET, *AS_IT_IS, "-x", "ir", "-c", "-o", f"{room}/program.o", f"{room}/calling.ll")
         run(clang, *TARGET, *LAYER, "-c", "-o", f"{room}/layer.o", f"{HERE}/layer.c")
         run(toolchain.wasm_linker(room), *LINKED, "-o", f"{room}/wide.wasm", f"{room}/program.o", f"{room}/layer.o")
         run("wasm-opt", *FEATURES, "--memory64-lowering", *SMALL, "-o", f"{room}/agcws.wasm", f"{room}/wide.wasm")

@@ -290,6 +290,15 @@ Taken rattle_realloc(u8 *bytes, u64 kept, u64 wanted, u64 alignment) {
     return taken_or_not(moved);
 }
 
+// What functions that are to be small do by a call: they clear, or copy, so many bytes (retarget.py).
+
+#define CLEARS(size) \
+    void zero_##size(void *bytes) { __builtin_memset(bytes, 0, size); }
+#define COPIES(size) \
+    void copy_##size(void *to, const void *from) { __builtin_memcpy(to, from, size); }
+CLEARS(5) CLEARS(6) CLEARS(7) CLEARS(12) CLEARS(16) CLEARS(24) CLEARS(31) CLEARS(32) CLEARS(40) CLEARS(48) CLEARS(56)
+COPIES(5) COPIES(6) COPIES(7) COPIES(14) COPIES(16) COPIES(20) COPIES(24) COPIES(32) COPIES(40) COPIES(48) COPIES(56)
+
 // 128 bits: products of halves, shifts, and quotients by shifts and differences.
 
 typedef union {
