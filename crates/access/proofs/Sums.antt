@@ -13,8 +13,7 @@ use Rattle.access.specs.declared.view.View.TheVariants.{All}
 use Rattle.access.specs.Accesses.{accesses, AccessesAddUp, account_in, read_cells, slot, slot_count, slots, slots_after, slots_at}
 use Rattle.access.specs.Accesses.{sum_below, times, times_in}
 use Rattle.access.specs.Levels.{last_entered, level_by}
-use Rattle.access.specs.Below.{AreBelow}
-use Rattle.access.specs.Tallies.{Counts, Tallied}
+use Rattle.access.specs.Tallies.{AreBelow, Counts, Tallied}
 
 sum_of_sums : (f g : ℕ → ℕ) (n : ℕ) → sum_below (λ i. f i + g i) n ≡ sum_below f n + sum_below g n
 sum_of_sums f g zero = refl

@@ -1,10 +1,9 @@
 -- Rows of instructions, worked out by hand.
-use Rattle.std.proofs.Common.{◌≡◌, true, false, refl, Some, None, [], ◌∷◌}
+use Rattle.std.proofs.Common.{◌≡◌, true, false, refl, None}
 use Rattle.std.specs.Prelude.{codes}
-use Rattle.yayul.specs.Language.{Standard}
+use Rattle.yayul.specs.declared.language.Language.TheVariants.{Standard}
 use Rattle.yayul.specs.Roles.{role_of, roles}
 use Rattle.instructions.specs.Roles.{is_instruction}
-use Rattle.instructions.specs.Places.{row_passed}
 
 ca_is_one : is_instruction (role_of Standard (codes "CA")) ≡ true
 unfolding roles

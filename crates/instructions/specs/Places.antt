@@ -2,7 +2,7 @@
 use Rattle.std.specs.Prelude.{ℕ, ◌+◌, ◌*◌, Bool, false, List, fold, get_or, replicate, set, Option, if◌then◌else◌}
 use Rattle.std.specs.Option.{option_map_or}
 use Rattle.rope.specs.Places.{Words, bank_words, place_number}
-use Rattle.yayul.specs.Language.{Language}
+use Rattle.yayul.specs.declared.language.Language.{Language}
 use Rattle.yayul.specs.Program.{Source}
 use Rattle.yayul.specs.Readings.{parts_for}
 use Rattle.certain.specs.Rows.{is_second, place_before, placed_rows, text_on}

@@ -1,7 +1,7 @@
 //! Which operators make an instruction.
 
 ghost use Rattle.std.specs.Prelude.{◌≡◌};
-ghost use Rattle.instructions.specs.Roles.{is_instruction};
+ghost use Rattle.instructions.specs.Roles.{is_instruction, is_jump, is_reading, is_writing};
 
 use yayul::Role;
 

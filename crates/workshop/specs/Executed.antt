@@ -6,7 +6,7 @@ use Rattle.cpu.specs.declared.account.Account.TheVariants.{Place}
 use Rattle.cpu.specs.State.{Scenario}
 use Rattle.cover.specs.Tallies.{Profile, profile_of}
 use Rattle.instructions.specs.Places.{instructions, is_marked}
-use Rattle.yayul.specs.Language.{Standard}
+use Rattle.yayul.specs.declared.language.Language.TheVariants.{Standard}
 use Rattle.yayul.specs.Program.{Source}
 
 -- whether the word at a place of fixed memory is one of some instructions, and was executed

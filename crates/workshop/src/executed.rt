@@ -2,9 +2,7 @@
 
 ghost use Rattle.std.specs.Prelude.{◌≡◌, ◌≤◌, ◌<◌, ◌-◌, ◌^◌, ◌/◌, ◌%◌, IfOk};
 ghost use Rattle.cover.specs.Tallies.{figures_at};
-ghost use Rattle.instructions.specs.Places.{instructions};
 ghost use Rattle.workshop.specs.Executed.{executed, executed_at, executed_before, is_executed};
-ghost use Rattle.yayul.specs.Language.{Standard};
 
 use crate::fault::WorkshopFault;
 use cover::Tally;

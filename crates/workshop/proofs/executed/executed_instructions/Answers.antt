@@ -4,7 +4,7 @@ use Rattle.rope.specs.Places.{fixed_places}
 use Rattle.cover.specs.Tallies.{profile_of}
 use Rattle.cover.proofs.Counting.{profile_is}
 use Rattle.instructions.specs.Places.{instructions}
-use Rattle.yayul.specs.Language.{Standard}
+use Rattle.yayul.specs.declared.language.Language.TheVariants.{Standard}
 use Rattle.workshop.specs.Executed.{executed_before}
 use Rattle.workshop.proofs.executed.executed_instructions.Goals as goal
 
