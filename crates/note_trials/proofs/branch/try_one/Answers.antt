@@ -1,4 +1,3 @@
-use Rattle.std.proofs.Common.{◌∙◌, arith}
 use Rattle.note_trials.proofs.branch.try_one.Goals as goal
 
 pub branch-alloc-requires-clause-machine : goal.branch-alloc-requires-clause-machine

@@ -1,5 +1,3 @@
-use Rattle.std.proofs.Common.{◌≡◌, ◌∙◌, ap, sym}
-use Rattle.note_trials.specs.Changes.{changes, spans_text, without_text}
 use Rattle.note_trials.proofs.Told.{text_parts}
 use Rattle.note_trials.proofs.trying.try_after.Goals as goal
 
