@@ -1,5 +1,5 @@
 -- Where a run parts from another, and what is noted up to there.
-use Rattle.std.proofs.Common.{◌≡◌, ℕ, zero, suc, ◌<◌, List, ltb, refl, sym, ap, ◌∙◌, arith, inl, inr}
+use Rattle.std.proofs.Common.{◌≡◌, ℕ, zero, suc, List, ltb, refl, sym, ap, ◌∙◌, arith, inl, inr}
 use Rattle.std.proofs.lemmas.Bool.{cases_Bool}
 use Rattle.feed.specs.Added.{AddsLast}
 use Rattle.feed.specs.Merged.{due}
@@ -12,7 +12,7 @@ use Rattle.cpu.specs.State.{Scenario, State}
 use Rattle.notes.specs.Noted.{Noted, noted, noted_by, noted_more}
 use Rattle.whatif.specs.Trials.{AreSameBelow, IsBefore, tried}
 use Rattle.whatif.proofs.Alike.{AreGivenSame, runs_alike, step_alike}
-use Rattle.whatif.proofs.OneMore.{given_before, given_tried, run_before, tried_rope, with_inputs}
+use Rattle.whatif.proofs.OneMore.{given_before, given_tried, tried_rope, with_inputs}
 
 more_alike : (named : Named) (scenario : Scenario) (other : List Entry) (s : State) (a : Noted)
     → due other s.taken s.cycles ≡ due scenario.inputs s.taken s.cycles

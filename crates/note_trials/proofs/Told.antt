@@ -1,6 +1,6 @@
 -- What is told of trials, one after another.
-use Rattle.std.proofs.Common.{◌≡◌, ℕ, ◌+◌, ◌<◌, ◌≤◌, List, [], ◌∷◌, ◌++◌, map, Option, Some, None, refl, sym, ap, ◌∙◌, arith}
-use Rattle.std.proofs.Common.{append_assoc, append-nil, inl, inr}
+use Rattle.std.proofs.Common.{◌≡◌, ℕ, ◌+◌, ◌≤◌, List, [], ◌∷◌, ◌++◌, Option, Some, None, refl, sym, ap, ◌∙◌, arith}
+use Rattle.std.proofs.Common.{append_assoc, inl, inr}
 use Rattle.std.proofs.lemmas.Bool.{cases_Bool}
 use Rattle.feed.specs.declared.entry.Plain.{Plain}
 use Rattle.yayul.specs.Named.{Named}
@@ -8,7 +8,7 @@ use Rattle.cpu.specs.State.{Scenario}
 use Rattle.notes.specs.declared.noted.Note.{Note}
 use Rattle.whatif.specs.Trials.{tried}
 use Rattle.note_trials.specs.declared.span.Span.{Span}
-use Rattle.note_trials.specs.Changes.{change_text, changes, closed, joins, notes_of, number_of, one, open_text, opened, spans_text}
+use Rattle.note_trials.specs.Changes.{change_text, changes, closed, joins, notes_of, number_of, open_text, opened, spans_text}
 use Rattle.note_trials.specs.Changes.{trials_text, without_text}
 
 pub span_told : (named : Named) (without : List Note) (from : ℕ) (scenario : Scenario) (steps : ℕ) (pending : Option Span)

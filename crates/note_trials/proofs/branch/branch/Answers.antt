@@ -18,11 +18,13 @@ go_on-requires-clause-noted c =
     c.requires.before c.requires.noted
     c.in_ok-going.ensures.noted c.in_ok-going.ensures.from c.in_ok-going.ensures.done
 
-pub returns-clause-change : goal.returns-clause-change
-returns-clause-change c =
+pub returns : goal.returns
+returns c =
     let scenario = c.args.processor.now.scenario in
     let now : c.go_on.new.self.noted ≡ noted c.args.named.now c.args.trunk.now.from c.in_ok-fork.fork.scenario c.args.steps = rw
     c.in_ok-going.ensures.from at c.in_ok-go_on.ensures.noted in
-    c.in_ok-change.ensures ∙ ap (λ (a : Noted). change_text c.args.without.now a.notes)
-    (now ∙ noted_of_trial c.args.named.now c.args.trunk.now.from scenario _ c.args.trial.now c.args.steps c.in_ok-fork.ensures.rope
-    c.in_ok-fork.ensures.inputs)
+    record {
+      change = c.in_ok-change.ensures ∙ ap (λ (a : Noted). change_text c.args.without.now a.notes)
+          (now ∙ noted_of_trial c.args.named.now c.args.trunk.now.from scenario _ c.args.trial.now c.args.steps c.in_ok-fork.ensures.rope
+          c.in_ok-fork.ensures.inputs);
+    }

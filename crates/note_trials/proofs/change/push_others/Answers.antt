@@ -1,4 +1,4 @@
-use Rattle.std.proofs.Common.{◌≡◌, ◌∙◌, ◌+◌, ◌<◌, ◌∷◌, ◌++◌, [], drop, length, refl, sym, ap, arith, append_assoc, append-nil}
+use Rattle.std.proofs.Common.{◌≡◌, ◌∙◌, ◌+◌, ◌<◌, ◌∷◌, ◌++◌, drop, length, sym, ap, arith, append_assoc, append-nil}
 use Rattle.std.proofs.lemmas.List.{drop_all, drop_more}
 use Rattle.note_trials.specs.Changes.{other_line, others_text}
 use Rattle.note_trials.proofs.change.push_others.Goals as goal
@@ -15,8 +15,8 @@ loop-note-preserved c =
     ∙ ap (λ l. c.loop-note.text.items ++ others_text c.args.word.now c.args.notes.now l) (sym split)
     ∙ c.loop-note.invariant
 
-pub returns-clause : goal.returns-clause
-returns-clause c =
+pub returns : goal.returns
+returns c =
     sym (append-nil c.loop-note.text.items)
     ∙ ap (λ l. c.loop-note.text.items ++ others_text c.args.word.now c.args.notes.now l)
     (sym (drop_all c.loop-note.note-index c.args.others.now (omega arith)))

@@ -1,4 +1,4 @@
-use Rattle.std.proofs.Common.{◌≡◌, ◌∙◌, ap}
+use Rattle.std.proofs.Common.{◌∙◌, ap}
 use Rattle.notes.specs.Noted.{Noted}
 use Rattle.note_trials.proofs.Steps.{noted_begins}
 use Rattle.note_trials.proofs.trying.run_without.Goals as goal

@@ -1,4 +1,4 @@
-use Rattle.std.proofs.Common.{◌∙◌, refl, arith}
+use Rattle.std.proofs.Common.{◌∙◌, arith}
 use Rattle.whatif.proofs.Rising.{before_more}
 use Rattle.whatif.proofs.Steps.{few_cycles, fits_after, state_more}
 use Rattle.note_trials.proofs.Steps.{noted_after}
