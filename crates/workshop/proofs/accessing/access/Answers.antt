@@ -7,10 +7,10 @@ use Rattle.workshop.proofs.accessing.access.Goals as goal
 pub count-requires-clause-none : goal.count-requires-clause-none
 count-requires-clause-none g c =
     let counts = c.in-Ok-new.ensures c.new-processor.result.scenario in
-    subst (λ (v : View). Counts v c.new-processor.result.scenario 0 c.in-Ok-new.tally) (sym counts.same) counts
+    subst (λ (v : View). Counts v c.new-processor.result.scenario 0 c.in-Ok-new.tally) (sym counts.keeps.same) counts
 
 pub returns-clause-counts : goal.returns-clause-counts
 returns-clause-counts g c =
     let counts = c.in-Ok-new.ensures c.new-processor.result.scenario in
     counts_some _ _ _ _ c.in-Some.view _ _ _ (sym c.in-Some.ensures)
-    (rw (counts.same, c.in-Ok.ensures, c.new-processor.ensures.value) at c.count.ensures.counts)
+    (rw (counts.keeps.same, c.in-Ok.ensures, c.new-processor.ensures.value) at c.count.ensures.counts)

@@ -34,7 +34,7 @@ loop-done-preserved g c =
     record {
       scenario = c.make_steps.ensures.scenario ∙ c.loop-done.invariant.scenario;
       state = rw c.loop-done.invariant.scenario at c.make_steps.ensures.state;
-      view = counts.same;
+      view = counts.keeps.same;
       counts = counts;
       within = omega arith;
       tells = tells_more c.loop-done.done c.min-stop.result _ _ _ _ _ whole (omega arith) (omega arith) refl c.loop-done.invariant.tells
