@@ -3,7 +3,7 @@ import unittest
 
 from common import PROGRAM, Case, agcws, write
 
-# Cycles: TC, TCF and EXTEND 1; BZF 1 where it jumps, else 2; DXCH 3; the others here 2.
+# Cycles: TC, TCF and EXTEND 1, and TC Q 2, its own and that of the TC in Q; BZF 1 where it jumps, else 2; DXCH 3; the others here 2.
 SOURCE = """\
 Q       EQUALS  2
 FB      EQUALS  4
@@ -14,7 +14,7 @@ OUTER   ERASE
 KEPTQ   ERASE
         SETLOC  4000
         TCF     4000
-# CA 2; a round of the loop is TS 2, CCS 2, TCF 1; the last ends with TS 2, CCS 2, TC Q 1
+# CA 2; a round of the loop is TS 2, CCS 2, TCF 1; the last ends with TS 2, CCS 2, TC Q 2
 SHORT   CA      TEN
 LOOP    TS      COUNT
         CCS     COUNT
@@ -47,7 +47,7 @@ IN      TS      COUNT
         TC      Q
         TC      Q
         TC      Q
-# EXTEND 1, BZF 2 where it does not jump, CA 2, TC Q 1; where it jumps 1, and 3 for DXCH, TC Q 1
+# EXTEND 1, BZF 2 where it does not jump, CA 2, TC Q 2; where it jumps 1, and 3 for DXCH, TC Q 2
 FORK    EXTEND
         BZF     LATER
         CA      TEN
@@ -74,16 +74,16 @@ CALLER  TC      INSIDE
 
 # A routine with its options, and the line.
 BOUNDS = [
-    ("SHORT", ["--loops", "LOOP 11"], "AT MOST 57 CYCLES"),  # 2 + 10 * 5 + 5
-    ("SHORT", ["--loops", "LOOP 1"], "AT MOST 7 CYCLES"),  # 2 + 5
-    ("02,4001", ["--loops", "LOOP 11"], "AT MOST 57 CYCLES"),
-    ("LOOP", ["--loops", "02,4002 2"], "AT MOST 10 CYCLES"),  # 5 + 5
-    ("LONG", ["--kept", "KEPTQ", "--loops", "LOOP 11 AGAIN 11"], "AT MOST 699 CYCLES"),  # 5 + 10 * 63 + 2 + 1 + 57 + 2 + 2
-    ("LONG", ["--kept", "COUNT KEPTQ", "--loops", "AGAIN 11 LOOP 1"], "AT MOST 149 CYCLES"),  # 5 + 10 * 13 + 2 + 1 + 7 + 2 + 2
-    # 2 + 11 * (2 + 2 + 4 + 2) + 10 + 1, and 121 times 4 in the inner loop, and 110 times its TCF
-    ("NESTED", ["--loops", "OUT 11 IN 121"], "AT MOST 717 CYCLES"),
-    ("FORK", [], "AT MOST 6 CYCLES"),  # 1 + 2 + 2 + 1, as 1 + 1 + 3 + 1
-    ("CALLER", [], "AT MOST 3 CYCLES"),  # 1 + 1 + 1
+    ("SHORT", ["--loops", "LOOP 11"], "AT MOST 58 CYCLES"),  # 2 + 10 * 5 + 6
+    ("SHORT", ["--loops", "LOOP 1"], "AT MOST 8 CYCLES"),  # 2 + 6
+    ("02,4001", ["--loops", "LOOP 11"], "AT MOST 58 CYCLES"),
+    ("LOOP", ["--loops", "02,4002 2"], "AT MOST 11 CYCLES"),  # 5 + 6
+    ("LONG", ["--kept", "KEPTQ", "--loops", "LOOP 11 AGAIN 11"], "AT MOST 710 CYCLES"),  # 5 + 10 * 64 + 2 + 1 + 58 + 2 + 2
+    ("LONG", ["--kept", "COUNT KEPTQ", "--loops", "AGAIN 11 LOOP 1"], "AT MOST 160 CYCLES"),  # 5 + 10 * 14 + 2 + 1 + 8 + 2 + 2
+    # 2 + 11 * (2 + 2 + 4 + 2) + 10 + 2, and 121 times 4 in the inner loop, and 110 times its TCF
+    ("NESTED", ["--loops", "OUT 11 IN 121"], "AT MOST 718 CYCLES"),
+    ("FORK", [], "AT MOST 7 CYCLES"),  # 1 + 2 + 2 + 2, as 1 + 1 + 3 + 2
+    ("CALLER", [], "AT MOST 5 CYCLES"),  # 1 + 2 + 2
 ]
 
 REFUSED = [
@@ -128,7 +128,7 @@ class Bound(Case):
         write(table, listing)
         for options, routine, loop in ((["--symbols", table], "SHORT", "LOOP 11"), ([], "02,4001", "02,4002 11")):
             with self.subTest(f"an image {options}"):
-                self.assertAnswer(agcws("bound", "--image", *options, "--loops", loop, rope, routine), 0, b"AT MOST 57 CYCLES\n")
+                self.assertAnswer(agcws("bound", "--image", *options, "--loops", loop, rope, routine), 0, b"AT MOST 58 CYCLES\n")
 
     def test_what_is_none(self):
         for routine, options in NONE:

@@ -118,13 +118,12 @@ through (Some t) (Some q) n = Through t (leg q n)
 through (Some t) None n = Stop Leaves
 through None q n = Stop Leaves
 
--- TC of Q, and TC of a cell of which it is said that it keeps Q, which is TC of a word that is TC again, go back
+-- TC of Q, or of a cell of which it is said that it keeps Q, goes back: the word there, an address, is executed as TC of it, so TC counts twice
 abbrev pub call : List ℕ → Site → Option ℕ → ℕ → Turn
 call kept p None n = Stop Leaves
 call kept p (Some k) n =
-    if k == return_address then Back n
-    else (if list_any (λ c. c == k) kept then Back (n + n)
-    else through (at_address p k false false) (further p 1) n)
+    if k == return_address || list_any (λ c. c == k) kept then Back (n + n)
+    else through (at_address p k false false) (further p 1) n
 
 -- Where an instruction at p leads, by its kind, the address that it names, its cycles and its channel. A jump under INDEX leads where no
 -- word tells.

@@ -165,9 +165,7 @@ fn call(kept: &[Addr12], site: &Site, address: &Option<Addr12>, cycles: u8) -> T
     let Some(address) = address else {
         return Turn::Stop(Why::Leaves);
     };
-    if address.number() == Eras::Q.number() {
-        Turn::Back(cycles)
-    } else if is_among(*address, kept) {
+    if address.number() == Eras::Q.number() || is_among(*address, kept) {
         Turn::Back(cycles + cycles)
     } else {
         through(

@@ -196,12 +196,12 @@ pub const BOUND_HELP: &str = "Files:
        --symbols is a table of names, as agcws words takes it
 
 Output: one line. Where all ways through the routine end,
-  AT MOST 57 CYCLES
-from its first word to TC Q, or to TC of a cell of --kept, both counted, over
-all ways on which no place of --loops is come to more often than is stated
-there. Each routine that is called on the way is counted from TC to its return,
-and in each of its calls comes to these places as often at most. Else the place
-where no bound was found, and why:
+  AT MOST 58 CYCLES
+from its first word to TC Q, or to TC of a cell of --kept, and the TC that is
+there, all counted, over all ways on which no place of --loops is come to more
+often than is stated there. Each routine that is called on the way is counted
+from TC to its return, and in each of its calls comes to these places as often
+at most. Else the place where no bound was found, and why:
   NO BOUND: 02,4002 IS IN A LOOP WITHOUT A BOUND
   JUMPS UNDER INDEX              where the jump goes no word tells
   LEADS TO NO KNOWN WORD         to erasable memory, or to a bank of FB
