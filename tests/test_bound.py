@@ -33,7 +33,7 @@ AGAIN   TS      OUTER
         TC      KEPTQ
         TC      KEPTQ
         TC      KEPTQ
-# CA 2; a round of the outer loop is TS 2, CA 2, the inner loop, CCS 2, TCF 1; the inner one ends with CCS 2, 2 times CA 2
+# CA 2; a round of the outer loop is TS 2, CA 2, the inner loop, CCS 2, TCF 1; the inner ends with CCS 2, CA twice
 NESTED  CA      TEN
 OUT     TS      OUTER
         CA      TEN
@@ -107,7 +107,7 @@ class Bound(Case):
 
     def setUp(self):
         super().setUp()
-        self.source = write(f"{self.room}/bound.agc", SOURCE)
+        self.source = write(f"{self.room}/bound.agc", SOURCE.encode())
 
     def test_bounds(self):
         for routine, options, line in BOUNDS:

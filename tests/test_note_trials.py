@@ -2,7 +2,7 @@
 import re
 import unittest
 
-from common import EMPTY, EXAMPLES, Case, write, write_text
+from common import EMPTY, EXAMPLES, Case, write
 import pipe
 
 LOST = f"{EXAMPLES}/lost_sum.agc"
@@ -106,7 +106,7 @@ class WhatIfNotes(Case):
         with self.subTest("cycles that fall"):
             with self.assertRaisesRegex(pipe.Refused, "E31"):
                 self.told(LOST, EMPTY, 9, ["5 RUPT 3", "4 RUPT 3"])
-        many = write_text(f"{self.room}/many.feed", "".join("1 RUPT 3\n" for _ in range(65_536)))
+        many = write(f"{self.room}/many.feed", b"1 RUPT 3\n" * 65_536)
         with self.subTest("as many inputs as there can be"):
             with self.assertRaisesRegex(pipe.Refused, "E32"):
                 self.told(LOST, many, 9, ["5 RUPT 3"])

@@ -80,7 +80,7 @@ class Restart(ViewCase):
         """A stays; extracode does not."""
         source = write(f"{self.room}/keeps.agc", KEEPS)
         with self.subTest("A"):
-            self.assertEqual(self.told(source, EMPTY, 9, "whatif RESTART 9")[2:4], ["FROM 13 TO 13 COUNT 1 ALIKE 0 OTHERS 1", "CH 010 00005"])
+            self.assertEqual(self.told(source, EMPTY, 9, "whatif RESTART 9")[2:4], ["FROM 11 TO 11 COUNT 1 ALIKE 0 OTHERS 1", "CH 010 00005"])
         # (with extracode in force 4000, EXTEND, would be another instruction)
         with self.subTest("extracode"):
             self.assertEqual(self.told(source, EMPTY, 1, "whatif RESTART 2")[2:], ["FROM 1 TO 1 COUNT 1 ALIKE 1 OTHERS 0", "END 02,4002"])

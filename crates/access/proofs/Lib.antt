@@ -1,6 +1,7 @@
 mod Slots
 pub mod Counting
 pub mod Nearest
+mod Repeating
 pub mod Sums
 pub mod Texts
 mod AccessRows

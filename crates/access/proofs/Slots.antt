@@ -1,5 +1,5 @@
 -- Two numbers of what is counted are one only where row, level and kind are.
-use Rattle.std.proofs.Common.{◌≡◌, arith}
+use Rattle.std.proofs.Common.{arith}
 use Rattle.access.specs.Accesses.{SlotsDiffer}
 
 pub slots_differ : SlotsDiffer

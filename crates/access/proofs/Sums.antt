@@ -1,5 +1,5 @@
 -- All counts add up to the reads and writes of a run.
-use Rattle.std.proofs.Common.{◌≡◌, ℕ, zero, suc, ◌+◌, ◌<◌, ◌≤◌, ◌==◌, List, [], ◌∷◌, ◌++◌, length, refl, sym, ap, ◌∙◌, inl, inr, arith}
+use Rattle.std.proofs.Common.{◌≡◌, ℕ, zero, suc, ◌+◌, ◌<◌, ◌≤◌, ◌==◌, List, [], ◌∷◌, ◌++◌, length, refl, ap, ◌∙◌, inl, inr, arith}
 use Rattle.std.proofs.Common.{if◌then◌else◌}
 use Rattle.std.specs.List.{flat_map}
 use Rattle.std.proofs.lemmas.Bool.Decides.{eqb_tells}
@@ -10,10 +10,10 @@ use Rattle.cpu.specs.Run.{run}
 use Rattle.cpu.specs.State.{Scenario}
 use Rattle.cover.specs.Tallies.{account_number}
 use Rattle.access.specs.declared.view.View.TheVariants.{All}
-use Rattle.access.specs.Accesses.{accesses, AccessesAddUp, account_in, read_cells, slot, slot_count, slots, slots_after, slots_at}
+use Rattle.access.specs.Accesses.{accesses, AccessesAddUp, account_in, read_cells, slot_count, slots, slots_after, slots_at}
 use Rattle.access.specs.Accesses.{sum_below, times, times_in}
 use Rattle.access.specs.Levels.{last_entered, level_by}
-use Rattle.access.specs.Tallies.{AreBelow, Counts, Tallied}
+use Rattle.access.specs.Below.{AreBelow}
 
 sum_of_sums : (f g : ℕ → ℕ) (n : ℕ) → sum_below (λ i. f i + g i) n ≡ sum_below f n + sum_below g n
 sum_of_sums f g zero = refl

@@ -13,6 +13,6 @@ pub text_is : (view : View) (symbols : SymbolTable) (scenario : Scenario) (n : �
     → Counts view scenario n t → words ≡ scenario.rope
     → rows_text t.view symbols words (λ i. get_or t.counts i 0) ≡ access_text view symbols scenario n
 text_is view symbols scenario n t words counts e =
-    ap (λ v. rows_text v symbols words (λ i. get_or t.counts i 0)) counts.same
+    ap (λ v. rows_text v symbols words (λ i. get_or t.counts i 0)) counts.keeps.same
     ∙ ap (λ f. rows_text view symbols words f) (times_are view scenario n t counts)
     ∙ ap (λ w. rows_text view symbols w (times view scenario n)) e

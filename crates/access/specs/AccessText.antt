@@ -3,7 +3,7 @@ use Rattle.std.specs.Prelude.{ℕ, zero, suc, ◌+◌, ◌-◌, ◌*◌, ◌/◌
 use Rattle.std.specs.Prelude.{decimal, if◌then◌else◌}
 use Rattle.std.specs.List.{flat_map, range_with_len}
 use Rattle.space.specs.Cells.{erasable_count}
-use Rattle.space.specs.declared.place.Linear.TheVariants.{Erasable, Fixed}
+use Rattle.space.specs.declared.place.Linear.TheVariants.{Erasable}
 use Rattle.rope.specs.Places.{Words, bank_words}
 use Rattle.symbols.specs.Values.{SymbolTable}
 use Rattle.yayul.specs.Listing.{place_text}

@@ -1,5 +1,5 @@
 -- How a cell is told: by its name, or by the nearest name before it, as VEL +1, or as a listing has it; or a channel.
-use Rattle.std.specs.Prelude.{ℕ, ◌*◌, nat_lt, List, ◌++◌, unwrap_or, Option, None, Some, if◌then◌else◌}
+use Rattle.std.specs.Prelude.{ℕ, nat_lt, List, ◌++◌, unwrap_or, Option, None, Some, if◌then◌else◌}
 use Rattle.space.specs.Cells.{erasable_count}
 use Rattle.space.specs.declared.place.Linear.TheVariants.{Erasable}
 use Rattle.symbols.specs.Values.{SymbolTable}

@@ -31,11 +31,15 @@ unfoldable pub last_entered : Scenario → ℕ → ℕ
 last_entered scenario zero = 0
 last_entered scenario (suc n) = entered_by (next_step scenario (run scenario n)) (last_entered scenario n)
 
+-- the level of an instruction that a state executes, where an interrupt was entered last
+abbrev pub level_executed : State → ℕ → ℕ
+level_executed s last = if s.inside then last else (if s.inhibit then inhibited else allowed)
+
 -- the level of a step that follows a state, where an interrupt was entered last; an entry is of the interrupt that is entered
 abbrev pub level_by : NextStep → State → ℕ → ℕ
 level_by (Takes input) s last = by_input
 level_by (Enters k) s last = k
-level_by (Executes f) s last = if s.inside then last else (if s.inhibit then inhibited else allowed)
+level_by (Executes f) s last = level_executed s last
 
 -- the name of a level
 abbrev pub level_name : ℕ → List ℕ

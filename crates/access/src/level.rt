@@ -2,7 +2,7 @@
 
 ghost use Rattle.std.specs.Prelude.{◌≡◌, ◌<◌, ◌≤◌, length};
 ghost use Rattle.access.specs.Accesses.{account_in};
-ghost use Rattle.access.specs.Levels.{entered_by, level_by, level_name, levels};
+ghost use Rattle.access.specs.Levels.{entered_by, level_by, level_executed, level_name, levels};
 
 use cpu::{Account, Machine, NextStep};
 use feed::interrupt::Interrupt;
@@ -29,15 +29,22 @@ pub fn level_of(step: &NextStep, machine: &Machine, last: usize) -> usize
     match step {
         NextStep::Takes(_) => BY_INPUT,
         NextStep::Enters(interrupt) => usize::from(interrupt.number()),
-        NextStep::Executes(_) => {
-            if machine.inside() {
-                last
-            } else if machine.inhibit() {
-                INHIBITED
-            } else {
-                ALLOWED
-            }
-        }
+        NextStep::Executes(_) => level_executed(machine, last),
+    }
+}
+
+/// The level of a step that executes an instruction.
+pub(crate) fn level_executed(machine: &Machine, last: usize) -> usize
+    requires { last ≤ 10 }
+    ensures level { result ≡ level_executed machine.now last }
+    ensures within { result < levels }
+{
+    if machine.inside() {
+        last
+    } else if machine.inhibit() {
+        INHIBITED
+    } else {
+        ALLOWED
     }
 }
 

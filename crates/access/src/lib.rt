@@ -3,10 +3,12 @@
 
 mod asked;
 mod cell;
+mod kept;
 pub mod laws;
 mod level;
 mod rows;
 mod shared;
+mod step_slots;
 mod tally;
 mod text;
 mod view;

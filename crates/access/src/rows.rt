@@ -10,7 +10,8 @@ ghost use Rattle.access.specs.Levels.{level_name, levels};
 ghost use Rattle.trace.specs.TraceLines.{field};
 
 use crate::level::{LEVELS, level_name};
-use crate::tally::{Tally, slot_of};
+use crate::step_slots::slot_of;
+use crate::tally::Tally;
 use arrayvec::ArrayVec;
 use trace::decimal_text;
 use words::push_all;

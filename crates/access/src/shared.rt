@@ -6,7 +6,8 @@ ghost use Rattle.access.specs.AccessText.{any_does, interrupt_does, is_shared, i
 ghost use Rattle.access.specs.declared.view.View.TheVariants.{All};
 
 use crate::level::{ALLOWED, LEVELS};
-use crate::tally::{ROW, Tally, slot_of};
+use crate::step_slots::{ROW, slot_of};
+use crate::tally::Tally;
 
 /// The last of the registers, which are told as shared never.
 const LAST_REGISTER: usize = 6;

@@ -1,55 +1,49 @@
 //! The counts of a run.
 
-ghost use Rattle.std.specs.Prelude.{◌≡◌, ◌+◌, ◌*◌, ◌-◌, ◌<◌, ◌≤◌, ◌^◌, ◌∷◌, [], IfOk, IfSome, get_or, length, ℕ};
-ghost use Rattle.cover.specs.Tallies.{account_count};
-ghost use Rattle.cpu.specs.Links.{link, targets};
+ghost use Rattle.std.specs.Prelude.{◌≡◌, ◌+◌, ◌*◌, ◌-◌, ◌<◌, ◌≤◌, ◌^◌, IfOk, get_or, set, length, ℕ, replicate, true};
+ghost use Rattle.cover.specs.Tallies.{account_count, account_number, is_account};
 ghost use Rattle.cpu.specs.Next.{next};
 ghost use Rattle.cpu.specs.NextStep.{next_step};
-ghost use Rattle.cpu.specs.Reads.{reads};
+ghost use Rattle.cpu.specs.Profiles.{account_of};
 ghost use Rattle.cpu.specs.Run.{run};
 ghost use Rattle.cpu.specs.State.{FitsRun, Scenario};
-ghost use Rattle.std.specs.List.{flat_map};
-ghost use Rattle.access.specs.Accesses.{cell_in, row_count, row_in, slot, slot_count, slots, slots_after};
-ghost use Rattle.access.specs.Levels.{entered_by, levels};
-ghost use Rattle.access.specs.Tallies.{all_counted, AreAtMost, AreBelow, counted, Counts};
+ghost use Rattle.access.specs.Accesses.{row_count, slot_count, slots_after, times_in};
+ghost use Rattle.access.specs.Below.{AreBelow};
+ghost use Rattle.access.specs.Repeats.{AreFewKept, AreKept, kind_of, no_kept, owed_by, repeats};
+ghost use Rattle.access.specs.Tallies.{Counts, CountsStep, Keeps, sum_in};
 
-use crate::level::{account_in, last_after, level_of};
+use crate::kept::{Kept, Kind, Slots, kind_of};
+use crate::level::last_after;
+use crate::step_slots::{ROW, rows_of, slots_after};
 use crate::view::View;
 use cover::{ACCOUNTS, number_of};
-use cpu::{Cell, Machine, Processor, Spot};
+use cpu::{Account, Machine, NextStep, Processor};
+use space::{Eras, Linear};
 use std::alloc::{AllocError, Global};
 use std::marker::Model;
+use words::Overflow;
 
-/// How many cells there are.
-const CELLS: usize = 0o5000;
-
-/// How many counts a row has: reads and writes at each level.
-pub(crate) const ROW: usize = 26;
-
-/// How often a step has read.
-const READS: usize = 0;
-
-/// How often it has written.
-const WRITES: usize = 1;
-
-/// The counts of a run, and the interrupt that was entered last, 0 where none was.
+/// The counts of a run, what is kept at each account, and the interrupt that was entered last, 0 where none was.
 #[derive(Drop)]
 pub struct Tally {
     view: View,
     counts: Vec<u64>,
+    kept: Vec<Kept>,
     last: usize,
 }
 
 impl Model for Tally {
     ghost use Rattle.std.specs.Prelude.{◌≡◌, ◌≤◌, vec_len};
+    ghost use Rattle.cover.specs.Tallies.{account_count};
     ghost use Rattle.access.specs.Accesses.{slot_count};
     ghost use Rattle.access.specs.Tallies.{Tallied};
 
     ghost Value = { Tallied };
 
-    ghost view = { λ t. record { view = t.view; counts = t.counts.items; last = t.last } };
+    ghost view = { λ t. record { view = t.view; counts = t.counts.items; kept = t.kept.items; last = t.last } };
 
-    ghost invariant = { λ t. (vec_len t.counts ≡ slot_count t.view) × (t.last ≤ 10) };
+    ghost invariant = { λ t. (vec_len t.counts ≡ slot_count t.view) × (vec_len t.kept ≡ account_count)
+        × (t.last ≤ 10) };
 }
 
 impl Tally {
@@ -59,9 +53,11 @@ impl Tally {
     {
         let size = ROW * rows_of(&view);
         let counts = vec![in alloc; 0u64; size]?;
+        let kept = nothing_kept(alloc)?;
         Ok(Tally {
             view,
             counts,
+            kept,
             last: 0,
         })
     }
@@ -106,154 +102,226 @@ impl Tally {
         ensures state { machine.new ≡ run processor.old.scenario stop }
         ensures counts { Counts self.old.view processor.old.scenario stop self.new }
     {
+        self.keep_steps(processor, machine, done, stop);
+        self.settle();
+    }
+
+    /// The same, where counts may be kept.
+    fn keep_steps(&mut self, processor: &mut Processor, machine: &mut Machine, done: u64, stop: u64)
+        requires within { done ≤ stop }
+        requires few { stop ≤ 2 ^ 40 }
+        requires state { machine.old ≡ run processor.old.scenario done }
+        requires keeps { Keeps self.old.view processor.old.scenario done self.old }
+        ensures scenario { processor.new.scenario ≡ processor.old.scenario }
+        ensures state { machine.new ≡ run processor.old.scenario stop }
+        ensures keeps { Keeps self.old.view processor.old.scenario stop self.new }
+    {
         for _ in done..stop {
             self.step(processor, machine);
         }
     }
 
-    /// Makes a step, and counts what it reads and writes. What it puts out is passed over.
-    #[tactic(auto, using(crate::proofs::Counting::counted_append, crate::proofs::Counting::below_append), unfolding(crate::specs::Accesses::slots_after))]
+    /// Makes a step, and counts what it reads and writes, or keeps that. What it puts out is passed over.
     fn step(&mut self, processor: &mut Processor, machine: &mut Machine)
         requires cycles { machine.old.cycles ≤ 2 ^ 62 }
         requires fits { FitsRun processor.old.scenario machine.old }
-        requires small { AreAtMost self.old.counts (2 ^ 62) }
+        requires small { (i : ℕ) → sum_in self.old i ≤ 2 ^ 62 }
+        requires few { AreFewKept self.old.kept (2 ^ 62) }
+        requires kept { AreKept self.old.view processor.old.scenario.rope self.old.kept }
         ensures scenario { processor.new.scenario ≡ processor.old.scenario }
         ensures state { machine.new ≡ (next processor.old.scenario machine.old).0 }
-        ensures view { self.new.view ≡ self.old.view }
-        ensures last { self.new.last ≡ entered_by (next_step processor.old.scenario machine.old) self.old.last }
-        ensures known { AreBelow (slot_count self.old.view)
-            (slots_after self.old.view processor.old.scenario machine.old self.old.last) }
-        ensures few { length (slots_after self.old.view processor.old.scenario machine.old self.old.last) ≤ 18 }
-        ensures counts { self.new.counts ≡ all_counted self.old.counts
-            (slots_after self.old.view processor.old.scenario machine.old self.old.last) }
+        ensures counts { CountsStep processor.old.scenario machine.old self.old self.new }
     {
-        let step = processor.next_step(machine);
-        let number = number_of(account_in(&step));
-        let level = level_of(&step, machine, self.last);
-        let spots = processor.reads(machine);
-        let cells = processor.targets(machine);
-        self.count_reads(number, level, spots.as_slice());
-        self.count_writes(number, level, cells.as_slice());
-        self.last = last_after(&step, self.last);
+        self.count_step(processor, machine);
         processor.step(machine);
     }
 
-    /// Counts what a step at an account and at a level reads.
-    fn count_reads(&mut self, number: usize, level: usize, spots: &[Spot])
-        requires number { number < account_count }
-        requires level { level < levels }
-        requires few { length spots.now ≤ 8 }
-        requires small { AreAtMost self.old.counts (2 ^ 62) }
-        ensures view { self.new.view ≡ self.old.view }
-        ensures last { self.new.last ≡ self.old.last }
-        ensures counts { self.new.counts ≡ all_counted self.old.counts
-            (flat_map (slots self.old.view number level 0) (flat_map cell_in spots.now)) }
-        ensures known { AreBelow (slot_count self.old.view)
-            (flat_map (slots self.old.view number level 0) (flat_map cell_in spots.now)) }
-        ensures short { length (flat_map (slots self.old.view number level 0) (flat_map cell_in spots.now)) ≤ 8 }
-        ensures small { AreAtMost self.new.counts (2 ^ 62 + 8) }
+    /// Counts what the next step reads and writes, or keeps that.
+    fn count_step(&mut self, processor: &Processor, machine: &Machine)
+        requires fits { FitsRun processor.now.scenario machine.now }
+        requires small { (i : ℕ) → sum_in self.old i ≤ 2 ^ 62 }
+        requires few { AreFewKept self.old.kept (2 ^ 62) }
+        requires kept { AreKept self.old.view processor.now.scenario.rope self.old.kept }
+        ensures { CountsStep processor.now.scenario machine.now self.old self.new }
     {
-        for spot in spots {
-            self.count_spot(number, level, spot);
+        let account = processor.account(machine);
+        let number = number_of(account);
+        let kind = kind_of(machine, self.last);
+        if !repeats(&account, machine) {
+            self.count_once(processor, machine);
+        } else if self.kept[number].is_of(&kind) {
+            self.keep_again(processor, machine, number);
+        } else {
+            self.keep(processor, machine, number, kind);
         }
     }
 
-    /// Counts that a step reads a spot.
-    fn count_spot(&mut self, number: usize, level: usize, spot: &Spot)
+    /// Keeps that the next step, which is of the account and the kind of those that are kept there, is made once more.
+    #[inline(always)]
+    fn keep_again(&mut self, processor: &Processor, machine: &Machine, number: usize)
         requires number { number < account_count }
-        requires level { level < levels }
-        requires small { AreAtMost self.old.counts (2 ^ 62 + 7) }
+        requires known { is_account (account_of processor.now.scenario machine.now) ≡ true }
+        requires account { number ≡ account_number (account_of processor.now.scenario machine.now) }
+        requires kind { (get_or self.old.kept number no_kept).kind ≡ kind_of machine.now self.old.last }
+        requires repeats { repeats processor.now.scenario machine.now ≡ true }
+        requires few { AreFewKept self.old.kept (2 ^ 62) }
+        requires kept { AreKept self.old.view processor.now.scenario.rope self.old.kept }
+        ensures { CountsStep processor.now.scenario machine.now self.old self.new }
+    {
+        let (_processor, _machine) = (processor, machine);
+        self.again_at(number);
+    }
+
+    /// Counts what the next step reads and writes.
+    #[tactic(auto, using(crate::proofs::Counting::step_once, crate::proofs::Counting::once_fits))]
+    fn count_once(&mut self, processor: &Processor, machine: &Machine)
+        requires fits { FitsRun processor.now.scenario machine.now }
+        requires small { (i : ℕ) → sum_in self.old i ≤ 2 ^ 62 }
+        requires kept { AreKept self.old.view processor.now.scenario.rope self.old.kept }
+        ensures { CountsStep processor.now.scenario machine.now self.old self.new }
+    {
+        let step = processor.next_step(machine);
+        let slots = slots_after(&self.view, processor, machine, &step, self.last);
+        pay(&mut self.counts, slots.as_slice(), 1);
+        self.last = last_after(&step, self.last);
+    }
+
+    /// Keeps what the next step reads and writes, of an account and a kind, in place of what was kept there, which is
+    /// counted.
+    fn keep(&mut self, processor: &Processor, machine: &Machine, number: usize, kind: Kind)
+        requires fits { FitsRun processor.now.scenario machine.now }
+        requires number { number < account_count }
+        requires known { is_account (account_of processor.now.scenario machine.now) ≡ true }
+        requires account { number ≡ account_number (account_of processor.now.scenario machine.now) }
+        requires kind { kind ≡ kind_of machine.now self.old.last }
+        requires repeats { repeats processor.now.scenario machine.now ≡ true }
+        requires small { (i : ℕ) → sum_in self.old i ≤ 2 ^ 62 }
+        requires kept { AreKept self.old.view processor.now.scenario.rope self.old.kept }
+        ensures { CountsStep processor.now.scenario machine.now self.old self.new }
+    {
+        let step = processor.next_step(machine);
+        let slots = self.slots_now(processor, machine, &step);
+        self.settle_at(number);
+        self.put_at(number, Kept::first(kind, slots));
+    }
+
+    /// What the next step counts.
+    fn slots_now(&self, processor: &Processor, machine: &Machine, step: &NextStep) -> Slots
+        requires fits { FitsRun processor.now.scenario machine.now }
+        requires step { step.now ≡ next_step processor.now.scenario machine.now }
+        ensures items { result.items ≡ slots_after self.now.view processor.now.scenario machine.now self.now.last }
+        ensures known { AreBelow (slot_count self.now.view)
+            (slots_after self.now.view processor.now.scenario machine.now self.now.last) }
+        ensures short { length (slots_after self.now.view processor.now.scenario machine.now self.now.last) ≤ 18 }
+    {
+        slots_after(&self.view, processor, machine, step, self.last)
+    }
+
+    /// A step more is kept at an account.
+    #[inline(always)]
+    fn again_at(&mut self, number: usize)
+        requires number { number < account_count }
+        requires few { (get_or self.old.kept number no_kept).count ≤ 2 ^ 62 }
+        ensures all { length self.old.kept ≡ account_count }
+        ensures last { self.old.last ≤ 10 }
+        ensures value { self.new ≡ record self.old {
+          kept = set self.old.kept number (record (get_or self.old.kept number no_kept) {
+            count = (get_or self.old.kept number no_kept).count + 1;
+          });
+        } }
+    {
+        self.kept[number].again();
+    }
+
+    /// Keeps something else at an account.
+    fn put_at(&mut self, number: usize, kept: Kept)
+        requires number { number < account_count }
+        ensures { self.new ≡ record self.old { kept = set self.old.kept number kept } }
+    {
+        self.kept[number] = kept;
+    }
+
+    /// Counts all that is kept.
+    fn settle(&mut self)
+        requires small { (i : ℕ) → sum_in self.old i ≤ 2 ^ 62 }
+        requires kept { (j : ℕ) → AreBelow (slot_count self.old.view) (get_or self.old.kept j no_kept).slots }
         ensures view { self.new.view ≡ self.old.view }
         ensures last { self.new.last ≡ self.old.last }
-        ensures counts { self.new.counts ≡ all_counted self.old.counts
-            (flat_map (slots self.old.view number level 0) (cell_in spot.now)) }
-        ensures known { AreBelow (slot_count self.old.view)
-            (flat_map (slots self.old.view number level 0) (cell_in spot.now)) }
-        ensures short { length (flat_map (slots self.old.view number level 0) (cell_in spot.now)) ≤ 1 }
-        ensures small { (most : ℕ) → AreAtMost self.old.counts most → AreAtMost self.new.counts (most + 1) }
+        ensures each { length self.new.counts ≡ slot_count self.new.view }
+        ensures all { length self.new.kept ≡ account_count }
+        ensures sums { (i : ℕ) → sum_in self.new i ≡ sum_in self.old i }
+        ensures settled { AreFewKept self.new.kept 0 }
+        ensures slots { (j : ℕ) → (get_or self.new.kept j no_kept).slots ≡ (get_or self.old.kept j no_kept).slots }
+        ensures kinds { (j : ℕ) → (get_or self.new.kept j no_kept).kind ≡ (get_or self.old.kept j no_kept).kind }
     {
-        if let Spot::Cell(cell) = spot {
-            self.count_cell(number, level, READS, *cell);
+        let _ = &self.view;
+        for number in 0..ACCOUNTS {
+            self.settle_at(number);
         }
     }
 
-    /// Counts what a step at an account and at a level writes.
-    fn count_writes(&mut self, number: usize, level: usize, cells: &[Cell])
+    /// Counts what is kept at an account.
+    #[tactic(auto, using(crate::proofs::Counting::settling_fits))]
+    fn settle_at(&mut self, number: usize)
         requires number { number < account_count }
-        requires level { level < levels }
-        requires few { length cells.now ≤ 10 }
-        requires small { AreAtMost self.old.counts (2 ^ 62 + 8) }
+        requires small { (i : ℕ) → sum_in self.old i ≤ 2 ^ 62 }
+        requires below { AreBelow (slot_count self.old.view) (get_or self.old.kept number no_kept).slots }
         ensures view { self.new.view ≡ self.old.view }
         ensures last { self.new.last ≡ self.old.last }
-        ensures counts { self.new.counts ≡ all_counted self.old.counts
-            (flat_map (slots self.old.view number level 1) cells.now) }
-        ensures known { AreBelow (slot_count self.old.view) (flat_map (slots self.old.view number level 1) cells.now) }
-        ensures short { length (flat_map (slots self.old.view number level 1) cells.now) ≤ 10 }
+        ensures each { length self.new.counts ≡ length self.old.counts }
+        ensures all { length self.old.kept ≡ account_count }
+        ensures counts { (i : ℕ) → get_or self.new.counts i 0
+            ≡ get_or self.old.counts i 0 + owed_by (get_or self.old.kept number no_kept) i }
+        ensures kept { self.new.kept
+            ≡ set self.old.kept number (record (get_or self.old.kept number no_kept) { count = 0 }) }
     {
-        for cell in cells {
-            self.count_cell(number, level, WRITES, *cell);
-        }
-    }
-
-    /// Counts that a step reads (0) or writes (1) a cell.
-    fn count_cell(&mut self, number: usize, level: usize, kind: usize, cell: Cell)
-        requires number { number < account_count }
-        requires level { level < levels }
-        requires kind { kind < 2 }
-        requires small { AreAtMost self.old.counts (2 ^ 62 + 20) }
-        ensures view { self.new.view ≡ self.old.view }
-        ensures last { self.new.last ≡ self.old.last }
-        ensures counts { self.new.counts ≡ all_counted self.old.counts (slots self.old.view number level kind cell) }
-        ensures known { AreBelow (slot_count self.old.view) (slots self.old.view number level kind cell) }
-        ensures short { length (slots self.old.view number level kind cell) ≤ 1 }
-        ensures small { (most : ℕ) → AreAtMost self.old.counts most → AreAtMost self.new.counts (most + 1) }
-    {
-        if let Some(row) = row_in(&self.view, number, cell) {
-            self.count_at(slot_of(row, level, kind));
-        }
-    }
-
-    /// Counts a number once more.
-    fn count_at(&mut self, number: usize)
-        requires within { number < slot_count self.old.view }
-        requires small { get_or self.old.counts number 0 ≤ 2 ^ 63 }
-        ensures view { self.new.view ≡ self.old.view }
-        ensures last { self.new.last ≡ self.old.last }
-        ensures counts { self.new.counts ≡ counted self.old.counts number }
-    {
-        self.counts[number] += 1;
+        let kept = &mut self.kept[number];
+        pay(&mut self.counts, kept.slots(), kept.count());
+        kept.settle();
     }
 }
 
-/// The row at which a cell is counted where a step at an account uses it, if it is.
-fn row_in(view: &View, number: usize, cell: Cell) -> Option<usize>
-    requires { number < account_count }
-    ensures row { result ≡ row_in view.now number cell }
-    ensures within { IfSome result (λ row. row < row_count view.now) }
+/// Nothing is kept at any account.
+fn nothing_kept(alloc: Global) -> Result<Vec<Kept>, AllocError>
+    ensures { IfOk result (λ kept. kept.items ≡ replicate account_count no_kept) }
 {
-    match view {
-        View::All => Some(usize::from(cell.number())),
-        View::One(one) => { if cell == *one { Some(number) } else { None } }
+    let mut kept = Vec::with_capacity(alloc, ACCOUNTS)?;
+    for _ in 0..ACCOUNTS {
+        kept.push(Kept::none())?;
+    }
+    Ok(kept)
+}
+
+/// Whether the next step, which is of an account, repeats.
+fn repeats(account: &Account, machine: &Machine) -> bool
+    ensures { (scenario : Scenario) → account_of scenario machine.now ≡ account.now
+        → result ≡ repeats scenario machine.now }
+{
+    match account {
+        Account::Place(Linear::Fixed(_, _)) => {
+            machine.waiting_sum().is_none() && machine.reg(Eras::A).overflow() == Overflow::No
+        }
+        _ => false,
     }
 }
 
-/// How many rows there are.
-fn rows_of(view: &View) -> usize
-    ensures rows { result ≡ row_count view.now }
-    ensures few { result ≤ 50000 }
+/// Counts some numbers so many times more.
+fn pay(counts: &mut [u64], slots: &[u32], times: u64)
+    requires known { AreBelow (length counts.old) slots.now }
+    requires small { (i : ℕ) → get_or counts.old i 0 + times * times_in i slots.now ≤ 2 ^ 63 }
+    ensures each { length counts.new ≡ length counts.old }
+    ensures paid { (i : ℕ) → get_or counts.new i 0 ≡ get_or counts.old i 0 + times * times_in i slots.now }
 {
-    match view {
-        View::All => CELLS,
-        View::One(_) => ACCOUNTS,
+    for slot in slots {
+        pay_one(counts, *slot as usize, times);
     }
 }
 
-/// The number of what is counted: of a row, at a level, reads (0) or writes (1).
-pub(crate) fn slot_of(row: usize, level: usize, kind: usize) -> usize
-    requires row { row ≤ 50000 }
-    requires level { level < levels }
-    requires kind { kind < 2 }
-    ensures { result ≡ slot row level kind }
+/// Counts a number so many times more.
+fn pay_one(counts: &mut [u64], slot: usize, times: u64)
+    requires within { slot < length counts.old }
+    requires small { get_or counts.old slot 0 + times ≤ 2 ^ 63 }
+    ensures { counts.new ≡ set counts.old slot (get_or counts.old slot 0 + times) }
 {
-    ROW * row + (2 * level + kind)
+    counts[slot] += times;
 }

@@ -290,7 +290,7 @@ static WHATIF_ROWS: [Row; 11] = [
     Row {
         name: NOTES,
         long: Some("notes"),
-        help: "Tells what they change in the notes in place of what they put out",
+        help: "Tells which notes come and go in place of words",
         ..FLAG
     },
     Row {

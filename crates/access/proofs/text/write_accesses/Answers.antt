@@ -1,6 +1,5 @@
-use Rattle.std.proofs.Common.{◌∙◌, refl, get_or, arith}
+use Rattle.std.proofs.Common.{◌∙◌, get_or, arith}
 use Rattle.std.proofs.lemmas.Result.{err_from_is_err_and}
-use Rattle.words.proofs.Texts.{append-nothing}
 use Rattle.audit.proofs.PartTexts.{begins_parts, front_ends, writes_more}
 use Rattle.access.specs.Accesses.{row_count}
 use Rattle.access.specs.AccessText.{row_text, rows_text}

@@ -1,24 +1,7 @@
-use Rattle.std.proofs.Common.{◌∙◌, arith}
-use Rattle.cover.proofs.Counting.{few_cycles, fits_after, state_more}
-use Rattle.access.proofs.Counting.{counts_more, small}
+use Rattle.access.proofs.Counting.{counts_settled}
 use Rattle.access.proofs.tally.Tally.make_steps.Goals as goal
 
-pub step-requires-clause-cycles : goal.step-requires-clause-cycles
-step-requires-clause-cycles c = few_cycles c.args.processor.now.scenario c.loop.counter _ c.loop.invariant.state
-    (omega (arith, c.loop-test.true))
-
-pub step-requires-clause-fits : goal.step-requires-clause-fits
-step-requires-clause-fits c = fits_after c.args.processor.now.scenario _ c.loop.counter _ c.loop.invariant.scenario c.loop.invariant.state
-
-pub step-requires-clause-small : goal.step-requires-clause-small
-step-requires-clause-small c = small _ c.args.processor.now.scenario c.loop.counter _ (omega (arith, c.loop-test.true))
-    c.loop.invariant.counts
-
-pub loop-preserved : goal.loop-preserved
-loop-preserved c = record {
-  scenario = c.step.ensures.scenario ∙ c.loop.invariant.scenario;
-  state = state_more c.args.processor.now.scenario _ c.loop.counter _ _ c.loop.invariant.scenario c.loop.invariant.state
-      c.step.ensures.state;
-  counts = counts_more _ c.args.processor.now.scenario _ c.loop.counter _ _ _ c.loop.invariant.scenario c.loop.invariant.state
-      c.loop.invariant.counts c.step.ensures.view c.step.ensures.last c.step.ensures.known c.step.ensures.few c.step.ensures.counts;
-}
+pub returns-clause-counts : goal.returns-clause-counts
+returns-clause-counts c = counts_settled _ _ _ _ _ c.keep_steps.ensures.keeps c.settle.ensures.view c.settle.ensures.last
+    c.settle.ensures.each c.settle.ensures.all c.settle.ensures.sums c.settle.ensures.settled c.settle.ensures.slots
+    c.settle.ensures.kinds
