@@ -38,7 +38,8 @@ few_span pending cycle a span n few made = rw made (few_open pending cycle a n f
 
 pub text_parts : (named : Named) (from : ℕ) (scenario : Scenario) (trials : List Plain) (steps : ℕ) (without : List Note)
     → without ≡ notes_of named from scenario steps
-    → trials_text named from scenario trials steps ≡ without_text without ++ spans_text None (changes named without from scenario steps trials)
+    → trials_text named from scenario trials steps
+    ≡ without_text without ++ spans_text None (changes named without from scenario steps trials)
 unfolding trials_text
 text_parts named from scenario trials steps without is = rw is refl
 
