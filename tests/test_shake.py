@@ -274,7 +274,7 @@ class Shake(ViewCase):
         mine = write(f"{self.room}/mine.txt", b"a letter\n")
         with self.subTest("what is no such file"):
             self.assertEqual((call(*asked[:-1], mine)[0], text_at(mine)), (2, "a letter\n"))
-        at = Terminal(f"{VIEWS}/shake", LOST[0], "3000000", "TIME3 PINC", "--to", "30", "--jobs", "1")
+        at = Terminal(f"{VIEWS}/shake", LOST[0], "800000", "TIME3 PINC", "--to", "30", "--jobs", "1")
         shown = at.type(b"", b"s left")
         with self.subTest("progress at a terminal"):
             self.assertIn(b" of 30, ", shown, f"{shown!r}")

@@ -151,7 +151,7 @@ def results_of(plan, numbers):
 
 
 def results_in_window(plan, draw, numbers):
-    """What comes of some runs of a draw. Of runs one after another that put out the same the first tells the notes and the tests of all."""
+    """What comes of some runs of a draw. Of runs one after another that put out the same, and have the same notes of steps, the first tells the notes and the tests of all."""
     feed = feed_with(plan.feed, drawn_at(plan, draw))
     words = [*plan.options, source_at(plan.source)]
     lines = [f"{draw_of(plan, it)[1]} {plan.window[2]}" for it in numbers]
@@ -160,7 +160,8 @@ def results_in_window(plan, draw, numbers):
         file.write(feed)
         file.flush()
         left, found = iter(numbers), []
-        for span in whatif.spans(words, file.name, plan.steps, lines, base):
+        spans = whatif.noted_spans if plan.has_notes else whatif.spans
+        for span in spans(words, file.name, plan.steps, lines, base):
             own = list(islice(left, span.count))
             made = result_of(plan, own[0])
             found += [(it, made) for it in own]

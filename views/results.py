@@ -5,10 +5,11 @@ from typing import NamedTuple
 
 
 class Result(NamedTuple):
-    """What comes of a run: the words that each channel gets, in their order, and the notes, each a kind and where."""
+    """What comes of a run: the words that each channel gets, in their order; the notes, each a kind and where; and beside another those of its notes that are gone."""
 
     words: tuple
     notes: tuple
+    gone: tuple = ()
 
 
 def words_of(outputs):
@@ -65,23 +66,30 @@ def first_words(usual, result):
 
 
 def differences(usual, result):
-    """The first word of each channel that differs, and the first note."""
+    """The first word of each channel that differs, the first note, and the first that is gone."""
     for channel, number, old, new in first_words(usual, result):
         which = "" if isinstance(channel, str) else f" word {number}"
         yield f"{name_of(channel)}{which} is {word_or_none(new)} in place of {word_or_none(old)}"
     if result.notes:
-        yield f"{' '.join(('NOTE', *result.notes[0])).strip()}{f' and {len(result.notes) - 1} more' if len(result.notes) > 1 else ''}"
+        yield first_note("NOTE", result.notes)
+    if result.gone:
+        yield first_note("gone is NOTE", result.gone)
+
+
+def first_note(said, notes):
+    """The first of some notes, and how many more there are."""
+    return f"{' '.join((said, *notes[0])).strip()}{f' and {len(notes) - 1} more' if len(notes) > 1 else ''}"
 
 
 def shape(usual, result):
-    """How a run differs from the usual, without the words: channels that get other words, fewer or more, and the kinds of notes."""
+    """How a run differs from the usual, without the words: channels that get other words, fewer or more, the kinds of notes, and of those that are gone."""
     was, now = dict(usual.words), dict(result.words)
     channels = []
     for it in sorted({*was, *now}, key=name_of):
         old, new = was.get(it, ()), now.get(it, ())
         if old != new:
             channels.append((it, "fewer" if begin(((it, new),), ((it, old),)) else "more" if begin(((it, old),), ((it, new),)) else "other"))
-    return tuple(channels), frozenset(kind for kind, _ in result.notes)
+    return tuple(channels), frozenset(kind for kind, _ in result.notes), frozenset(kind for kind, _ in result.gone)
 
 
 def word_or_none(word):

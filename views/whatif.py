@@ -23,17 +23,22 @@ class Span(NamedTuple):
     differs: tuple
 
 
-def spans(words, feed, steps, trials, base):
-    """What comes of trials, the lines of a feed in the order of their cycles, each of them alone. The program and its options are some words; the feed is a file; and
-    without a trial so many steps put out what stands in a list."""
+def told_of_trials(option, words, feed, steps, trials):
+    """The lines that `agcws whatif` tells of trials."""
     try:
-        told = iter(pipe.answer("whatif", *words, feed, str(steps), "/dev/stdin", given="".join(f"{it}\n" for it in trials))[0].splitlines())
+        return iter(pipe.answer("whatif", *option, *words, feed, str(steps), "/dev/stdin", given="".join(f"{it}\n" for it in trials))[0].splitlines())
     except pipe.Refused as refused:
         # (a fault of a trial is told by its line)
         found = re.fullmatch(r"/dev/stdin: (E\d+) LINE (\d+)", str(refused))
         if not found:
             raise
         raise pipe.Refused(refused.status, f"{trials[int(found[2]) - 1].partition(' ')[2]}: {found[1]}") from None
+
+
+def spans(words, feed, steps, trials, base):
+    """What comes of trials, the lines of a feed in the order of their cycles, each of them alone. The program and its options are some words; the feed is a file; and
+    without a trial so many steps put out what stands in a list."""
+    told = told_of_trials([], words, feed, steps, trials)
     # (the run without a trial, and its end)
     next(told), next(told)
     for line in told:
@@ -42,6 +47,32 @@ def spans(words, feed, steps, trials, base):
         end, *differs = END.fullmatch(next(told)).groups()
         outputs = base[: int(alike)] + [pipe.Output(0, int(channel, 8), int(word, 8)) for channel, word in more]
         yield Span(int(count), outputs, bool(is_lost), bool(is_never), end, tuple(differs))
+
+
+def note_changes(words, feed, steps, trials):
+    """Which notes come and go with trials, as `spans` takes them: how many one after another change the same, and the lines that tell what."""
+    count, lines = 0, []
+    for line in told_of_trials(["--notes"], words, feed, steps, trials):
+        if line.startswith("FROM "):
+            if count:
+                yield count, tuple(lines)
+            count, lines = int(line.split()[-1]), []
+        elif not line.startswith("NOTE "):
+            lines.append(line)
+    if count:
+        yield count, tuple(lines)
+
+
+def noted_spans(words, feed, steps, trials, base):
+    """The same as `spans`, where each span has trials alone with which the same notes come and go."""
+    changed, left = note_changes(words, feed, steps, trials), 0
+    for span in spans(words, feed, steps, trials, base):
+        rest = span.count
+        while rest:
+            left = left or next(changed)[0]
+            count = min(rest, left)
+            yield span._replace(count=count)
+            rest, left = rest - count, left - count
 
 
 def changes(words, feed, steps, cycles, text):
