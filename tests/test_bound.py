@@ -1,7 +1,7 @@
 """The most cycles of routines, counted by hand from the manual's table of cycles, and each cause why none is told."""
 import unittest
 
-from common import PROGRAM, Case, agcws, write
+from common import EXAMPLES, PROGRAM, Case, agcws, write
 
 # Cycles: TC, TCF and EXTEND 1, and TC Q 2, its own and that of the TC in Q; BZF 1 where it jumps, else 2; DXCH 3; the others here 2.
 SOURCE = """\
@@ -62,13 +62,78 @@ STEERS  CA      TEN
 SELF    TC      OTHER
 OTHER   TC      SELF
 SERVES  RESUME
+# each calls SKIPS, which returns to the word after next
+SKIPS   INCR    Q
+        TC      Q
+LOST    TC      SKIPS
+        NOOP
+        TC      Q
+# EXTEND 1, QXCH 2, TC 1 and LEAF, CA 2 and TC Q 2, EXTEND 1, QXCH 2, TC Q 2
+SAVED   EXTEND
+        QXCH    KEPTQ
+        TC      LEAF
+        EXTEND
+        QXCH    KEPTQ
+        TC      Q
+LEAF    CA      TEN
+        TC      Q
+# CA 2, TS 2, TC 1 and LEAF 4, TC KEPTQ 2
+COPIED  CA      Q
+        TS      KEPTQ
+        TC      LEAF
+        TC      KEPTQ
+# Q is given back from another cell
+MIXED   EXTEND
+        QXCH    KEPTQ
+        TC      LEAF
+        EXTEND
+        QXCH    OUTER
+        TC      Q
+# Q is kept, and is not given back
+TWICE   EXTEND
+        QXCH    KEPTQ
+        TC      Q
+UNKEPT  TC      LEAF
+        TC      Q
+# FB is written where no bank counts: CA 2, TS 2, which may skip a word, TC Q 2
+SWITCH  CA      TEN
+        TS      FB
+        TC      Q
+        TC      Q
+# without end, and no way leads on from it
+SPINS   CCS     COUNT
+        TCF     SPINS
+        TCF     SPINS
+        TCF     SPINS
+        TCF     SPINS
+FIRST   TC      SECOND
+        TC      Q
+SECOND  EXTEND
+        QXCH    KEPTQ
+        TC      THIRD
+        EXTEND
+        QXCH    KEPTQ
+        TC      Q
+THIRD   TC      SECOND
+        TC      Q
 TEN     DEC     10
         BANK    5
 BANKED  CA      TEN
         TS      FB
         TC      Q
 INSIDE  TC      Q
-CALLER  TC      INSIDE
+# EXTEND 1, QXCH 2, TC 1 and INSIDE 2, EXTEND 1, QXCH 2, TC Q 2
+CALLER  EXTEND
+        QXCH    KEPTQ
+        TC      INSIDE
+        EXTEND
+        QXCH    KEPTQ
+        TC      Q
+MOVED   EXTEND
+        QXCH    KEPTQ
+        TC      SWITCH
+        EXTEND
+        QXCH    KEPTQ
         TC      Q
 """
 
@@ -83,7 +148,12 @@ BOUNDS = [
     # 2 + 11 * (2 + 2 + 4 + 2) + 10 + 2, and 121 times 4 in the inner loop, and 110 times its TCF
     ("NESTED", ["--loops", "OUT 11 IN 121"], "AT MOST 718 CYCLES"),
     ("FORK", [], "AT MOST 7 CYCLES"),  # 1 + 2 + 2 + 2, as 1 + 1 + 3 + 2
-    ("CALLER", [], "AT MOST 5 CYCLES"),  # 1 + 2 + 2
+    ("CALLER", ["--kept", "KEPTQ"], "AT MOST 11 CYCLES"),  # 1 + 2 + 1 + 2 + 1 + 2 + 2
+    ("SAVED", ["--kept", "KEPTQ"], "AT MOST 13 CYCLES"),  # 1 + 2 + 1 + 4 + 1 + 2 + 2
+    ("SAVED", ["--kept", "COUNT KEPTQ"], "AT MOST 13 CYCLES"),
+    ("COPIED", ["--kept", "KEPTQ"], "AT MOST 11 CYCLES"),  # 2 + 2 + 1 + 4 + 2
+    ("UNKEPT", ["--kept", "2"], "AT MOST 7 CYCLES"),  # 1 + 4 + 2, where it is stated of Q
+    ("SWITCH", [], "AT MOST 6 CYCLES"),
 ]
 
 REFUSED = [
@@ -95,11 +165,31 @@ REFUSED = [
     ("LEAVES", [], "LEADS TO NO KNOWN WORD"),
     ("STEERS", [], "WRITES Z OR ITS OWN BANK"),
     ("SELF", [], "CALLS A ROUTINE IN PROGRESS"),
+    ("FIRST", ["--kept", "KEPTQ"], "CALLS A ROUTINE IN PROGRESS"),
+    ("SPINS", [], "IS IN A LOOP WITHOUT A BOUND"),
+    ("SKIPS", [], "RETURNS BY Q, WHICH WAS CHANGED"),
+    ("LOST", [], "RETURNS BY Q, WHICH WAS CHANGED"),
+    ("SAVED", [], "RETURNS BY Q, WHICH WAS CHANGED"),
+    ("SAVED", ["--kept", "COUNT"], "RETURNS BY Q, WHICH WAS CHANGED"),
+    ("MIXED", ["--kept", "KEPTQ"], "RETURNS BY Q, WHICH WAS CHANGED"),
+    ("TWICE", ["--kept", "KEPTQ"], "RETURNS BY Q, WHICH WAS CHANGED"),
+    ("UNKEPT", [], "RETURNS BY Q, WHICH WAS CHANGED"),
+    ("MOVED", ["--kept", "KEPTQ"], "WRITES Z OR ITS OWN BANK"),
     ("SERVES", [], "RESUMES"),
     ("BANKED", [], "WRITES Z OR ITS OWN BANK"),
 ]
 
 NONE = [("NOWHERE", []), ("COUNT", []), ("SHORT", ["--loops", "LOOP"]), ("SHORT", ["--loops", "COUNT 3"]), ("SHORT", ["--loops", "LOOP X"]), ("SHORT", ["--kept", "LOOP"])]
+
+
+# Instructions that write Q, and others; L is 1, and channel 2 is Q. The machine tells which write it.
+TOUCHING = ["TS Q", "XCH Q", "LXCH Q", "INCR Q", "ADS Q", "DXCH L", "DXCH Q", "DAS L", "DAS Q", "CA Q", "CS Q", "AD Q", "MASK Q", "DXCH COUNT", "LXCH COUNT", "TS COUNT", "INCR COUNT"]
+TOUCHING_EXTRA = ["AUG Q", "DIM Q", "QXCH COUNT", "QXCH L", "WRITE 2", "WAND 2", "WOR 2", "READ 2", "RAND 2", "ROR 2", "RXOR 2", "WRITE 11", "SU Q", "MSU Q", "DCA L", "MP Q", "DV COUNT"]
+
+
+def touching_source(instruction, is_extra):
+    extend = "        EXTEND\n" if is_extra else ""
+    return f"Q       EQUALS  2\nL       EQUALS  1\n        SETLOC  100\nCOUNT   ERASE\n        SETLOC  4000\n        TC      SUB\nSUB     CA      MANY\n{extend}TOUCH   {instruction}\n        TC      Q\n        TC      Q\nMANY    OCT     05251\n"
 
 
 class Bound(Case):
@@ -120,6 +210,26 @@ class Bound(Case):
             with self.subTest(f"{routine} {options}"):
                 self.assertEqual((status, err), (1, b""))
                 self.assertTrue(out.decode().startswith("NO BOUND: ") and out.decode().endswith(f"{line}\n"), out)
+
+    def test_what_writes_q(self):
+        """TC Q is a return unless the instruction before it writes Q, which a trace of the machine tells."""
+        nothing = write(f"{self.room}/nothing.feed", b"")
+        for instruction in TOUCHING + TOUCHING_EXTRA:
+            is_extra = instruction in TOUCHING_EXTRA
+            source = write(f"{self.room}/touching.agc", touching_source(instruction, is_extra).encode())
+            rows = agcws("trace", source, nothing, "4" if is_extra else "3")[1].decode().splitlines()
+            writes = " Q=" in rows[-1]
+            with self.subTest(f"{instruction} {rows[-1]}"):
+                status, out, _err = agcws("bound", source, "SUB")
+                self.assertEqual((status, out.endswith(b" RETURNS BY Q, WHICH WAS CHANGED\n")), (1, True) if writes else (0, False), out)
+
+    def test_a_traced_call(self):
+        """A call of a routine takes as many cycles in a run as its bound. TS may skip the EXTEND of QXCH RTRN, and so Q is stated to hold the way back."""
+        source, nothing = f"{EXAMPLES}/audited.agc", write(f"{self.room}/nothing.feed", b"")
+        rows = [row.split() for row in agcws("trace", source, nothing, "40")[1].decode().splitlines()]
+        places = [row[2] for row in rows]
+        called, returned = rows[places.index("02,4104")], rows[places.index("02,4105") - 1]
+        self.assertAnswer(agcws("bound", "--kept", "2", source, "UPDATE"), 0, f"AT MOST {int(returned[1]) - int(called[1])} CYCLES\n".encode())
 
     def test_images(self):
         """An image with the names of its listing, and without."""

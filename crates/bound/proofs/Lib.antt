@@ -1,3 +1,5 @@
 pub mod Pairs
 pub mod KindNames
 pub mod Sound
+pub mod Chains
+pub mod Words

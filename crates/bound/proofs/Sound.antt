@@ -8,6 +8,7 @@ use Rattle.rope.specs.Places.{Words}
 use Rattle.bound.specs.declared.charge.Charge.{Charge}
 use Rattle.bound.specs.declared.charge.Limit.{Limit}
 use Rattle.bound.specs.declared.checking.Row.{Row}
+use Rattle.bound.specs.declared.site.Mode.{Mode}
 use Rattle.bound.specs.declared.site.Site.{Site}
 use Rattle.bound.specs.declared.turn.Leg.{Leg}
 use Rattle.bound.specs.declared.turn.Turn.{Turn}
@@ -15,8 +16,9 @@ use Rattle.bound.specs.declared.turn.Turn.TheVariants.{Back, Through, One, Two, 
 use Rattle.bound.specs.Bounds.{IsBound, IsLeg, Way, Within, stands_at, times}
 use Rattle.bound.specs.Bounds.Way.{Ends, Goes, Calls}
 use Rattle.bound.specs.Turns.{turn}
-use Rattle.bound.specs.Inside.Checks.{AreBounds, all_hold, allowed, call_holds, leg_holds, leg_holds_by, number_at, number_by, row_holds, same}
-use Rattle.bound.specs.Inside.Checks.{same_bool, turn_holds, weight_at}
+use Rattle.bound.specs.Inside.Checks.{AreBounds, all_hold, allowed, call_holds, leg_holds, leg_holds_by, number_at, number_by, row_holds}
+use Rattle.bound.specs.Inside.Checks.{same}
+use Rattle.bound.specs.Inside.Checks.{same_bool, same_mode, turn_holds, weight_at}
 
 same_bools : (a b : Bool) → same_bool a b ≡ true → a ≡ b
 same_bools true true e = refl
@@ -24,16 +26,26 @@ same_bools true false e = absurd (cc)
 same_bools false true e = absurd (cc)
 same_bools false false e = refl
 
-is_same : (p q : Site) → same p q ≡ true → p ≡ q
+same_modes : (m n : Mode) → same_mode m n ≡ true → m ≡ n
+same_modes m n e =
+    let last = and_parts (same_bool m.extra n.extra && same_bool m.indexed n.indexed && same_bool m.held n.held)
+    (same_bool m.banked n.banked) e in
+    let third = and_parts (same_bool m.extra n.extra && same_bool m.indexed n.indexed) (same_bool m.held n.held) last.0 in
+    let first = and_parts (same_bool m.extra n.extra) (same_bool m.indexed n.indexed) third.0 in
+    let extra = same_bools m.extra n.extra first.0 in
+    let indexed = same_bools m.indexed n.indexed first.1 in
+    let held = same_bools m.held n.held third.1 in
+    let banked = same_bools m.banked n.banked last.1 in
+    λ j. record { extra = extra j; indexed = indexed j; held = held j; banked = banked j }
+
+pub is_same : (p q : Site) → same p q ≡ true → p ≡ q
 is_same p q e =
-    let last = and_parts (p.bank == q.bank && p.address == q.address && same_bool p.extra q.extra) (same_bool p.indexed q.indexed) e in
-    let third = and_parts (p.bank == q.bank && p.address == q.address) (same_bool p.extra q.extra) last.0 in
-    let first = and_parts (p.bank == q.bank) (p.address == q.address) third.0 in
+    let last = and_parts (p.bank == q.bank && p.address == q.address) (same_mode p.mode q.mode) e in
+    let first = and_parts (p.bank == q.bank) (p.address == q.address) last.0 in
     let bank = eqb-true p.bank q.bank first.0 in
     let address = eqb-true p.address q.address first.1 in
-    let extra = same_bools p.extra q.extra third.1 in
-    let indexed = same_bools p.indexed q.indexed last.1 in
-    λ j. record { bank = bank j; address = address j; extra = extra j; indexed = indexed j }
+    let mode = same_modes p.mode q.mode last.1 in
+    λ j. record { bank = bank j; address = address j; mode = mode j }
 
 -- a row that is found in a table whose rows all pass a test
 record Found (test : Row → Bool) (p : Site) (v : ℕ) : Type 0 where
@@ -128,9 +140,10 @@ passed charges [] = 0
 passed charges (p ∷ ps) = weight_at charges p + passed charges ps
 
 -- a way takes at most what the number of its first word and its costs have room for
-record HasWay (words : Words) (kept : List ℕ) (limits : List Limit) (charges : List Charge) (known rows : List Row) (base : ℕ) : Type 0 where
-  all : all_hold words kept charges known rows base ≡ true
-  bounds : AreBounds words kept limits known
+record HasWay (words : Words) (kept : List ℕ) (limits : List Limit) (charges : List Charge) (known rows : List Row) (base : ℕ) : Type 0
+  where
+    all : all_hold words kept charges known rows base ≡ true
+    bounds : AreBounds words kept limits known
 
 sound : (words : Words) (kept : List ℕ) (limits : List Limit) (charges : List Charge) (known rows : List Row) (base : ℕ)
     → HasWay words kept limits charges known rows base
@@ -220,7 +233,8 @@ pub bound_is : (words : Words) (kept : List ℕ) (charges : List Charge) (known 
     → (p : Site) (number most : ℕ) → number_at rows p ≡ Some number → number + allowed charges ≤ most + base
     → IsBound words kept (limits_of charges) p most
 bound_is words kept charges known rows base all bounds p number most e le ps n way within =
-    let most_of = sound words kept (limits_of charges) charges known rows base (record { all = all; bounds = bounds }) p ps n number way e in
+    let most_of = sound words kept (limits_of charges) charges known rows base (record { all = all; bounds = bounds }) p ps n number way e
+    in
     let costs = passed_within charges ps within in
     omega (arith, most_of, costs, le)
 

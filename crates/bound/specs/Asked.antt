@@ -8,12 +8,12 @@ use Rattle.space.specs.declared.place.Linear.TheVariants.{Erasable, Fixed}
 use Rattle.symbols.specs.Values.{SymbolTable}
 use Rattle.bound.specs.declared.charge.Limit.{Limit}
 use Rattle.bound.specs.declared.site.Site.{Site}
-use Rattle.bound.specs.Turns.{site}
+use Rattle.bound.specs.Turns.{entry, site}
 
 -- the first word of a routine: at a place of fixed memory, where nothing waits
 abbrev pub site_of : Linear → Option Site
 site_of (Erasable p) = None
-site_of (Fixed bank offset) = Some (site bank (window (Fixed bank offset)) false false)
+site_of (Fixed bank offset) = Some (site bank (window (Fixed bank offset)) (entry false))
 
 abbrev pub routine_named : SymbolTable → List ℕ → Option Site
 routine_named symbols text = option_and_then site_of (named_place symbols text)

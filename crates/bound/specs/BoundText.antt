@@ -6,13 +6,14 @@ use Rattle.bound.specs.declared.finding.Answer.{Answer}
 use Rattle.bound.specs.declared.finding.Answer.TheVariants.{Most, Refused}
 use Rattle.bound.specs.declared.site.Site.{Site}
 use Rattle.bound.specs.declared.turn.Why.{Why}
-use Rattle.bound.specs.declared.turn.Why.TheVariants.{Indexed, Leaves, Steers, Resumes, Recursive, Unbounded, TooMany}
+use Rattle.bound.specs.declared.turn.Why.TheVariants.{Indexed, Leaves, Steers, Resumes, Changed, Recursive, Unbounded, TooMany}
 
 abbrev pub why_text : Why → List ℕ
 why_text Indexed = codes " JUMPS UNDER INDEX"
 why_text Leaves = codes " LEADS TO NO KNOWN WORD"
 why_text Steers = codes " WRITES Z OR ITS OWN BANK"
 why_text Resumes = codes " RESUMES"
+why_text Changed = codes " RETURNS BY Q, WHICH WAS CHANGED"
 why_text Recursive = codes " CALLS A ROUTINE IN PROGRESS"
 why_text Unbounded = codes " IS IN A LOOP WITHOUT A BOUND"
 why_text TooMany = codes " HAS TOO MANY WORDS OR CYCLES"

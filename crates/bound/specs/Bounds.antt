@@ -1,5 +1,5 @@
 -- The most cycles of a routine.
-use Rattle.std.specs.Prelude.{◌≡◌, ℕ, ◌+◌, ◌≤◌, ◌%◌, ◌⊎◌, Bool, ◌==◌, ◌&&◌, List, [], ◌∷◌, if◌then◌else◌}
+use Rattle.std.specs.Prelude.{◌≡◌, ℕ, zero, suc, ◌+◌, ◌≤◌, ◌%◌, ◌⊎◌, Bool, false, ◌==◌, ◌&&◌, List, [], ◌∷◌, if◌then◌else◌}
 use Rattle.rope.specs.Places.{Words}
 use Rattle.bound.specs.declared.charge.Limit.{Limit}
 use Rattle.bound.specs.declared.finding.Answer.{Answer}
@@ -9,7 +9,7 @@ use Rattle.bound.specs.declared.turn.Leg.{Leg}
 use Rattle.bound.specs.declared.turn.Turn.{Turn}
 use Rattle.bound.specs.declared.turn.Turn.TheVariants.{Back, Through, One, Two, Four, Stop}
 use Rattle.bound.specs.declared.turn.Why.{Why}
-use Rattle.bound.specs.declared.turn.Why.TheVariants.{Indexed, Leaves, Steers, Resumes, Recursive, Unbounded, TooMany}
+use Rattle.bound.specs.declared.turn.Why.TheVariants.{Indexed, Leaves, Steers, Resumes, Changed, Recursive, Unbounded, TooMany}
 use Rattle.bound.specs.Turns.{turn}
 
 -- the ways on of an instruction
@@ -49,21 +49,67 @@ pub data Way (words : Words) (kept : List ℕ) (limits : List Limit) : Site → 
 abbrev pub IsBound : Words → List ℕ → List Limit → Site → ℕ → Type 0
 IsBound words kept limits p most = (ps : List Site) (n : ℕ) → Way words kept limits p ps n → Within limits ps → n ≤ most
 
--- the causes that are not told by one word
-abbrev pub IsOfMany : Why → Type 0
-IsOfMany Recursive = Unit {0}
-IsOfMany Unbounded = Unit {0}
-IsOfMany TooMany = Unit {0}
-IsOfMany Indexed = ⊥
-IsOfMany Leaves = ⊥
-IsOfMany Steers = ⊥
-IsOfMany Resumes = ⊥
+-- a word leads to another of its routine: by one of its ways on, or past a routine that it calls
+pub data Leads (words : Words) (kept : List ℕ) : Site → Site → Type 0 where
+  On : (p : Site) (l : Leg) → IsLeg l (turn words kept p) → Leads words kept p l.to
+  Past : (p t : Site) (l : Leg) → turn words kept p ≡ Through t l → Leads words kept p l.to
 
--- a word does not tell where it leads, by this cause; or the cause is of many words
-abbrev pub IsReason : Words → List ℕ → Site → Why → Type 0
-IsReason words kept p why = (turn words kept p ≡ Stop why) ⊎ IsOfMany why
+-- the words of a routine: its first, and those to which one of them leads
+pub data Has (words : Words) (kept : List ℕ) : Site → Site → Type 0 where
+  First : (r : Site) → Has words kept r r
+  Next : (r p q : Site) → Has words kept r p → Leads words kept p q → Has words kept r q
+
+-- a routine calls another at one of its words
+pub record CallsAt (words : Words) (kept : List ℕ) (r p t : Site) : Type 0 where
+  pub has : Has words kept r p
+  pub after : Leg
+  pub calls : turn words kept p ≡ Through t after
+
+-- a routine calls another, by as many in between as it may be
+pub data Uses (words : Words) (kept : List ℕ) : Site → Site → Type 0 where
+  Itself : (r : Site) → Uses words kept r r
+  Calls : (r s p t : Site) → Uses words kept r s → CallsAt words kept s p t → Uses words kept r t
+
+-- a word stands at no place of a limit
+abbrev pub IsFree : List Limit → Site → Type 0
+IsFree [] p = Unit {0}
+IsFree (limit ∷ limits) p = (stands_at limit p ≡ false) × IsFree limits p
+
+-- so many words, each of which leads to the next, from this one on, at no place of a limit
+abbrev pub GoesOn : Words → List ℕ → List Limit → ℕ → Site → Type 0
+GoesOn words kept limits zero p = IsFree limits p
+GoesOn words kept limits (suc n) p = IsFree limits p × ((q : Site) × Leads words kept p q × GoesOn words kept limits n q)
+
+-- a routine calls one at this word that uses it: itself, or one that calls it, by as many in between as it may be
+pub record CallsUser (words : Words) (kept : List ℕ) (r p : Site) : Type 0 where
+  pub called : Site
+  pub at : CallsAt words kept r p called
+  pub uses : Uses words kept called r
+
+-- the causes that are not told by one word: at this word a routine calls one in progress; from it ways that no limit bounds lead on for as
+-- many words as one may name
+abbrev pub IsOfMany : Words → List ℕ → List Limit → Site → Site → Why → Type 0
+IsOfMany words kept limits r p Recursive = CallsUser words kept r p
+IsOfMany words kept limits r p Unbounded = (n : ℕ) → GoesOn words kept limits n p
+IsOfMany words kept limits r p TooMany = Unit {0}
+IsOfMany words kept limits r p Indexed = ⊥
+IsOfMany words kept limits r p Leaves = ⊥
+IsOfMany words kept limits r p Steers = ⊥
+IsOfMany words kept limits r p Resumes = ⊥
+IsOfMany words kept limits r p Changed = ⊥
+
+-- why no number is told, at a word of a routine: the word does not tell where it leads, by this cause; or the cause is of many words
+abbrev pub IsCause : Words → List ℕ → List Limit → Site → Site → Why → Type 0
+IsCause words kept limits r p why = (turn words kept p ≡ Stop why) ⊎ IsOfMany words kept limits r p why
+
+-- the same at a word of a routine or of one that it uses
+pub record IsReason (words : Words) (kept : List ℕ) (limits : List Limit) (routine p : Site) (why : Why) : Type 0 where
+  pub owner : Site
+  pub uses : Uses words kept routine owner
+  pub has : Has words kept owner p
+  pub cause : IsCause words kept limits owner p why
 
 -- what is answered of a routine: a bound, or a place and a cause why none is found
 abbrev pub IsAnswer : Words → List ℕ → List Limit → Site → Answer → Type 0
 IsAnswer words kept limits routine (Most most) = IsBound words kept limits routine most
-IsAnswer words kept limits routine (Refused p why) = IsReason words kept p why
+IsAnswer words kept limits routine (Refused p why) = IsReason words kept limits routine p why

@@ -3,11 +3,11 @@
 ghost use Rattle.std.specs.Prelude.{◌≡◌, IfOk, []};
 ghost use Rattle.std.specs.Option.{option_map};
 ghost use Rattle.agc_text.specs.Fields.{runs, texts};
-ghost use Rattle.bound.specs.Asked.{cell_of, cell_named, kept_named, limit_named, limit_of, limits_named, routine_named};
-ghost use Rattle.bound.specs.Asked.{site_of};
+ghost use Rattle.bound.specs.Asked.{cell_of, cell_named, kept_named, limit_named, limit_of, limits_named};
+ghost use Rattle.bound.specs.Asked.{routine_named, site_of};
 
 use crate::charge::Limit;
-use crate::site::Site;
+use crate::site::{Mode, Site};
 use agc_text::{decimal, split_field};
 use commands::named_place;
 use space::{Addr12, Linear, resolve};
@@ -36,8 +36,7 @@ fn site_of(place: Linear) -> Option<Site>
         Linear::Fixed(bank, _) => Some(Site {
             bank,
             address: resolve::window(place),
-            extra: false,
-            indexed: false,
+            mode: Mode::entry(false),
         }),
     }
 }

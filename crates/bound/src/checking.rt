@@ -1,7 +1,7 @@
 //! Whether a bound is right.
 
 ghost use Rattle.std.specs.Prelude.{◌≡◌, ◌+◌, ◌≤◌, ◌<◌, ◌^◌, ◌&&◌};
-ghost use Rattle.bound.specs.Inside.Checks.{all_hold, call_holds, leg_holds, number_at, row_holds, turn_holds, weight_at};
+ghost use Rattle.bound.specs.Inside.Checks.{all_hold, leg_holds, number_at, row_holds, turn_holds, weight_at};
 
 use crate::charge::Charge;
 use crate::site::Site;

@@ -3,11 +3,12 @@
 ghost use Rattle.std.specs.Prelude.{◌≡◌, ◌+◌, ◌≤◌, ℕ, IfOk, IfSome, Some, map};
 ghost use Rattle.bound.specs.Bounds.{IsAnswer};
 ghost use Rattle.bound.specs.Inside.Checks.{AreBounds, allowed, number_at};
-ghost use Rattle.bound.specs.Inside.Searches.{IsAttempt};
+ghost use Rattle.bound.specs.Inside.Searches.{AreOf, IsAttempt, last_of};
 
 use crate::charge::{Charge, Limit};
 use crate::checking::{Row, all_hold, number_at};
 use crate::graph::{Explored, Graph};
+use crate::looping::{all_stay, is_in};
 use crate::search::{BASE, Numbered, number};
 use crate::site::Site;
 use crate::turn::Why;
@@ -53,22 +54,22 @@ pub fn bound(
     ensures { IfOk result (λ answer. IsAnswer rope.now kept.now limits.now routine.now answer) }
 {
     let mut known = Vec::new(alloc);
-    let mut open = Vec::new(alloc);
+    let mut begun = Vec::new(alloc);
     for _ in 0..MOST_ATTEMPTS {
         if let Some(most) = number_at(known.as_slice(), routine) {
             return Ok(Answer::Most(most));
         }
-        let site = last_of(open.as_slice(), routine);
+        let site = last_of(begun.as_slice(), routine);
         match try_bound(alloc, rope, kept, limits, known.as_slice(), &site)? {
             Attempt::Most(number) => {
                 known.push(Row { site, number })?;
-                let _last = open.pop();
+                let _last = begun.pop();
             }
             Attempt::Calls(at, callee) => {
-                if callee.is(routine) || is_open(open.as_slice(), &callee) {
+                if callee.is(routine) || is_in(begun.as_slice(), &callee) {
                     return Ok(Answer::Refused(at, Why::Recursive));
                 }
-                open.push(callee)?;
+                begun.push(callee)?;
             }
             Attempt::Stops(at, why) => return Ok(Answer::Refused(at, why)),
         }
@@ -77,21 +78,14 @@ pub fn bound(
 }
 
 /// The last of the routines in progress.
-fn last_of(open: &[Site], routine: &Site) -> Site {
-    match open.last() {
-        Some(site) => *site,
-        None => *routine,
+fn last_of(begun: &[Site], routine: &Site) -> Site
+    ensures { result ≡ last_of routine.now begun.now }
+{
+    let mut last = *routine;
+    for site in begun {
+        last = *site;
     }
-}
-
-/// Whether a routine is in progress.
-fn is_open(open: &[Site], callee: &Site) -> bool {
-    for site in open {
-        if site.is(callee) {
-            return true;
-        }
-    }
-    false
+    last
 }
 
 /// Tries to find the bound of a routine, where those of some are known.
@@ -107,7 +101,7 @@ fn try_bound(
     ensures { IfOk result (λ attempt. IsAttempt rope.now kept.now limits.now routine.now attempt) }
 {
     let mut graph = Graph::of(alloc, routine)?;
-    match graph.explore(rope, kept, known)? {
+    match graph.explore(rope, kept, known, routine)? {
         Explored::Whole => number_and_check(alloc, rope, kept, limits, known, &graph, routine),
         Explored::Calls(at, callee) => Ok(Attempt::Calls(at, callee)),
         Explored::Stops(at, why) => Ok(Attempt::Stops(at, why)),
@@ -124,7 +118,8 @@ fn number_and_check(
     graph: &Graph,
     routine: &Site,
 ) -> Result<Attempt, AllocError>
-    requires { AreBounds rope.now kept.now limits.now known.now }
+    requires bounds { AreBounds rope.now kept.now limits.now known.now }
+    requires are { AreOf rope.now kept.now routine.now graph.now.sites.items }
     ensures { IfOk result (λ attempt. IsAttempt rope.now kept.now limits.now routine.now attempt) }
 {
     match number(alloc, graph, limits)? {
@@ -139,7 +134,30 @@ fn number_and_check(
                 routine,
             ))
         }
-        Numbered::Loops(at) => Ok(Attempt::Stops(at, Why::Unbounded)),
+        Numbered::Loops(at, round) => {
+            Ok(unbounded(rope, kept, limits, graph, at, round.as_slice(), routine))
+        }
+    }
+}
+
+/// A word of a loop, where no limit bounds this.
+fn unbounded(
+    rope: &Rope,
+    kept: &[Addr12],
+    limits: &[Limit],
+    graph: &Graph,
+    at: usize,
+    round: &[Site],
+    routine: &Site,
+) -> Attempt
+    requires { AreOf rope.now kept.now routine.now graph.now.sites.items }
+    ensures { IsAttempt rope.now kept.now limits.now routine.now result }
+{
+    match graph.site(at) {
+        Some(site) if is_in(round, &site) && all_stay(rope, kept, limits, round) => {
+            Attempt::Stops(site, Why::Unbounded)
+        }
+        _ => Attempt::Stops(*routine, Why::TooMany),
     }
 }
 
@@ -156,7 +174,7 @@ fn checked(
     ensures { IsAttempt rope.now kept.now (map (λ charge. charge.limit) charges.now) routine.now result }
 {
     if !all_hold(rope, kept, charges, known, rows, BASE) {
-        return Attempt::Stops(*routine, Why::Unbounded);
+        return Attempt::Stops(*routine, Why::TooMany);
     }
     match most(charges, rows, routine) {
         Some(most) => Attempt::Most(most),

@@ -1,7 +1,10 @@
-//! The words of a routine, with the ways between them. What is found here is not relied upon: it is checked afterwards.
+//! The words of a routine, with the ways between them. The ways that are found are not relied upon: a bound is checked
+//! afterwards.
 
-ghost use Rattle.std.specs.Prelude.{IfOk};
-ghost use Rattle.bound.specs.Inside.Searches.{IsExplored};
+ghost use Rattle.std.specs.Prelude.{◌≡◌, ◌<◌, ◌∷◌, [], IfOk, IfSome, OnOk, length};
+ghost use Rattle.std.specs.List.{position, slice_index_or};
+ghost use Rattle.bound.specs.Inside.Checks.{same};
+ghost use Rattle.bound.specs.Inside.Searches.{AreOf, IsExplored, targets, with_all, with_site};
 
 use crate::checking::{Row, number_at};
 use crate::site::Site;
@@ -42,7 +45,9 @@ pub(crate) enum Explored {
 
 impl Graph {
     /// Its first word alone.
-    pub(crate) fn of(alloc: Global, routine: &Site) -> Result<Graph, AllocError> {
+    pub(crate) fn of(alloc: Global, routine: &Site) -> Result<Graph, AllocError>
+        ensures { IfOk result (λ graph. graph.sites.items ≡ routine.now ∷ []) }
+    {
         let mut sites = Vec::new(alloc);
         sites.push(*routine)?;
         Ok(Graph {
@@ -58,43 +63,52 @@ impl Graph {
         rope: &Rope,
         kept: &[Addr12],
         known: &[Row],
+        routine: &Site,
     ) -> Result<Explored, AllocError>
-        ensures { IfOk result (λ explored. IsExplored rope.now kept.now explored) }
+        requires { AreOf rope.now kept.now routine.now self.old.sites.items }
+        ensures found { IfOk result (λ explored. IsExplored rope.now kept.now routine.now explored) }
+        ensures all { OnOk result (AreOf rope.now kept.now routine.now self.new.sites.items) }
     {
-        let mut last = Site::default();
         for from in 0..MOST_WORDS {
             let Some(site) = self.site(from) else {
                 return Ok(Explored::Whole);
             };
-            last = site;
-            match turn_at(rope, kept, &site) {
-                Turn::Stop(why) => return Ok(Explored::Stops(site, why)),
-                Turn::Through(callee, leg) => match number_at(known, &callee) {
-                    Some(cycles) => self.add(from, &leg, cycles)?,
-                    None => return Ok(Explored::Calls(site, callee)),
-                },
-                turn => self.add_all(from, &turn)?,
+            let turn = turn_at(rope, kept, &site);
+            match &turn {
+                Turn::Stop(why) => return Ok(Explored::Stops(site, *why)),
+                Turn::Through(callee, _) if number_at(known, callee).is_none() => {
+                    return Ok(Explored::Calls(site, *callee));
+                }
+                _ => {}
             }
+            self.add_all(from, known, &turn)?;
         }
-        Ok(Explored::Stops(last, Why::TooMany))
+        Ok(Explored::Stops(*routine, Why::TooMany))
     }
 
     /// The word of a number.
-    fn site(&self, number: usize) -> Option<Site> {
-        self.sites.get(number).copied()
+    pub(crate) fn site(&self, number: usize) -> Option<Site>
+        ensures { IfSome result (λ p. (number < length self.now.sites.items)
+            × (p ≡ slice_index_or self.now.sites.items number p)) }
+    {
+        if number < self.sites.len() {
+            Some(self.sites[number])
+        } else {
+            None
+        }
     }
 
-    /// Adds the ways on of an instruction that calls no routine.
-    fn add_all(&mut self, from: usize, turn: &Turn) -> Result<(), AllocError> {
+    /// Adds the ways on of an instruction.
+    fn add_all(&mut self, from: usize, known: &[Row], turn: &Turn) -> Result<(), AllocError>
+        ensures { OnOk result (self.new.sites.items ≡ with_all self.old.sites.items (targets turn.now)) }
+    {
         match turn {
-            Turn::Back(cycles) => {
-                self.backs.push(Edge {
-                    from,
-                    to: from,
-                    cycles: u32::from(*cycles),
-                })?;
-                Ok(())
-            }
+            Turn::Back(cycles) => self.add_back(from, u32::from(*cycles)),
+            Turn::Through(callee, leg) => self.add(
+                from,
+                leg,
+                number_at(known, callee).unwrap_or(0),
+            ),
             Turn::One(leg) => self.add(from, leg, 0),
             Turn::Two(one, other) => {
                 self.add(from, one, 0)?;
@@ -106,13 +120,26 @@ impl Graph {
                 self.add(from, c, 0)?;
                 self.add(from, d, 0)
             }
-            Turn::Through(..) => Ok(()),
             Turn::Stop(_) => Ok(()),
         }
     }
 
+    /// Adds a way back.
+    fn add_back(&mut self, from: usize, cycles: u32) -> Result<(), AllocError>
+        ensures { OnOk result (self.new.sites.items ≡ self.old.sites.items) }
+    {
+        self.backs.push(Edge {
+            from,
+            to: from,
+            cycles,
+        })?;
+        Ok(())
+    }
+
     /// Adds a way on, and its word where it is a new one.
-    fn add(&mut self, from: usize, leg: &Leg, more: u32) -> Result<(), AllocError> {
+    fn add(&mut self, from: usize, leg: &Leg, more: u32) -> Result<(), AllocError>
+        ensures { OnOk result (self.new.sites.items ≡ with_site self.old.sites.items leg.now.to) }
+    {
         let cycles = u32::from(leg.cycles).saturating_add(more);
         let to = match self.number_of(&leg.to) {
             Some(to) => to,
@@ -126,12 +153,9 @@ impl Graph {
     }
 
     /// The number of a word.
-    fn number_of(&self, site: &Site) -> Option<usize> {
-        for (number, other) in self.sites.as_slice().iter().enumerate() {
-            if other.is(site) {
-                return Some(number);
-            }
-        }
-        None
+    fn number_of(&self, site: &Site) -> Option<usize>
+        ensures { result ≡ position (λ p. same p site.now) self.now.sites.items }
+    {
+        self.sites.iter().position(|other| other.is(site))
     }
 }

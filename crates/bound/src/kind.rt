@@ -29,6 +29,8 @@ pub(crate) enum Kind {
     Resumes,
     /// One that writes the place that it names.
     Changes,
+    /// QXCH.
+    Exchanges,
     /// DAS and DXCH, which write two places.
     ChangesTwo,
     /// One that writes its channel.
@@ -89,6 +91,8 @@ fn kind_of_writing(name: &[u8]) -> Kind
         || name == b"WOR".as_slice()
     {
         Kind::PutsOut
+    } else if name == b"QXCH".as_slice() {
+        Kind::Exchanges
     } else if changes(name) {
         Kind::Changes
     } else {
@@ -104,7 +108,6 @@ fn changes(name: &[u8]) -> bool
         || name == b"INCR".as_slice()
         || name == b"ADS".as_slice()
         || name == b"XCH".as_slice()
-        || name == b"QXCH".as_slice()
         || name == b"AUG".as_slice()
         || name == b"DIM".as_slice()
 }

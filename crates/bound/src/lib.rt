@@ -8,6 +8,7 @@ mod checking;
 mod finding;
 mod graph;
 mod kind;
+mod looping;
 mod search;
 mod site;
 mod text;

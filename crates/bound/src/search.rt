@@ -15,8 +15,8 @@ pub(crate) const BASE: u32 = 0x4000_0000;
 pub(crate) enum Numbered {
     /// Numbers, and costs.
     All(Vec<Row>, Vec<u32>),
-    /// A word of a loop.
-    Loops(Site),
+    /// The number of a word of a loop, and the words of the loop.
+    Loops(usize, Vec<Site>),
 }
 
 /// The numbers of words while they grow, and for each the word that its way leads to.
@@ -30,7 +30,8 @@ struct Numbers {
     costs: Vec<u32>,
 }
 
-/// Finds numbers for the words of a routine, and costs of limits. Limits that allow more are taken to be of inner loops.
+/// Finds numbers for the words of a routine, and costs of limits. Limits that allow more are taken to be of inner
+/// loops.
 pub(crate) fn number(
     alloc: Global,
     graph: &Graph,
@@ -52,8 +53,8 @@ pub(crate) fn number(
                 done.as_slice(),
                 head,
             )?;
-            if let Some(site) = settle(graph, &mut numbers) {
-                return Ok(Numbered::Loops(site));
+            if let Some(at) = settle(graph, &mut numbers) {
+                return loop_at(alloc, graph, &numbers, at);
             }
             let weight = longest_round(graph, limits, head, &numbers);
             if head < weights.len() && head < done.len() {
@@ -73,8 +74,8 @@ fn number_all(
     weights: Vec<u32>,
 ) -> Result<Numbered, AllocError> {
     let mut numbers = numbers_back(alloc, graph, limits, weights.as_slice())?;
-    if let Some(site) = settle(graph, &mut numbers) {
-        return Ok(Numbered::Loops(site));
+    if let Some(at) = settle(graph, &mut numbers) {
+        return loop_at(alloc, graph, &numbers, at);
     }
     let mut rows = Vec::new(alloc);
     for (number, site) in graph.sites.as_slice().iter().enumerate() {
@@ -194,15 +195,15 @@ impl Numbers {
     }
 }
 
-/// Lets numbers grow until they stay. Answers a word of a loop where they never do.
-fn settle(graph: &Graph, numbers: &mut Numbers) -> Option<Site> {
+/// Lets numbers grow until they stay. Answers the number of a word of a loop where they never do.
+fn settle(graph: &Graph, numbers: &mut Numbers) -> Option<usize> {
     for _ in 0..graph.sites.len() {
         if grown(graph, numbers).is_none() {
             return None;
         }
     }
     let from = grown(graph, numbers)?;
-    looping(graph, numbers.best.as_slice(), from)
+    Some(looping(graph, numbers.best.as_slice(), from))
 }
 
 /// Lets each number grow once. Answers a word whose number did.
@@ -216,15 +217,39 @@ fn grown(graph: &Graph, numbers: &mut Numbers) -> Option<usize> {
     grown
 }
 
-/// A word of the loop to which the ways of growing numbers lead.
-fn looping(graph: &Graph, best: &[usize], from: usize) -> Option<Site> {
+/// The number of a word of the loop to which the ways of growing numbers lead.
+fn looping(graph: &Graph, best: &[usize], from: usize) -> usize {
     let mut at = from;
     for _ in 0..graph.sites.len() {
-        if at < best.len() {
-            at = best[at];
+        at = next_of(best, at);
+    }
+    at
+}
+
+/// The word to which the way of a word leads.
+fn next_of(best: &[usize], at: usize) -> usize {
+    if at < best.len() { best[at] } else { at }
+}
+
+/// The loop in which a word stands.
+fn loop_at(
+    alloc: Global,
+    graph: &Graph,
+    numbers: &Numbers,
+    first: usize,
+) -> Result<Numbered, AllocError> {
+    let mut words = Vec::new(alloc);
+    let mut at = first;
+    for _ in 0..graph.sites.len() {
+        if let Some(site) = graph.site(at) {
+            words.push(site)?;
+        }
+        at = next_of(numbers.best.as_slice(), at);
+        if at == first {
+            break;
         }
     }
-    graph.sites.get(at).copied()
+    Ok(Numbered::Loops(first, words))
 }
 
 /// The cycles of the longest round from a limit's place to itself.

@@ -1,9 +1,23 @@
 //! Words of fixed memory that are executed.
 
 ghost use Rattle.std.specs.Prelude.{◌≡◌};
-ghost use Rattle.bound.specs.Inside.Checks.{same};
+ghost use Rattle.bound.specs.Inside.Checks.{same, same_mode};
+ghost use Rattle.bound.specs.Turns.{entry};
 
 use space::{Addr12, Bank};
+
+/// How a word is come to.
+#[derive(Clone, Copy, PartialEq, Eq, Debug)]
+pub struct Mode {
+    /// Whether extracode is in force.
+    pub extra: bool,
+    /// Whether INDEX left a sum for it.
+    pub indexed: bool,
+    /// Whether Q holds the way back.
+    pub held: bool,
+    /// Whether the way back leads to a bank that FB and the superbank select.
+    pub banked: bool,
+}
 
 /// A word of fixed memory that is executed.
 #[derive(Clone, Copy, PartialEq, Eq, Debug)]
@@ -12,10 +26,32 @@ pub struct Site {
     pub bank: Bank,
     /// The address at which it is come to, from 02000 on.
     pub address: Addr12,
-    /// Whether extracode is in force.
-    pub extra: bool,
-    /// Whether INDEX left a sum for it.
-    pub indexed: bool,
+    /// How it is come to.
+    pub mode: Mode,
+}
+
+impl Mode {
+    /// Where a routine begins.
+    pub(crate) fn entry(banked: bool) -> Mode
+        ensures { result ≡ entry banked }
+    {
+        Mode {
+            extra: false,
+            indexed: false,
+            held: true,
+            banked,
+        }
+    }
+
+    /// Whether it is another one.
+    fn is(&self, other: &Mode) -> bool
+        ensures { result ≡ same_mode self.now other.now }
+    {
+        self.extra == other.extra
+            && self.indexed == other.indexed
+            && self.held == other.held
+            && self.banked == other.banked
+    }
 }
 
 impl Site {
@@ -25,8 +61,7 @@ impl Site {
     {
         self.bank.number() == other.bank.number()
             && self.address.number() == other.address.number()
-            && self.extra == other.extra
-            && self.indexed == other.indexed
+            && self.mode.is(&other.mode)
     }
 }
 
@@ -35,8 +70,7 @@ impl Default for Site {
         Site {
             bank: Bank::try_new(0).unwrap(),
             address: Addr12::of_low_bits(0),
-            extra: false,
-            indexed: false,
+            mode: Mode::entry(false),
         }
     }
 }

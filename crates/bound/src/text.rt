@@ -71,6 +71,7 @@ fn why_text(why: Why) -> &'static [u8]
         Why::Leaves => b" LEADS TO NO KNOWN WORD",
         Why::Steers => b" WRITES Z OR ITS OWN BANK",
         Why::Resumes => b" RESUMES",
+        Why::Changed => b" RETURNS BY Q, WHICH WAS CHANGED",
         Why::Recursive => b" CALLS A ROUTINE IN PROGRESS",
         Why::Unbounded => b" IS IN A LOOP WITHOUT A BOUND",
         Why::TooMany => b" HAS TOO MANY WORDS OR CYCLES",

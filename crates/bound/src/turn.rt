@@ -1,12 +1,13 @@
 //! Where an instruction leads, and after how many cycles.
 
-ghost use Rattle.std.specs.Prelude.{◌≡◌, ◌+◌, ◌≤◌, ◌<◌, ◌%◌, ◌==◌, Some};
-ghost use Rattle.std.specs.List.{list_any};
-ghost use Rattle.bound.specs.Turns.{at_address, call, four_by, further, further_so, one, second, steers, steers_by};
-ghost use Rattle.bound.specs.Turns.{steers_out, target, through, turn, turn_by, turn_of, two, unless};
+ghost use Rattle.std.specs.Prelude.{◌≡◌, ◌≤◌, ◌<◌, ◌%◌, Some};
+ghost use Rattle.bound.specs.Turns.{at_address, back, call, changes, changes_two, exchanges, four_by, further};
+ghost use Rattle.bound.specs.Turns.{further_so, is_among, needs_bank, next, next_two, one, puts_out, second, steers};
+ghost use Rattle.bound.specs.Turns.{steers_by, steers_out, still_held, stores, swapped, target, then_held, through};
+ghost use Rattle.bound.specs.Turns.{turn, turn_by, turn_of, two, unless, waits};
 
 use crate::kind::{Kind, cycles_at, kind_at};
-use crate::site::Site;
+use crate::site::{Mode, Site};
 use cpu::named_address;
 use rope::Rope;
 use space::{Addr12, Bank, Eras, Offset};
@@ -33,6 +34,8 @@ pub enum Why {
     Steers,
     /// The instruction is RESUME.
     Resumes,
+    /// A routine returns by Q, and has changed it, or has called another since Q held the way back.
+    Changed,
     /// A routine calls itself, or calls one that does.
     Recursive,
     /// A loop has no bound.
@@ -70,6 +73,9 @@ const FIRST_UNBANKED: u16 = 0o4000;
 /// The channel that selects the superbank.
 const SUPERBANK: u16 = 7;
 
+/// The channel that is Q.
+const Q_CHANNEL: u16 = 2;
+
 /// Where the word at a site leads; some addresses are of cells that keep Q.
 #[tactic(auto, unfolding(crate::specs::Turns::turn))]
 pub fn turn_at(rope: &Rope, kept: &[Addr12], site: &Site) -> Turn
@@ -83,7 +89,7 @@ pub fn turn_at(rope: &Rope, kept: &[Addr12], site: &Site) -> Turn
 fn turn_of(kept: &[Addr12], site: &Site, word: Word) -> Turn
     ensures { result ≡ turn_of kept.now site.now word }
 {
-    let extra = site.extra;
+    let extra = site.mode.extra;
     let channel = word.to_u16() % 0o1000;
     turn_by(
         kept,
@@ -107,54 +113,105 @@ fn turn_by(
     requires { cycles ≤ 6 }
     ensures { result ≡ turn_by kept.now site.now kind address.now cycles channel }
 {
+    let held = site.mode.held;
     match kind {
-        Kind::Calls if site.indexed => Turn::Stop(Why::Indexed),
-        Kind::Jumps if site.indexed => Turn::Stop(Why::Indexed),
-        Kind::Branches if site.indexed => Turn::Stop(Why::Indexed),
+        Kind::Calls if site.mode.indexed => Turn::Stop(Why::Indexed),
+        Kind::Jumps if site.mode.indexed => Turn::Stop(Why::Indexed),
+        Kind::Branches if site.mode.indexed => Turn::Stop(Why::Indexed),
         Kind::Calls => call(kept, site, address, cycles),
         Kind::Jumps => one(target(site, address), cycles),
-        Kind::Branches => two(target(site, address), JUMP_CYCLES, further(site, 1), cycles),
-        Kind::Skips => skips(site, cycles),
-        Kind::Stores => unless(steers_by(site, address), next_two(site, 1, cycles)),
-        Kind::Indexes => one(further_so(site, 1, site.extra, true), cycles),
-        Kind::Extends => one(further_so(site, 1, true, false), cycles),
-        Kind::Resumes => Turn::Stop(Why::Resumes),
-        Kind::Changes => unless(steers_by(site, address), next(site, cycles)),
-        Kind::ChangesTwo => unless(
-            steers_by(site, address) || steers_by(site, &second(address)),
-            next(site, cycles),
+        Kind::Branches => two(
+            target(site, address),
+            JUMP_CYCLES,
+            further(site, 1, held),
+            cycles,
         ),
-        Kind::PutsOut => unless(steers_out(site, channel), next(site, cycles)),
-        Kind::Passes => next(site, cycles),
+        Kind::Skips => four_by(
+            next_two(site, 1, held, cycles),
+            next_two(site, 3, held, cycles),
+        ),
+        Kind::Stores => stores(site, address, cycles),
+        Kind::Indexes => waits(site, site.mode.extra, true, cycles),
+        Kind::Extends => waits(site, true, false, cycles),
+        Kind::Resumes => Turn::Stop(Why::Resumes),
+        Kind::Changes => changes(site, address, cycles),
+        Kind::Exchanges => exchanges(kept, site, address, cycles),
+        Kind::ChangesTwo => changes_two(site, address, cycles),
+        Kind::PutsOut => puts_out(site, channel, cycles),
+        Kind::Passes => next(site, held, cycles),
     }
 }
 
 /// The next word.
-fn next(site: &Site, cycles: u8) -> Turn
-    ensures { result ≡ one (further site.now 1) cycles }
+fn next(site: &Site, held: bool, cycles: u8) -> Turn
+    ensures { result ≡ next site.now held cycles }
 {
-    one(further(site, 1), cycles)
+    one(further(site, 1, held), cycles)
+}
+
+/// The next word, while extracode is in force or INDEX has left a sum.
+fn waits(site: &Site, extra: bool, indexed: bool, cycles: u8) -> Turn
+    ensures { result ≡ waits site.now extra indexed cycles }
+{
+    let mode = Mode {
+        extra,
+        indexed,
+        held: site.mode.held,
+        banked: site.mode.banked,
+    };
+    one(further_so(site, 1, mode), cycles)
 }
 
 /// Two words that follow one another.
-fn next_two(site: &Site, first: u16, cycles: u8) -> Turn
+fn next_two(site: &Site, first: u16, held: bool, cycles: u8) -> Turn
     requires { first ≤ 3 }
-    ensures { result ≡ two (further site.now first) cycles (further site.now (first + 1)) cycles }
+    ensures { result ≡ next_two site.now first held cycles }
 {
-    two(
-        further(site, first),
-        cycles,
-        further(site, first + 1),
-        cycles,
-    )
+    let one = further(site, first, held);
+    let other = further(site, first + 1, held);
+    two(one, cycles, other, cycles)
 }
 
-/// CCS.
-fn skips(site: &Site, cycles: u8) -> Turn
-    ensures { result ≡ four_by (two (further site.now 1) cycles (further site.now 2) cycles)
-        (two (further site.now 3) cycles (further site.now 4) cycles) }
+/// TS.
+fn stores(site: &Site, address: &Option<Addr12>, cycles: u8) -> Turn
+    ensures { result ≡ stores site.now address.now cycles }
 {
-    four_by(next_two(site, 1, cycles), next_two(site, 3, cycles))
+    let held = still_held(site, address);
+    unless(steers_by(site, address), next_two(site, 1, held, cycles))
+}
+
+/// One that writes the place that it names.
+fn changes(site: &Site, address: &Option<Addr12>, cycles: u8) -> Turn
+    ensures { result ≡ changes site.now address.now cycles }
+{
+    let held = still_held(site, address);
+    unless(steers_by(site, address), next(site, held, cycles))
+}
+
+/// QXCH.
+fn exchanges(kept: &[Addr12], site: &Site, address: &Option<Addr12>, cycles: u8) -> Turn
+    ensures { result ≡ exchanges kept.now site.now address.now cycles }
+{
+    let held = swapped(kept, site, address);
+    unless(steers_by(site, address), next(site, held, cycles))
+}
+
+/// One that writes two places.
+fn changes_two(site: &Site, address: &Option<Addr12>, cycles: u8) -> Turn
+    ensures { result ≡ changes_two site.now address.now cycles }
+{
+    let other = second(address);
+    let held = still_held(site, address) && still_held(site, &other);
+    let steers = steers_by(site, address) || steers_by(site, &other);
+    unless(steers, next(site, held, cycles))
+}
+
+/// One that writes its channel.
+fn puts_out(site: &Site, channel: u16, cycles: u8) -> Turn
+    ensures { result ≡ puts_out site.now channel cycles }
+{
+    let held = site.mode.held && channel != Q_CHANNEL;
+    unless(steers_out(site, channel), next(site, held, cycles))
 }
 
 /// TC.
@@ -165,20 +222,56 @@ fn call(kept: &[Addr12], site: &Site, address: &Option<Addr12>, cycles: u8) -> T
     let Some(address) = address else {
         return Turn::Stop(Why::Leaves);
     };
-    if address.number() == Eras::Q.number() || is_among(*address, kept) {
+    if is_among(*address, kept) {
+        back(true, cycles)
+    } else if address.number() == Eras::Q.number() {
+        back(site.mode.held, cycles)
+    } else {
+        let routine = at_address(site, *address, Mode::entry(needs_bank(site)));
+        through(routine, further(site, 1, false), cycles)
+    }
+}
+
+/// Back to where the routine was called, where Q or a cell holds the way.
+fn back(held: bool, cycles: u8) -> Turn
+    requires { cycles ≤ 6 }
+    ensures { result ≡ back held cycles }
+{
+    if held {
         Turn::Back(cycles + cycles)
     } else {
-        through(
-            at_address(site, *address, false, false),
-            further(site, 1),
-            cycles,
-        )
+        Turn::Stop(Why::Changed)
     }
+}
+
+/// Whether Q still holds the way back after an instruction that writes a place.
+fn still_held(site: &Site, address: &Option<Addr12>) -> bool
+    ensures { result ≡ still_held site.now address.now }
+{
+    match address {
+        Some(address) => site.mode.held && address.number() != Eras::Q.number(),
+        None => site.mode.held,
+    }
+}
+
+/// The same after QXCH.
+fn swapped(kept: &[Addr12], site: &Site, address: &Option<Addr12>) -> bool
+    ensures { result ≡ swapped kept.now site.now address.now }
+{
+    let Some(address) = address else {
+        return false;
+    };
+    let held = if address.number() == Eras::Q.number() {
+        site.mode.held
+    } else {
+        is_among(*address, kept) && !site.mode.held
+    };
+    !site.mode.indexed && held
 }
 
 /// Whether an address is among some.
 fn is_among(address: Addr12, kept: &[Addr12]) -> bool
-    ensures { result ≡ list_any (λ c. c == address) kept.now }
+    ensures { result ≡ is_among address kept.now }
 {
     kept.iter().any(|other| other.number() == address.number())
 }
@@ -248,31 +341,43 @@ fn target(site: &Site, address: &Option<Addr12>) -> Option<Site>
     ensures { result ≡ target site.now address.now }
 {
     match address {
-        Some(address) => at_address(site, *address, false, false),
+        Some(address) => at_address(site, *address, then_held(site, site.mode.held)),
         None => None,
     }
 }
 
 /// The word so many addresses further, where nothing waits.
-fn further(site: &Site, count: u16) -> Option<Site>
+fn further(site: &Site, count: u16, held: bool) -> Option<Site>
     requires { count ≤ 4 }
-    ensures { result ≡ further site.now count }
+    ensures { result ≡ further site.now count held }
 {
-    further_so(site, count, false, false)
+    further_so(site, count, then_held(site, held))
+}
+
+/// How it is come to.
+fn then_held(site: &Site, held: bool) -> Mode
+    ensures { result ≡ then_held site.now held }
+{
+    Mode {
+        extra: false,
+        indexed: false,
+        held,
+        banked: site.mode.banked,
+    }
 }
 
 /// The word so many addresses further.
-fn further_so(site: &Site, count: u16, extra: bool, indexed: bool) -> Option<Site>
+fn further_so(site: &Site, count: u16, mode: Mode) -> Option<Site>
     requires { count ≤ 4 }
-    ensures { result ≡ further_so site.now count extra indexed }
+    ensures { result ≡ further_so site.now count mode }
 {
     let address = Addr12::of_low_bits(site.address.number() + count);
-    at_address(site, address, extra, indexed)
+    at_address(site, address, mode)
 }
 
 /// The word to which an address leads.
-fn at_address(site: &Site, address: Addr12, extra: bool, indexed: bool) -> Option<Site>
-    ensures { result ≡ at_address site.now address extra indexed }
+fn at_address(site: &Site, address: Addr12, mode: Mode) -> Option<Site>
+    ensures { result ≡ at_address site.now address mode }
 {
     let number = address.number();
     if number < FIRST_FIXED {
@@ -288,8 +393,7 @@ fn at_address(site: &Site, address: Addr12, extra: bool, indexed: bool) -> Optio
     Some(Site {
         bank,
         address,
-        extra,
-        indexed,
+        mode,
     })
 }
 
@@ -308,15 +412,21 @@ fn steers(site: &Site, register: u16) -> bool
     ensures { result ≡ steers site.now register }
 {
     register == Eras::Z.number()
-        || (site.address.number() < FIRST_UNBANKED
-            && (register == Eras::FB.number() || register == Eras::BB.number()))
+        || (needs_bank(site) && (register == Eras::FB.number() || register == Eras::BB.number()))
+}
+
+/// Whether FB and the superbank select the bank of a word, or one that it goes back to.
+fn needs_bank(site: &Site) -> bool
+    ensures { result ≡ needs_bank site.now }
+{
+    site.address.number() < FIRST_UNBANKED || site.mode.banked
 }
 
 /// The same of a channel.
 fn steers_out(site: &Site, channel: u16) -> bool
     ensures { result ≡ steers_out site.now channel }
 {
-    site.address.number() < FIRST_UNBANKED && channel == SUPERBANK
+    needs_bank(site) && channel == SUPERBANK
 }
 
 /// The place after an operand.

@@ -205,8 +205,9 @@ at most. Else the place where no bound was found, and why:
   NO BOUND: 02,4002 IS IN A LOOP WITHOUT A BOUND
   JUMPS UNDER INDEX              where the jump goes no word tells
   LEADS TO NO KNOWN WORD         to erasable memory, or to a bank of FB
-  WRITES Z OR ITS OWN BANK       what is next no word tells
+  WRITES Z OR ITS OWN BANK       or its caller's: what is next no word tells
   RESUMES
+  RETURNS BY Q, WHICH WAS CHANGED
   CALLS A ROUTINE IN PROGRESS    which would not end
   IS IN A LOOP WITHOUT A BOUND   one without a place of --loops
   HAS TOO MANY WORDS OR CYCLES   8192 words, or 2^32 cycles
@@ -216,8 +217,13 @@ outer one count. A place where CCS begins a round is come to once more than it
 goes back. Of loops in loops the inner has the greater number. The bound is
 exact where each place is come to once in each round of its loop, and else may
 be greater than the longest way.
+Q holds the way back at the first word of a routine, until an instruction writes
+Q or a routine is called. --kept states of a cell that it holds the way back at
+TC of it, and at QXCH of it while Q does not: then Q holds it again. Nothing is
+looked for that might write the cell. --kept 2 states it of Q itself, as where
+TS stands before the EXTEND of QXCH: it is taken to skip, whatever A holds.
 Interrupts and inputs of counters, which take cycles too, are left out. INDEX is
-taken to turn no instruction into another, and none into one that writes Z.
+taken to turn no instruction into another, and none into one that writes Z or Q.
 
 Exit status:
   0  the bound is told

@@ -16,7 +16,7 @@ use Rattle.workshop.specs.declared.bounding.Bounded.TheVariants.{Told, Refused, 
 use Rattle.workshop.specs.declared.fault.WorkshopFault.{WorkshopFault}
 use Rattle.workshop.specs.declared.fault.WorkshopFault.TheVariants.{NoMemory}
 use Rattle.workshop.specs.declared.origin.Origin.{Origin}
-use Rattle.workshop.specs.Failures.{Writer}
+use Rattle.workshop.specs.Failures.{Reader, Writer}
 use Rattle.workshop.specs.Inputs.{Code}
 use Rattle.workshop.specs.Loading.{Reads, ReadsProgram}
 use Rattle.workshop.specs.Reaches.{Listing}
@@ -27,6 +27,13 @@ pub record Question : Type 0 where
   pub routine : List ℕ
   pub loops : List ℕ
   pub kept : List ℕ
+
+abbrev pub question : List ℕ → List ℕ → List ℕ → Question
+question routine loops kept = record { routine = routine; loops = loops; kept = kept }
+
+-- the program that is read, and what is written
+abbrev pub bounding : Reader → Writer → Listing
+bounding program out = record { program = program; out = out }
 
 -- whether a bound is told
 abbrev pub told_of : Answer → Bounded

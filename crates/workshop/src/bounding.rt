@@ -1,7 +1,7 @@
 //! The engine that tells the most cycles of a routine.
 
 ghost use Rattle.std.specs.Prelude.{◌≡◌};
-ghost use Rattle.workshop.specs.BoundRuns.{Bounds, BoundsRoutine, told_of};
+ghost use Rattle.workshop.specs.BoundRuns.{Bounds, BoundsRoutine, bounding, question, told_of};
 ghost use Rattle.workshop.specs.Failures.{reader, writer};
 
 use crate::fault::WorkshopFault;
@@ -24,11 +24,11 @@ pub enum Bounded {
 }
 
 /// Reads a program, and writes the most cycles of a routine, or a place where no bound was found, and why. `loops` are
-/// pairs of a place and of how often a way comes to it at most; `kept` are cells that keep Q. Answers whether it is
-/// told; where one of the places is none nothing is written.
+/// pairs of a place and of how often a way comes to it at most; `kept` are cells that hold the way back at TC of one,
+/// and at QXCH of one while Q does not. Answers whether it is told; where one of the places is none nothing is written.
 ///
-/// The first fault of the program is answered, else that memory ran out, and then nothing is written. After a write that
-/// failed a beginning of the text was written.
+/// The first fault of the program is answered, else that memory ran out, and then nothing is written. After a write
+/// that failed a beginning of the text was written.
 pub fn bound_program<P: Read, W: Write>(
     alloc: Global,
     origin: Origin,
@@ -38,17 +38,9 @@ pub fn bound_program<P: Read, W: Write>(
     kept: &[u8],
     out: &mut W,
 ) -> Result<Bounded, WorkshopFault>
-    ensures { Bounds origin (record { routine = routine.now; loops = loops.now; kept = kept.now })
-        (record {
-          program = reader P.told P.left P.failures program.old;
-          out = writer W.told W.written W.failures
-              out.old;
-        })
-        (record {
-          program = reader P.told P.left P.failures program.new;
-          out = writer W.told W.written W.failures
-              out.new;
-        }) result }
+    ensures { Bounds origin (question routine.now loops.now kept.now)
+        (bounding (reader P.told P.left P.failures program.old) (writer W.told W.written W.failures out.old))
+        (bounding (reader P.told P.left P.failures program.new) (writer W.told W.written W.failures out.new)) result }
 {
     let (rope, symbols, _) = origin.read(alloc, program)?;
     bound_routine(alloc, &rope, &symbols, routine, loops, kept, out)
@@ -64,7 +56,7 @@ fn bound_routine<W: Write>(
     kept: &[u8],
     out: &mut W,
 ) -> Result<Bounded, WorkshopFault>
-    ensures { BoundsRoutine rope.now symbols.now (record { routine = routine.now; loops = loops.now; kept = kept.now })
+    ensures { BoundsRoutine rope.now symbols.now (question routine.now loops.now kept.now)
         (writer W.told W.written W.failures out.old) (writer W.told W.written W.failures out.new) result }
 {
     let Some(site) = routine_named(symbols, routine) else {

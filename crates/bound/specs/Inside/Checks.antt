@@ -1,5 +1,6 @@
 -- A bound is checked: a number for each word of a routine, and one for each limit.
-use Rattle.std.specs.Prelude.{◌≡◌, ℕ, ◌+◌, ◌*◌, Bool, true, false, not, ◌==◌, ◌&&◌, nat_le, if◌then◌else◌, List, [], ◌∷◌, Option, Some, None}
+use Rattle.std.specs.Prelude.{◌≡◌, ℕ, ◌+◌, ◌*◌, Bool, true, false, not, ◌==◌, ◌&&◌, nat_le, if◌then◌else◌, List, [], ◌∷◌, Option, Some}
+use Rattle.std.specs.Prelude.{None}
 use Rattle.std.specs.Prelude.{find}
 use Rattle.std.specs.List.{list_all}
 use Rattle.std.specs.Option.{option_map}
@@ -7,6 +8,7 @@ use Rattle.rope.specs.Places.{Words}
 use Rattle.bound.specs.declared.charge.Charge.{Charge}
 use Rattle.bound.specs.declared.charge.Limit.{Limit}
 use Rattle.bound.specs.declared.checking.Row.{Row}
+use Rattle.bound.specs.declared.site.Mode.{Mode}
 use Rattle.bound.specs.declared.site.Site.{Site}
 use Rattle.bound.specs.declared.turn.Leg.{Leg}
 use Rattle.bound.specs.declared.turn.Turn.{Turn}
@@ -18,9 +20,13 @@ abbrev pub same_bool : Bool → Bool → Bool
 same_bool true b = b
 same_bool false b = not b
 
--- whether two words are one
+-- whether two ways to come to a word are one, and whether two words are
+abbrev pub same_mode : Mode → Mode → Bool
+same_mode m n =
+    same_bool m.extra n.extra && same_bool m.indexed n.indexed && same_bool m.held n.held && same_bool m.banked n.banked
+
 abbrev pub same : Site → Site → Bool
-same p q = p.bank == q.bank && p.address == q.address && same_bool p.extra q.extra && same_bool p.indexed q.indexed
+same p q = p.bank == q.bank && p.address == q.address && same_mode p.mode q.mode
 
 -- the number of a word in a table
 abbrev pub number_by : Option Row → Option ℕ

@@ -2,20 +2,22 @@
 use Rattle.std.specs.Prelude.{ℕ, ◌||◌, Bool, List, codes, if◌then◌else◌}
 use Rattle.agc_text.specs.Tables.{same_name}
 use Rattle.bound.specs.declared.kind.Kind.{Kind}
-use Rattle.bound.specs.declared.kind.Kind.TheVariants.{Calls, Jumps, Branches, Skips, Stores, Indexes, Extends, Resumes, Changes, ChangesTwo}
-use Rattle.bound.specs.declared.kind.Kind.TheVariants.{PutsOut, Passes}
+use Rattle.bound.specs.declared.kind.Kind.TheVariants.{Calls, Jumps, Branches, Skips, Stores, Indexes, Extends, Resumes, Changes}
+use Rattle.bound.specs.declared.kind.Kind.TheVariants.{ChangesTwo}
+use Rattle.bound.specs.declared.kind.Kind.TheVariants.{Exchanges, PutsOut, Passes}
 
 abbrev pub changes : List ℕ → Bool
 changes name =
     same_name name (codes "LXCH") || same_name name (codes "INCR") || same_name name (codes "ADS") || same_name name (codes "XCH")
-    || same_name name (codes "QXCH") || same_name name (codes "AUG") || same_name name (codes "DIM")
+    || same_name name (codes "AUG") || same_name name (codes "DIM")
 
 abbrev pub kind_of_writing : List ℕ → Kind
 kind_of_writing name =
     if same_name name (codes "DAS") || same_name name (codes "DXCH") then ChangesTwo
     else (if same_name name (codes "WRITE") || same_name name (codes "WAND") || same_name name (codes "WOR") then PutsOut
+    else (if same_name name (codes "QXCH") then Exchanges
     else (if changes name then Changes
-    else Passes))
+    else Passes)))
 
 abbrev pub kind_named : List ℕ → Kind
 kind_named name =
