@@ -61,6 +61,12 @@ NOTES = [
     ("NOTES UNREAD", SKIPS),
     ("NOTES SKIP UNREAD", WAITS),
     ("NOTES SKIP WAITING", UNREAD),
+    ("NOTES SKIP AT START +2 WAITING UNREAD", ""),
+    ("NOTES UNREAD WAITING SKIP AT 02,4002", ""),
+    ("NOTES SKIP AT START SKIP AT START +2 UNREAD WAITING", ""),
+    ("NOTES SKIP AT NOISE WAITING UNREAD", SKIPS),
+    ("NOTES SHARED AT START +2 WAITING UNREAD", SKIPS),
+    ("NOTES SKIP WAITING AT START UNREAD", WAITS),
 ]
 # A source of which `check` has two warnings, and one of which it has none.
 WARNED = b" SETLOC 4000\n CA 5\n CA 5\nDONE TCF DONE\n"
@@ -99,6 +105,12 @@ REFUSED_CLAIMS = [
     ("NOTES SKIPP", 7, "a kind of notes is asked for, as run --notes tells them; SKIP is near"),
     ("NOTES SKIP QUOTENT", 12, "a kind of notes is asked for, as run --notes tells them; QUOTIENT is near"),
     ("NOTES NONE SKIP", 12, "the end of the line is asked for"),
+    ("NOTES SKIP ATT START", 12, "a kind of notes is asked for, as run --notes tells them; AT is near"),
+    ("NOTES SKIP AT", 14, "a label or a place is asked for"),
+    ("NOTES SKIP AT NOWHERE", 15, "a label or a place is asked for"),
+    ("NOTES SKIP AT START +2000", 21, "a number of words after + is asked for, in octal, which stays in the bank"),
+    ("NOTES SKIP AT START +2 +2", 24, "a kind of notes is asked for, as run --notes tells them"),
+    ("NOTES" + " SKIP AT START" * 8 + " SKIP AT TWO +1 SKIP", 131, "no line lists notes at more than 8 places"),
     ("CHECK ALL", 7, "the end of the line is asked for"),
     ("COVERED", 8, "how many instructions are executed at least is asked for"),
     ("COVERED all", 9, "how many instructions are executed at least is asked for"),

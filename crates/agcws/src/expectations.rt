@@ -26,7 +26,7 @@ static KEYWORDS: [&str; 12] = [
 static LATER_KEYWORDS: [&str; 6] = ["UNTIL", "WITHIN", "CYCLES", "THEN", "NOTHING", "END"];
 
 /// The words that stand behind NOTES.
-static KINDS: [&str; 15] = [
+static KINDS: [&str; 16] = [
     "NONE",
     "QUOTIENT",
     "SKIP",
@@ -42,6 +42,7 @@ static KINDS: [&str; 15] = [
     "INSIDE",
     "WAITING",
     "UNREAD",
+    "AT",
 ];
 
 /// What the text of a file comes to: the exit code, and the lines of its tests where they were judged.
@@ -333,6 +334,7 @@ fn asked_text(asked: Asked) -> &'static str {
         Asked::Calls => "a number of calls or WITHIN is asked for",
         Asked::Notes => "NONE or a kind of notes, as run --notes tells them, is asked for",
         Asked::Kind => "a kind of notes is asked for, as run --notes tells them",
+        Asked::FewerPlaces => "no line lists notes at more than 8 places",
         Asked::Least => "how many instructions are executed at least is asked for",
         Asked::Relation => "one of = <> < > <= >= is asked for",
         Asked::Word => "a word is asked for; octal, or decimal where D ends it",

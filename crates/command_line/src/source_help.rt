@@ -115,7 +115,8 @@ pub const EXPECT_HELP: &str = "Files:
         CALLS LABEL WITHIN N CYCLES     and each call takes at most N cycles,
                                         until Z is what Q was at LABEL
         NOTES NONE                      run --notes tells nothing
-        NOTES KIND ..                   nothing but of these kinds, as SKIP
+        NOTES KIND ..                   nothing but of these kinds, as SKIP;
+                                        of KIND AT LABEL only at LABEL
         CHECK                           check tells no error and no warning
         COVERED N                       N instructions or more are executed
         Besides = there are <> < > <= >=. A PLACE is erasable: a symbol, a

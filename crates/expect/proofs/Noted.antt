@@ -1,41 +1,39 @@
 -- Notes, one by one.
 use Rattle.std.proofs.Common.{◌≡◌, ◌∙◌, ℕ, ◌+◌, List, [], ◌∷◌, Option, Some, None, Ok, Err, true, false, refl, ap, sym}
 use Rattle.std.specs.Prelude.{nat_lt}
-use Rattle.expect.specs.Kinds.{first_other, is_other, kind_in, with_kind}
-use Rattle.expect.specs.Lines.{and_kind, kinds_at, last_kind}
-use Rattle.expect.specs.declared.claim.Claim.TheVariants.{Notes}
+use Rattle.symbols.specs.Values.{SymbolTable}
+use Rattle.expect.specs.Kinds.{first_other, is_other}
+use Rattle.expect.specs.Lines.{claiming_notes, going_on, kinds_at, last_kind, listed_all, listed_next}
+use Rattle.expect.specs.declared.claim.Allowed.{Allowed}
+use Rattle.expect.specs.declared.notes.Listing.{Listing}
 use Rattle.expect.specs.declared.refusal.Asked.TheVariants as asked
 
--- a note of another kind, and one of a kind that is listed
-pub at_other : (kinds : ℕ) (line : List ℕ) (more : List (List ℕ)) → is_other kinds line ≡ true
-    → first_other kinds (line ∷ more) ≡ Some line
+-- a note that is not listed, and one that is
+pub at_other : (a : Allowed) (line : List ℕ) (more : List (List ℕ)) → is_other a line ≡ true
+    → first_other a (line ∷ more) ≡ Some line
 unfolding first_other
-at_other kinds line more other = rw other refl
+at_other a line more other = rw other refl
 
-pub past_listed : (kinds : ℕ) (line : List ℕ) (more : List (List ℕ)) → is_other kinds line ≡ false
-    → first_other kinds (line ∷ more) ≡ first_other kinds more
+pub past_listed : (a : Allowed) (line : List ℕ) (more : List (List ℕ)) → is_other a line ≡ false
+    → first_other a (line ∷ more) ≡ first_other a more
 unfolding first_other
-past_listed kinds line more listed = rw listed refl
+past_listed a line more listed = rw listed refl
 
--- a field that names a kind, one that does not, one too many, and none
-pub kinds_more : (at kinds : ℕ) (all : List (List ℕ)) (field : List ℕ) (more : List (List ℕ)) (kind : ℕ) → all ≡ field ∷ more
-    → nat_lt last_kind at ≡ false → Some kind ≡ kind_in field
-    → kinds_at at kinds all ≡ kinds_at (at + 1) (with_kind kinds kind) more
+-- a field more, one too many, and none
+pub kinds_more : (symbols : SymbolTable) (at : ℕ) (l : Listing) (all : List (List ℕ)) (field : List ℕ) (more : List (List ℕ))
+    → all ≡ field ∷ more → nat_lt last_kind at ≡ false
+    → kinds_at symbols at l all
+    ≡ going_on (listed_next symbols at l.allowed l.pending field) (λ next. kinds_at symbols (at + 1) next more)
 unfolding kinds_at
-kinds_more at kinds all field more kind is few reads =
-    rw is (rw few (ap (λ k. and_kind at kinds k (λ listed. kinds_at (at + 1) listed more)) (sym reads)))
+kinds_more symbols at l all field more is few = rw is (rw few refl)
 
-pub kinds_refused : (at kinds : ℕ) (all : List (List ℕ)) (field : List ℕ) (more : List (List ℕ)) → all ≡ field ∷ more
-    → nat_lt last_kind at ≡ false → None ≡ kind_in field → kinds_at at kinds all ≡ Err (record { field = at; asked = asked.Kind })
+pub kinds_many : (symbols : SymbolTable) (at : ℕ) (l : Listing) (all : List (List ℕ)) (field : List ℕ) (more : List (List ℕ))
+    → all ≡ field ∷ more → nat_lt last_kind at ≡ true
+    → kinds_at symbols at l all ≡ Err (record { field = at; asked = asked.End })
 unfolding kinds_at
-kinds_refused at kinds all field more is few reads =
-    rw is (rw few (ap (λ k. and_kind at kinds k (λ listed. kinds_at (at + 1) listed more)) (sym reads)))
+kinds_many symbols at l all field more is many = rw is (rw many refl)
 
-pub kinds_many : (at kinds : ℕ) (all : List (List ℕ)) (field : List ℕ) (more : List (List ℕ)) → all ≡ field ∷ more
-    → nat_lt last_kind at ≡ true → kinds_at at kinds all ≡ Err (record { field = at; asked = asked.End })
+pub kinds_end : (symbols : SymbolTable) (at : ℕ) (l : Listing) (all : List (List ℕ)) → all ≡ []
+    → kinds_at symbols at l all ≡ claiming_notes (listed_all at l.allowed l.pending)
 unfolding kinds_at
-kinds_many at kinds all field more is many = rw is (rw many refl)
-
-pub kinds_end : (at kinds : ℕ) (all : List (List ℕ)) → all ≡ [] → kinds_at at kinds all ≡ Ok (Notes kinds)
-unfolding kinds_at
-kinds_end at kinds all none = rw none refl
+kinds_end symbols at l all none = rw none refl

@@ -1,20 +1,23 @@
 -- Rows of texts of tests, worked out by hand.
-use Rattle.std.proofs.Common.{◌≡◌, ℕ, List, [], ◌∷◌, true, false, refl, Option, Some, None, Ok, Err}
+use Rattle.std.proofs.Common.{◌≡◌, ℕ, List, [], ◌∷◌, replicate, true, false, refl, Option, Some, None, Ok, Err}
 use Rattle.std.specs.Prelude.{codes}
-use Rattle.agc_text.specs.Fields.{runs}
+use Rattle.agc_text.specs.Fields.{runs, texts}
 use Rattle.agc_text.specs.Lines.{lines}
 use Rattle.expect.specs.Claims.{breaks, lacks, related}
 use Rattle.expect.specs.Fields.{relation_in, value_in}
 use Rattle.expect.specs.Facts.{Facts, cited, misses}
-use Rattle.expect.specs.Kinds.{first_other}
+use Rattle.expect.specs.Kinds.{and_spot, first_other, is_other, nothing_allowed, place_noted}
 use Rattle.expect.specs.Lines.{claims_of, kinds_at, most_cycles, words_at}
 use Rattle.expect.specs.Statements.{before_return}
 use Rattle.expect.specs.Texts.{claims_after, heading_of, in_test}
+use Rattle.expect.specs.declared.claim.Allowed.{Allowed}
 use Rattle.expect.specs.declared.claim.Claim.TheVariants.{Puts, PutsNoMore, Always, Never, AtEnd, At, Calls, CallsWithin}
 use Rattle.expect.specs.declared.claim.Claim.TheVariants.{Notes, Check, Covered}
 use Rattle.expect.specs.declared.claim.Relation.TheVariants.{Same, Other, Less, Greater, AtMost, AtLeast}
 use Rattle.expect.specs.declared.refusal.Asked.TheVariants as asked
-use Rattle.space.specs.declared.place.Linear.TheVariants.{Fixed}
+use Rattle.space.specs.declared.place.Linear.TheVariants.{Erasable, Fixed}
+use Rattle.space.specs.Places.{window}
+use Rattle.feed.specs.Names.{counters}
 use Rattle.commands.specs.NamedPlaces.{registers}
 
 -- ## Words: 77776 is -1, 77777 is -0
@@ -147,13 +150,52 @@ called_for_so_long = refl
 no_number_of_calls : claims_of [] (codes "CALLS" ∷ codes "4000" ∷ codes "often" ∷ []) ≡ Err (record { field = 2; asked = asked.Calls })
 no_number_of_calls = refl
 
-no_notes : claims_of [] (codes "NOTES" ∷ codes "NONE" ∷ []) ≡ Ok (Notes 0 ∷ [])
+no_notes : claims_of [] (codes "NOTES" ∷ codes "NONE" ∷ []) ≡ Ok (Notes nothing_allowed ∷ [])
 no_notes = refl
 
 notes_of_two_kinds : claims_of [] (codes "NOTES" ∷ codes "QUOTIENT" ∷ codes "UNREAD" ∷ [])
-    ≡ Ok (Notes 8193 ∷ [])
+    ≡ Ok (Notes (record { kinds = 8193; count = 0; spots = replicate 8 None }) ∷ [])
 unfolding kinds_at
 notes_of_two_kinds = refl
+
+-- SKIP at 4005 and at 4003 +2, which is the same place, and QUOTIENT anywhere
+abbrev two_skips : Allowed
+two_skips = record {
+  kinds = 1;
+  count = 2;
+  spots = Some (record { kind = 2; place = Fixed 2 5 }) ∷ Some (record { kind = 2; place = Fixed 2 5 }) ∷ replicate 6 None;
+}
+
+notes_at_places : claims_of []
+    (codes "NOTES" ∷ codes "SKIP" ∷ codes "AT" ∷ codes "4005" ∷ codes "QUOTIENT" ∷ codes "SKIP" ∷ codes "AT" ∷ codes "4003" ∷ codes "+2" ∷ [])
+    ≡ Ok (Notes two_skips ∷ [])
+unfolding kinds_at
+notes_at_places = refl
+
+notes_at_nothing : claims_of [] (codes "NOTES" ∷ codes "SKIP" ∷ codes "AT" ∷ []) ≡ Err (record { field = 3; asked = asked.Routine })
+unfolding kinds_at
+notes_at_nothing = refl
+
+notes_at_no_place : claims_of [] (codes "NOTES" ∷ codes "SKIP" ∷ codes "AT" ∷ codes "SKIP" ∷ []) ≡ Err (record { field = 3; asked = asked.Routine })
+unfolding kinds_at registers counters
+notes_at_no_place = refl
+
+notes_beyond_the_bank : claims_of [] (codes "NOTES" ∷ codes "SKIP" ∷ codes "AT" ∷ codes "4005" ∷ codes "+2000" ∷ [])
+    ≡ Err (record { field = 4; asked = asked.Offset })
+unfolding kinds_at
+notes_beyond_the_bank = refl
+
+at_of_no_kind : claims_of [] (codes "NOTES" ∷ codes "AT" ∷ codes "4005" ∷ []) ≡ Err (record { field = 1; asked = asked.Kind })
+unfolding kinds_at
+at_of_no_kind = refl
+
+moved_on_twice : claims_of [] (codes "NOTES" ∷ codes "SKIP" ∷ codes "AT" ∷ codes "4005" ∷ codes "+1" ∷ codes "+1" ∷ [])
+    ≡ Err (record { field = 5; asked = asked.Kind })
+unfolding kinds_at
+moved_on_twice = refl
+
+a_ninth_place : and_spot (record { kinds = 0; count = 8; spots = [] }) (record { kind = 2; place = Fixed 2 5 }) ≡ None
+a_ninth_place = refl
 
 notes_of_nothing : claims_of [] (codes "NOTES" ∷ []) ≡ Err (record { field = 1; asked = asked.Notes })
 notes_of_nothing = refl
@@ -181,16 +223,47 @@ some_notes = codes "NOTE SKIP       02,4005  54101  TS SUM\nNOTE QUOTIENT   02,4
 abbrev some_facts : Facts
 some_facts = record { notes = some_notes; report = codes "a.agc:2:5: warning W1: so\n  TS 5\n"; errors = 0; warnings = 1; executed = 9 }
 
-the_quotient_is_another : first_other 2 (lines some_notes) ≡ Some (codes "NOTE QUOTIENT   02,4016  10100  DV D")
-unfolding first_other lines runs
+abbrev some_kinds : ℕ → Allowed
+some_kinds kinds = record { kinds = kinds; count = 0; spots = replicate 8 None }
+
+the_quotient_is_another : first_other (some_kinds 2) (lines some_notes) ≡ Some (codes "NOTE QUOTIENT   02,4016  10100  DV D")
+unfolding first_other lines runs window
 the_quotient_is_another = refl
 
-both_are_listed : misses some_facts (Notes 3) ≡ false
-unfolding first_other lines runs
+both_are_listed : misses some_facts (Notes (some_kinds 3)) ≡ false
+unfolding first_other lines runs window
 both_are_listed = refl
 
-none_is_listed : cited some_facts (Notes 0) ≡ codes "NOTE SKIP       02,4005  54101  TS SUM"
-unfolding first_other lines runs
+-- the skip is at 4005, and so is no quotient; at 4006 it would be another
+listed_at_their_places : misses some_facts (Notes two_skips) ≡ false
+unfolding first_other lines runs window
+listed_at_their_places = refl
+
+elsewhere_it_is_another : cited some_facts (Notes (record {
+  kinds = 1;
+  count = 1;
+  spots = Some (record { kind = 2; place = Fixed 2 6 }) ∷ replicate 7 None;
+}))
+    ≡ codes "NOTE SKIP       02,4005  54101  TS SUM"
+unfolding first_other lines runs window
+elsewhere_it_is_another = refl
+
+a_note_without_a_place : is_other (record {
+  kinds = 0;
+  count = 1;
+  spots = Some (record { kind = 8192; place = Erasable 0o13 }) ∷ replicate 7 None;
+})
+    (codes "NOTE UNREAD CHAN 013 CYCLES 20")
+    ≡ true
+unfolding runs window
+a_note_without_a_place = refl
+
+a_note_in_erasable_memory : place_noted (texts (runs (codes "NOTE ERASABLE   E3,1405  24100  INCR X"))) ≡ Some (Erasable 0o1405)
+unfolding runs window
+a_note_in_erasable_memory = refl
+
+none_is_listed : cited some_facts (Notes nothing_allowed) ≡ codes "NOTE SKIP       02,4005  54101  TS SUM"
+unfolding first_other lines runs window
 none_is_listed = refl
 
 a_warning_is_told : cited some_facts Check ≡ codes "a.agc:2:5: warning W1: so"

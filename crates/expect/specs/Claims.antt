@@ -99,7 +99,7 @@ counts scenario (AtEnd c) s put = false
 counts scenario (At place c) s put = is_at scenario place s
 counts scenario (Calls place times) s put = is_at scenario place s
 counts scenario (CallsWithin place most) s put = is_at scenario place s
-counts scenario (Notes kinds) s put = false
+counts scenario (Notes allowed) s put = false
 counts scenario Check s put = false
 counts scenario (Covered least) s put = false
 
@@ -113,7 +113,7 @@ breaks scenario (AtEnd c) seen call s put = false
 breaks scenario (At place c) seen call s put = is_at scenario place s && not (holds c s)
 breaks scenario (Calls place times) seen call s put = is_at scenario place s && nat_le times seen
 breaks scenario (CallsWithin place most) seen call s put = is_long most s call
-breaks scenario (Notes kinds) seen call s put = false
+breaks scenario (Notes allowed) seen call s put = false
 breaks scenario Check seen call s put = false
 breaks scenario (Covered least) seen call s put = false
 
@@ -127,7 +127,7 @@ told_of (AtEnd c) s put = Some (word_at c.place s)
 told_of (At place c) s put = Some (word_at c.place s)
 told_of (Calls place times) s put = None
 told_of (CallsWithin place most) s put = None
-told_of (Notes kinds) s put = None
+told_of (Notes allowed) s put = None
 told_of Check s put = None
 told_of (Covered least) s put = None
 
@@ -141,7 +141,7 @@ lacks (AtEnd c) seen s = not (holds c s)
 lacks (At place c) seen s = seen == 0
 lacks (Calls place times) seen s = nat_lt seen times
 lacks (CallsWithin place most) seen s = seen == 0
-lacks (Notes kinds) seen s = false
+lacks (Notes allowed) seen s = false
 lacks Check seen s = false
 lacks (Covered least) seen s = false
 
@@ -155,7 +155,7 @@ told_at_end (Never c) s = None
 told_at_end (At place c) s = None
 told_at_end (Calls place times) s = None
 told_at_end (CallsWithin place most) s = None
-told_at_end (Notes kinds) s = None
+told_at_end (Notes allowed) s = None
 told_at_end Check s = None
 told_at_end (Covered least) s = None
 

@@ -38,23 +38,23 @@ misses facts (AtEnd c) = false
 misses facts (At place c) = false
 misses facts (Calls place times) = false
 misses facts (CallsWithin place most) = false
-misses facts (Notes kinds) = is_some (first_other kinds (lines facts.notes))
+misses facts (Notes allowed) = is_some (first_other allowed (lines facts.notes))
 misses facts Check = not (facts.errors == 0 && facts.warnings == 0)
 misses facts (Covered least) = nat_lt facts.executed least
 
--- the line that tells of a claim that is not borne out: the first note of another kind, or what `check` tells first
+-- the line that tells of a claim that is not borne out: the first other note, or what `check` tells first
 abbrev pub first_of : List (List ℕ) → List ℕ
 first_of [] = []
 first_of (line ∷ more) = line
 
 abbrev pub cited : Facts → Claim → List ℕ
-cited facts (Notes kinds) = unwrap_or (first_other kinds (lines facts.notes)) []
+cited facts (Notes allowed) = unwrap_or (first_other allowed (lines facts.notes)) []
 cited facts Check = first_of (lines facts.report)
 cited facts _ = []
 
 -- ## What some claims ask for
 abbrev pub is_of_notes : Claim → Bool
-is_of_notes (Notes kinds) = true
+is_of_notes (Notes allowed) = true
 is_of_notes _ = false
 
 abbrev pub is_of_check : Claim → Bool

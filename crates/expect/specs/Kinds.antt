@@ -1,7 +1,14 @@
--- The kinds of notes, as `run --notes` names them, and which notes of a run are of others.
-use Rattle.std.specs.Prelude.{ℕ, ◌+◌, ◌/◌, ◌%◌, ◌==◌, Bool, false, not, List, [], ◌∷◌, Option, None, Some, codes, if◌then◌else◌}
+-- The kinds of notes, as `run --notes` names them, and which notes of a run are others than those that it may have.
+use Rattle.std.specs.Prelude.{ℕ, ◌+◌, ◌/◌, ◌%◌, ◌==◌, ◌&&◌, ◌||◌, nat_lt, Bool, false, not, List, [], ◌∷◌, replicate, set, Option, None, Some}
+use Rattle.std.specs.Prelude.{codes, if◌then◌else◌}
+use Rattle.std.specs.List.{list_any}
 use Rattle.agc_text.specs.Fields.{runs, texts}
 use Rattle.agc_text.specs.Tables.{same_name}
+use Rattle.space.specs.declared.place.Linear.{Linear}
+use Rattle.space.specs.Places.{same_place}
+use Rattle.commands.specs.NamedPlaces.{unnamed_place}
+use Rattle.expect.specs.declared.claim.Allowed.{Allowed}
+use Rattle.expect.specs.declared.claim.Spot.{Spot}
 
 -- the number of a kind, a power of two
 abbrev pub later_kind_in : List ℕ → Option ℕ
@@ -33,21 +40,52 @@ has_kind kinds kind = (kinds / kind) % 2 == 1
 abbrev pub with_kind : ℕ → ℕ → ℕ
 with_kind kinds kind = if has_kind kinds kind then kinds else kinds + kind
 
-abbrev pub has_named : ℕ → Option ℕ → Bool
-has_named kinds None = false
-has_named kinds (Some kind) = has_kind kinds kind
+-- the notes that a run may have: none; those of one kind more, anywhere; one of a kind at a place more, where fewer are listed than a line
+-- may list
+abbrev pub most_spots : ℕ
+most_spots = 8
 
--- the kind that the line of a note names, behind NOTE
+abbrev pub nothing_allowed : Allowed
+nothing_allowed = record { kinds = 0; count = 0; spots = replicate most_spots None }
+
+abbrev pub and_kind : Allowed → ℕ → Allowed
+and_kind a kind = record { kinds = with_kind a.kinds kind; count = a.count; spots = a.spots }
+
+abbrev pub and_spot : Allowed → Spot → Option Allowed
+and_spot a spot =
+    if nat_lt a.count most_spots then Some (record { kinds = a.kinds; count = a.count + 1; spots = set a.spots a.count (Some spot) })
+    else None
+
+-- whether a note of a kind at a place is one of them
+abbrev pub is_spot : ℕ → Linear → Option Spot → Bool
+is_spot kind place None = false
+is_spot kind place (Some spot) = spot.kind == kind && same_place spot.place place
+
+abbrev pub is_listed_at : Allowed → ℕ → Option Linear → Bool
+is_listed_at a kind None = false
+is_listed_at a kind (Some place) = list_any (is_spot kind place) a.spots
+
+abbrev pub is_allowed : Allowed → Option ℕ → Option Linear → Bool
+is_allowed a None place = false
+is_allowed a (Some kind) place = has_kind a.kinds kind || is_listed_at a kind place
+
+-- the kind that the line of a note names, behind NOTE; and the place behind that, where one stands there
 abbrev pub kind_named : List (List ℕ) → Option ℕ
 kind_named [] = None
 kind_named (note ∷ []) = None
 kind_named (note ∷ kind ∷ more) = kind_in kind
 
--- whether a line is not a note of one of some kinds
-abbrev pub is_other : ℕ → List ℕ → Bool
-is_other kinds line = not (has_named kinds (kind_named (texts (runs line))))
+abbrev pub place_noted : List (List ℕ) → Option Linear
+place_noted [] = None
+place_noted (note ∷ []) = None
+place_noted (note ∷ kind ∷ []) = None
+place_noted (note ∷ kind ∷ place ∷ more) = unnamed_place place
+
+-- whether a line is not a note that a run may have
+abbrev pub is_other : Allowed → List ℕ → Bool
+is_other a line = not (is_allowed a (kind_named (texts (runs line))) (place_noted (texts (runs line))))
 
 -- the first of some lines that is not
-unfoldable pub first_other : ℕ → List (List ℕ) → Option (List ℕ)
-first_other kinds [] = None
-first_other kinds (line ∷ more) = if is_other kinds line then Some line else first_other kinds more
+unfoldable pub first_other : Allowed → List (List ℕ) → Option (List ℕ)
+first_other a [] = None
+first_other a (line ∷ more) = if is_other a line then Some line else first_other a more

@@ -7,12 +7,16 @@ use Rattle.space.specs.declared.place.Linear.{Linear}
 use Rattle.commands.specs.Commands.{channel_in, count_in, erasable_number}
 use Rattle.commands.specs.NamedPlaces.{begins_with_plus, named_place}
 use Rattle.expect.specs.Fields.{moved_in, relation_in, value_in}
-use Rattle.expect.specs.Kinds.{kind_in, with_kind}
+use Rattle.expect.specs.Kinds.{and_kind, and_spot, kind_in, nothing_allowed}
+use Rattle.expect.specs.declared.claim.Allowed.{Allowed}
 use Rattle.expect.specs.declared.claim.Claim.{Claim}
 use Rattle.expect.specs.declared.claim.Claim.TheVariants.{Puts, PutsNoMore, Always, Never, AtEnd, At, Calls, CallsWithin}
 use Rattle.expect.specs.declared.claim.Claim.TheVariants.{Notes, Check, Covered}
 use Rattle.expect.specs.declared.claim.Condition.{Condition}
 use Rattle.expect.specs.declared.claim.Relation.{Relation}
+use Rattle.expect.specs.declared.notes.Listing.{Listing}
+use Rattle.expect.specs.declared.notes.Pending.{Pending}
+use Rattle.expect.specs.declared.notes.Pending.TheVariants as pending
 use Rattle.expect.specs.declared.refusal.Asked.{Asked}
 use Rattle.expect.specs.declared.refusal.Asked.TheVariants as asked
 use Rattle.expect.specs.declared.refusal.Wrong.{Wrong}
@@ -198,26 +202,88 @@ abbrev pub calls_at : SymbolTable → ℕ → List (List ℕ) → Reading Claim
 calls_at symbols at [] = asks at asked.Routine
 calls_at symbols at (field ∷ more) = with_routine at (named_place symbols field) more
 
--- ## Notes: NONE, or the kinds of which there may be some
--- the last field of a line that names a kind
+-- ## Notes: NONE, or those that there may be: of a kind, anywhere or AT a place
+-- the last field of a line that lists notes
 abbrev pub last_kind : ℕ
-last_kind = 30
+last_kind = 60
 
--- kinds with one more
-abbrev pub and_kind : ℕ → ℕ → Option ℕ → (ℕ → Reading Claim) → Reading Claim
-and_kind at kinds None more = asks at asked.Kind
-and_kind at kinds (Some kind) more = more (with_kind kinds kind)
+-- what is read of a line: the notes that there may be, and what is read behind them and not listed yet
+abbrev pub so_far : Allowed → Pending → Listing
+so_far a p = record { allowed = a; pending = p }
 
--- kinds, and those of some fields, of which the first has a number
-unfoldable pub kinds_at : ℕ → ℕ → List (List ℕ) → Reading Claim
-kinds_at at kinds [] = Ok (Notes kinds)
-kinds_at at kinds (field ∷ more) =
-    if nat_lt last_kind at then asks at asked.End else and_kind at kinds (kind_in field) (λ listed. kinds_at (at + 1) listed more)
+-- its kind, 1 where there is none
+abbrev pub pending_kind : Pending → ℕ
+pending_kind pending.Nothing = 1
+pending_kind (pending.Kind kind) = kind
+pending_kind (pending.Place kind) = kind
+pending_kind (pending.At spot) = spot.kind
 
-abbrev pub notes_at : ℕ → List (List ℕ) → Reading Claim
-notes_at at [] = asks at asked.Notes
-notes_at at (field ∷ more) =
-    if same_name field (codes "NONE") then ended_at (at + 1) (Notes 0) more else kinds_at at 0 (field ∷ more)
+-- a kind
+abbrev pub opened : ℕ → Allowed → Option ℕ → Reading Listing
+opened at a None = asks at asked.Kind
+opened at a (Some kind) = Ok (so_far a (pending.Kind kind))
+
+-- a kind at a place, which is listed where there is room
+abbrev pub with_room : ℕ → Option Allowed → Reading Allowed
+with_room at None = asks at asked.FewerPlaces
+with_room at (Some a) = Ok a
+
+-- a kind after one at a place
+abbrev pub opened_after : ℕ → Reading Allowed → Option ℕ → Reading Listing
+opened_after at (Ok a) kind = opened at a kind
+opened_after at (Err wrong) kind = Err wrong
+
+-- the place of a kind
+abbrev pub placed : ℕ → Allowed → ℕ → Option Linear → Reading Listing
+placed at a kind None = asks at asked.Routine
+placed at a kind (Some place) = Ok (so_far a (pending.At (record { kind = kind; place = place })))
+
+-- the place that is moved on
+abbrev pub closed : Reading Allowed → Reading Listing
+closed (Ok a) = Ok (so_far a pending.Nothing)
+closed (Err wrong) = Err wrong
+
+abbrev pub moved : ℕ → Allowed → ℕ → Option Linear → Reading Listing
+moved at a kind None = asks at asked.Offset
+moved at a kind (Some place) = closed (with_room at (and_spot a (record { kind = kind; place = place })))
+
+-- a field more
+abbrev pub listed_next : SymbolTable → ℕ → Allowed → Pending → List ℕ → Reading Listing
+listed_next symbols at a pending.Nothing field = opened at a (kind_in field)
+listed_next symbols at a (pending.Kind kind) field =
+    if same_name field (codes "AT") then Ok (so_far a (pending.Place kind)) else opened at (and_kind a kind) (kind_in field)
+listed_next symbols at a (pending.Place kind) field = placed at a kind (named_place symbols field)
+listed_next symbols at a (pending.At spot) field =
+    if begins_with_plus field then moved at a spot.kind (moved_in spot.place field)
+    else opened_after at (with_room at (and_spot a spot)) (kind_in field)
+
+-- the end of a line
+abbrev pub listed_all : ℕ → Allowed → Pending → Reading Allowed
+listed_all at a pending.Nothing = Ok a
+listed_all at a (pending.Kind kind) = Ok (and_kind a kind)
+listed_all at a (pending.Place kind) = asks at asked.Routine
+listed_all at a (pending.At spot) = with_room at (and_spot a spot)
+
+abbrev pub claiming_notes : Reading Allowed → Reading Claim
+claiming_notes (Ok a) = Ok (Notes a)
+claiming_notes (Err wrong) = Err wrong
+
+-- what some fields list, of which the first has a number
+abbrev pub going_on : Reading Listing → (Listing → Reading Claim) → Reading Claim
+going_on (Ok l) more = more l
+going_on (Err wrong) more = Err wrong
+
+unfoldable pub kinds_at : SymbolTable → ℕ → Listing → List (List ℕ) → Reading Claim
+kinds_at symbols at l [] = claiming_notes (listed_all at l.allowed l.pending)
+kinds_at symbols at l (field ∷ more) =
+    if nat_lt last_kind at then asks at asked.End
+    else going_on (listed_next symbols at l.allowed l.pending field) (λ next. kinds_at symbols (at + 1) next more)
+
+abbrev pub notes_at : SymbolTable → ℕ → List (List ℕ) → Reading Claim
+notes_at symbols at [] = asks at asked.Notes
+notes_at symbols at (field ∷ more) =
+    if same_name field (codes "NONE") then ended_at (at + 1) (Notes nothing_allowed) more
+    else kinds_at symbols at (so_far nothing_allowed pending.Nothing) (field ∷ more)
 
 -- ## Instructions that are executed: how many at least
 abbrev pub with_least : ℕ → Option ℕ → List (List ℕ) → Reading Claim
@@ -260,7 +326,7 @@ claims_of symbols (name ∷ more) =
     else (if same_name name (codes "NEVER") then claiming Never (condition_at symbols 1 more)
     else (if same_name name (codes "AT") then place_at symbols 1 more
     else (if same_name name (codes "CALLS") then alone (calls_at symbols 1 more)
-    else (if same_name name (codes "NOTES") then alone (notes_at 1 more)
+    else (if same_name name (codes "NOTES") then alone (notes_at symbols 1 more)
     else (if same_name name (codes "CHECK") then alone (ended_at 1 Check more)
     else (if same_name name (codes "COVERED") then alone (covered_at 1 more)
     else asks 0 asked.Claim)))))))

@@ -62,7 +62,7 @@ word_came_text (Some word) = codes "it is " ++ word_text word
 abbrev pub came_text : Facts → Claim → ℕ → Option ℕ → List ℕ
 came_text facts (Calls place times) seen word = codes "it is called " ++ decimal seen ++ codes " times"
 came_text facts (CallsWithin place most) seen word = if seen == 0 then codes "it is not called" else codes "a call takes longer"
-came_text facts (Notes kinds) seen word = []
+came_text facts (Notes allowed) seen word = []
 came_text facts Check seen word =
     (codes "check: errors " ++ decimal facts.errors ++ codes ", warnings ") ++ (decimal facts.warnings ++ codes ": ")
 came_text facts (Covered least) seen word = codes "it executes " ++ decimal facts.executed ++ codes " instructions"
@@ -99,7 +99,7 @@ wanted_text (AtEnd c) came = condition_text c
 wanted_text (At place c) came = condition_text c
 wanted_text (Calls place times) came = decimal times
 wanted_text (CallsWithin place most) came = codes "within " ++ decimal most ++ codes " cycles"
-wanted_text (Notes kinds) came = codes "no other note"
+wanted_text (Notes allowed) came = codes "no other note"
 wanted_text Check came = codes "none"
 wanted_text (Covered least) came = decimal least ++ codes " or more"
 

@@ -49,6 +49,29 @@ pub struct Sought {
     pub within: u64,
 }
 
+/// A note of a kind, by its number, at a place.
+#[derive(Clone, Copy, Debug, Drop)]
+pub struct Spot {
+    /// The kind.
+    pub kind: u64,
+    /// The place.
+    pub place: Linear,
+}
+
+/// How many notes at a place a line lists at most.
+pub(crate) const MOST_SPOTS: usize = 8;
+
+/// The notes that a run may have.
+#[derive(Clone, Copy, Debug, Drop)]
+pub struct Allowed {
+    /// Those of some kinds, which have the sum of their numbers, anywhere.
+    pub kinds: u64,
+    /// How many are listed with a place.
+    pub count: usize,
+    /// Those, from the first on.
+    pub spots: [Option<Spot>; MOST_SPOTS],
+}
+
 /// What is claimed of a run of some steps.
 #[derive(Clone, Copy, Debug, Drop)]
 pub enum Claim {
@@ -68,8 +91,8 @@ pub enum Claim {
     Calls(Linear, u64),
     /// It is called, and each call takes at most so many cycles.
     CallsWithin(Linear, u64),
-    /// The run has no note but of some kinds, which have the sum of their numbers.
-    Notes(u64),
+    /// The run has no note but those that it may have.
+    Notes(Allowed),
     /// `check` tells no error of the source, and no warning.
     Check,
     /// So many instructions of the program are executed, or more.

@@ -29,7 +29,7 @@ pub(crate) fn misses(known: &Known<'_>, claim: &Claim) -> bool
     ensures { result ≡ misses (facts_of known.now) claim.now }
 {
     match claim {
-        Claim::Notes(kinds) => first_other(*kinds, known.notes).is_some(),
+        Claim::Notes(allowed) => first_other(allowed, known.notes).is_some(),
         Claim::Check => !(known.errors == 0 && known.warnings == 0),
         Claim::Covered(least) => known.executed < *least,
         Claim::Puts(_) | Claim::PutsNoMore(_, _) => false,
@@ -38,12 +38,12 @@ pub(crate) fn misses(known: &Known<'_>, claim: &Claim) -> bool
     }
 }
 
-/// The line that tells of a claim that is not borne out: the first note of another kind, or what `check` tells first.
+/// The line that tells of a claim that is not borne out: the first other note, or what `check` tells first.
 pub(crate) fn cited<'a>(known: &Known<'a>, claim: &Claim) -> &'a [u8]
     ensures { result.now ≡ cited (facts_of known.now) claim.now }
 {
     match claim {
-        Claim::Notes(kinds) => first_other(*kinds, known.notes).unwrap_or(b""),
+        Claim::Notes(allowed) => first_other(allowed, known.notes).unwrap_or(b""),
         Claim::Check => first_of(known.report),
         _ => b"",
     }

@@ -18,7 +18,7 @@ mod statement;
 mod verdict;
 mod watch;
 
-pub use claim::{Claim, Condition, Relation, Sought, Stated};
+pub use claim::{Allowed, Claim, Condition, Relation, Sought, Spot, Stated};
 pub use heading::{Expectation, expectation_in};
 pub use judging::{judge, settle};
 pub use known::{Known, ask_for_check, ask_for_instructions, ask_for_notes};

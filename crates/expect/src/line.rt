@@ -64,7 +64,7 @@ pub(crate) fn line_of<'a>(symbols: &Symbols, fields: &'a [u8]) -> Result<Line<'a
     } else if is_word(name, "CALLS") {
         alone(calls_at(symbols, 1, rest))
     } else if is_word(name, "NOTES") {
-        alone(notes_at(1, rest))
+        alone(notes_at(symbols, 1, rest))
     } else if is_word(name, "CHECK") {
         alone(ended(1, Claim::Check, rest))
     } else if is_word(name, "COVERED") {

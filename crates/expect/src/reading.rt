@@ -9,13 +9,14 @@ ghost use Rattle.expect.specs.Statements.{Statement as Spoken, statements};
 ghost use Rattle.expect.specs.Texts.{Adds, Refuses, and_lines, claims_after, name_of};
 
 use crate::channel::nothing_at;
-use crate::claim::{Claim, Sought, Stated};
+use crate::claim::{Allowed, Claim, Sought, Spot, Stated};
 use crate::condition::wrong;
 use crate::fields::{is_word, value_in};
 use crate::line::{Line, Words, line_of};
 use crate::refusal::{Asked, ExpectFault, Refusal, Wrong};
 use crate::statement::{has_field, next_statement};
 use agc_text::split_field;
+use space::Linear;
 use std::alloc::Global;
 use symbols::Symbols;
 
@@ -126,6 +127,8 @@ fn add(claims: &mut Vec<Stated>, place: Place, claim: Claim) -> Result<(), Expec
         ≡ claims.old.items ++ record { test = place.test; line = place.line; claim = claim } ∷ []) }
     ensures fault { IfErr result (λ e. e ≡ ExpectFault.NoMemory) }
 {
+    // (The prover does not look for the types of what an array of the claim holds.)
+    let _held: Option<(Allowed, Spot, Linear)> = None;
     let stated = Stated {
         test: place.test,
         line: place.line,

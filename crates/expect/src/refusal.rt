@@ -41,6 +41,8 @@ pub enum Asked {
     Notes,
     /// A kind of notes.
     Kind,
+    /// Fewer notes at a place.
+    FewerPlaces,
     /// How many words are executed at least.
     Least,
     /// A relation.

@@ -28,10 +28,11 @@ use Rattle.cpu.specs.declared.next_step.Fetched.{Fetched}
 use Rattle.cpu.specs.declared.next_step.NextStep.{NextStep}
 use Rattle.cpu.specs.declared.next_step.NextStep.TheVariants as made
 use Rattle.notes.specs.declared.past.Past.{Past}
-use Rattle.notes.specs.Past.{comes_by, is_marked, is_passed, marked, no_past, past, past_by, seen}
-use Rattle.notes.specs.Notes.{counts_minus_zero, divides, happens, happens_in, has_word, is_at_word, is_code_in_erasable, is_named}
-use Rattle.notes.specs.Notes.{is_quiet, is_quiet_step, reaches_other, skips}
-use Rattle.notes.proofs.Divisions.{basic_never, neither}
+use Rattle.notes.specs.Past.{comes_by, is_lost, is_marked, is_passed, marked, no_past, past, past_by, reads_channel, seen}
+use Rattle.notes.specs.Notes.{counts_minus_zero, divides, happens, happens_in, has_word, is_at_word, is_code_in_erasable, is_erasable}
+use Rattle.notes.specs.Notes.{is_plain, is_plain_code, is_plain_step, is_quiet_step, names_erasable_in, place_named, reaches_in}
+use Rattle.notes.specs.Notes.{is_named, reaches_other, skips}
+use Rattle.notes.proofs.Divisions.{basic_never, extracode_never, neither}
 use Rattle.notes.specs.RunNotes.{here, happens_at, kinds_text, step_text, text_after, times, times_from, told, where_of}
 use Rattle.notes.specs.declared.notebook.Told.{Told}
 use Rattle.notes.specs.Counted.{told_of, is_first, rewound, seen_by, some_kind, AreSmall, Book, Counted, counts_of, Left, Notes, Takes}
@@ -504,7 +505,7 @@ texts_up_to_last notation symbols named scenario n book counted =
     front_rest (step_text notation symbols named scenario n) (n - book.last) book.last n (omega (arith, counted.within))
     (λ t from lt. none_later notation symbols named scenario t n book counted from lt)
 
--- ## Quiet steps
+-- ## Plain steps, and quiet ones
 not_so : (b : Bool) → not b ≡ true → b ≡ false
 not_so true e = absurd (cc)
 not_so false e = refl
@@ -543,103 +544,185 @@ is_account : (rope : Words) (place : Linear) → is_at_word rope place ≡ true 
 is_account rope (Erasable p) e = absurd (cc)
 is_account rope (Fixed bank offset) e = within_banks rope bank offset e
 
--- what a quiet instruction is
-record Quiet (named : Named) (rope : Words) (s : State) (p : Past) (f : Fetched) : Type 0 where
+-- what a plain instruction is
+record Plain (rope : Words) (s : State) (p : Past) (f : Fetched) : Type 0 where
   waited : f.waited ≡ false
-  extra : f.extra ≡ false
   placed : is_at_word rope f.place ≡ true
-  resumes : (f.word == 0o50017) ≡ false
-  skips : skips s f ≡ false
-  zeros : counts_minus_zero rope s f ≡ false
-  other : reaches_other named s f ≡ false
   unshared : is_marked p.entered (comes_by s f) ≡ false
   passed : p.passed ≡ marked p.passed (comes_by s f)
-
-quiet_parts : (named : Named) (rope : Words) (s : State) (p : Past) (f : Fetched) → is_quiet named rope s p f ≡ true
-    → Quiet named rope s p f
-quiet_parts named rope s p f e =
-    let one = and_parts (not f.waited) _ e in
-    let two = and_parts (not f.extra) _ one.1 in
-    let three = and_parts (is_at_word rope f.place) _ two.1 in
-    let four = and_parts (not (f.word == 0o50017)) _ three.1 in
-    let five = and_parts (not (skips s f)) _ four.1 in
-    let six = and_parts (not (counts_minus_zero rope s f)) _ five.1 in
-    let seven = and_parts (not (reaches_other named s f)) (is_passed p (comes_by s f)) six.1 in
-    record {
-      waited = not_so f.waited one.0;
-      extra = not_so f.extra two.0;
-      placed = three.0;
-      resumes = not_so (f.word == 0o50017) four.0;
-      skips = not_so (skips s f) five.0;
-      zeros = not_so (counts_minus_zero rope s f) six.0;
-      other = not_so (reaches_other named s f) seven.0;
-      unshared = not_entered p (comes_by s f) seven.1;
-      passed = passed_before p (comes_by s f) seven.1;
-    }
+  resumes : (not f.extra && f.word == 0o50017) ≡ false
+  reads : reads_channel f ≡ false
+  skips : skips s f ≡ false
+  divides : divides rope s f ≡ false
+  zeros : counts_minus_zero rope s f ≡ false
 
 never_divides : (rope : Words) (s : State) (f : Fetched) → f.extra ≡ false → divides rope s f ≡ false
 never_divides rope s f e =
     let never : is_named f (codes "DV") ≡ false = rw e (basic_never f.word) in
     rw never refl
 
-quiet_none : (named : Named) (rope : Words) (s : State) (f : Fetched) (p : Past) → Quiet named rope s p f → (kind : Kind)
-    → happens_in named rope s p kind (made.Executes f) ≡ false
-quiet_none named rope s f p q =
-    of_kinds (λ kind. happens_in named rope s p kind (made.Executes f) ≡ false) (never_divides rope s f q.extra) q.skips
+never_skips : (s : State) (f : Fetched) → f.extra ≡ true → skips s f ≡ false
+never_skips s f e =
+    let never : is_named f (codes "TS") ≡ false = rw e (extracode_never f.word) in
+    rw never refl
+
+plain_extracode : (rope : Words) (s : State) (p : Past) (f : Fetched) → f.extra ≡ true → f.waited ≡ false
+    → is_at_word rope f.place ≡ true → is_passed p (comes_by s f) ≡ true
+    → (not (reads_channel f) && not (divides rope s f)) ≡ true → Plain rope s p f
+plain_extracode rope s p f extra waited placed passes e =
+    let one = and_parts (not (reads_channel f)) (not (divides rope s f)) e in
+    record {
+      waited = waited;
+      placed = placed;
+      unshared = not_entered p (comes_by s f) passes;
+      passed = passed_before p (comes_by s f) passes;
+      resumes = rw extra refl;
+      reads = not_so (reads_channel f) one.0;
+      skips = never_skips s f extra;
+      divides = not_so (divides rope s f) one.1;
+      zeros = rw extra refl;
+    }
+
+plain_basic : (rope : Words) (s : State) (p : Past) (f : Fetched) → f.extra ≡ false → f.waited ≡ false
+    → is_at_word rope f.place ≡ true → is_passed p (comes_by s f) ≡ true
+    → (not (f.word == 0o50017) && (not (skips s f) && not (counts_minus_zero rope s f))) ≡ true → Plain rope s p f
+plain_basic rope s p f extra waited placed passes e =
+    let one = and_parts (not (f.word == 0o50017)) _ e in
+    let two = and_parts (not (skips s f)) (not (counts_minus_zero rope s f)) one.1 in
+    record {
+      waited = waited;
+      placed = placed;
+      unshared = not_entered p (comes_by s f) passes;
+      passed = passed_before p (comes_by s f) passes;
+      resumes = rw extra (not_so (f.word == 0o50017) one.0);
+      reads = rw extra refl;
+      skips = not_so (skips s f) two.0;
+      divides = never_divides rope s f extra;
+      zeros = not_so (counts_minus_zero rope s f) two.1;
+    }
+
+-- which of two it is
+first_of_two : (b x y : Bool) → b ≡ true → (if b then x else y) ≡ true → x ≡ true
+first_of_two true x y e held = held
+first_of_two false x y e held = absurd (cc)
+
+second_of_two : (b x y : Bool) → b ≡ false → (if b then x else y) ≡ true → y ≡ true
+second_of_two true x y e held = absurd (cc)
+second_of_two false x y e held = held
+
+plain_parts : (rope : Words) (s : State) (p : Past) (f : Fetched) → is_plain rope s p f ≡ true → Plain rope s p f
+plain_parts rope s p f e =
+    let one = and_parts (not f.waited) _ e in
+    let two = and_parts (is_at_word rope f.place) _ one.1 in
+    let three = and_parts (is_passed p (comes_by s f)) (is_plain_code rope s f) two.1 in
+    let waited = not_so f.waited one.0 in
+    elim (cases_Bool f.extra) [
+      | inl extra ↦ plain_extracode rope s p f extra waited two.0 three.0 (first_of_two f.extra _ _ extra three.1)
+      | inr basic ↦ plain_basic rope s p f basic waited two.0 three.0 (second_of_two f.extra _ _ basic three.1)
+    ]
+
+-- where two are not so, nor are three or four
+not_three : (a b c : Bool) → (a && b) ≡ false → (a && b && c) ≡ false
+not_three true b c e = rw e refl
+not_three false b c e = refl
+
+not_four : (a b c d : Bool) → (a && b) ≡ false → (a && b && c && d) ≡ false
+not_four true b c d e = rw e refl
+not_four false b c d e = refl
+
+-- what happens where nothing does but that another bank is reached
+abbrev pub only_bank : Bool → Bool → Kind → Bool
+only_bank reaches erasable OtherBank = reaches && erasable
+only_bank reaches erasable FixedBank = reaches && not erasable
+only_bank reaches erasable kind = false
+
+plain_each : (named : Named) (rope : Words) (s : State) (f : Fetched) (p : Past) → Plain rope s p f → (kind : Kind)
+    → happens_in named rope s p kind (made.Executes f)
+    ≡ only_bank (reaches_other named s f) (is_erasable (place_named named f.place)) kind
+plain_each named rope s f p q =
+    of_kinds (λ kind. happens_in named rope s p kind (made.Executes f)
+    ≡ only_bank (reaches_other named s f) (is_erasable (place_named named f.place)) kind)
+    q.divides q.skips
     (rw (q.waited, has_a_word rope f.place q.placed) refl)
-    (rw (q.waited, not_in_erasable rope f.place q.placed) refl) refl (rw q.other refl) (rw (q.extra, q.resumes) refl)
-    (rw (q.waited, q.zeros) refl) refl (rw (q.extra, q.resumes, q.unshared) refl) (rw q.other refl)
+    (rw (q.waited, not_in_erasable rope f.place q.placed) refl) refl refl
+    (not_four (not f.extra) (f.word == 0o50017) s.inside (is_lost s p.entry) q.resumes)
+    (rw (q.waited, q.zeros) refl) refl
+    (rw (not_three (not f.extra) (f.word == 0o50017) (not s.inside) q.resumes, q.unshared) refl) refl
+
+-- so it is of a plain step
+pub step_plain : (named : Named) (rope : Words) (s : State) (step : NextStep) (p : Past) → is_plain_step rope s p step ≡ true
+    → (kind : Kind) → happens_in named rope s p kind step ≡ only_bank (reaches_in named s step) (names_erasable_in named step) kind
+step_plain named rope s (made.Takes input) p e = absurd (cc)
+step_plain named rope s (made.Enters k) p e = absurd (cc)
+step_plain named rope s (made.Executes f) p e = plain_each named rope s f p (plain_parts rope s p f e)
+
+only_none : (erasable : Bool) (kind : Kind) → only_bank false erasable kind ≡ false
+only_none erasable =
+    of_kinds (λ kind. only_bank false erasable kind ≡ false) refl refl refl refl refl refl refl refl refl refl refl
+
+-- of a quiet step nothing happens
+none_reached : (named : Named) (rope : Words) (s : State) (step : NextStep) (p : Past) → is_plain_step rope s p step ≡ true
+    → reaches_in named s step ≡ false → (kind : Kind) → happens_in named rope s p kind step ≡ false
+none_reached named rope s step p plain none kind =
+    step_plain named rope s step p plain kind ∙ ap (λ b. only_bank b (names_erasable_in named step) kind) none
+    ∙ only_none (names_erasable_in named step) kind
 
 pub step_none : (named : Named) (rope : Words) (s : State) (step : NextStep) (p : Past) → is_quiet_step named rope s p step ≡ true
     → (kind : Kind)
     → happens_in named rope s p kind step ≡ false
-step_none named rope s (made.Takes input) p e = absurd (cc)
-step_none named rope s (made.Enters k) p e = absurd (cc)
-step_none named rope s (made.Executes f) p e = quiet_none named rope s f p (quiet_parts named rope s p f e)
+step_none named rope s step p e =
+    let parts = and_parts (is_plain_step rope s p step) (not (reaches_in named s step)) e in
+    none_reached named rope s step p parts.0 (not_so (reaches_in named s step) parts.1)
 
-quiet_waits : (named : Named) (rope : Words) (s : State) (p : Past) (step : NextStep) (number : ℕ) (waits : Waits)
-    → is_quiet_step named rope s p step ≡ true → waits ≡ waits_after s step number waits
-quiet_waits named rope s p (made.Takes input) number waits e = absurd (cc)
-quiet_waits named rope s p (made.Enters k) number waits e = absurd (cc)
-quiet_waits named rope s p (made.Executes f) number waits e = refl
+pub plain_waits : (rope : Words) (s : State) (p : Past) (step : NextStep) (number : ℕ) (waits : Waits)
+    → is_plain_step rope s p step ≡ true → waits ≡ waits_after s step number waits
+plain_waits rope s p (made.Takes input) number waits e = absurd (cc)
+plain_waits rope s p (made.Enters k) number waits e = absurd (cc)
+plain_waits rope s p (made.Executes f) number waits e = refl
 
 still_so : (b : Bool) → b ≡ (b && true)
 still_so true = refl
 still_so false = refl
 
+pub plain_past : (rope : Words) (s : State) (step : NextStep) (p : Past) → is_plain_step rope s p step ≡ true
+    → p ≡ past_by s p step
+plain_past rope s (made.Takes input) p e = absurd (cc)
+plain_past rope s (made.Enters k) p e = absurd (cc)
+plain_past rope s (made.Executes f) p e =
+    let q = plain_parts rope s p f e in
+    let unread : (b : Bool) → b ≡ b && not false = λ b. still_so b in
+    rw q.reads (λ i. record p { first_key = unread p.first_key i; second_key = unread p.second_key i; passed = q.passed i })
+
 pub quiet_past : (named : Named) (rope : Words) (s : State) (step : NextStep) (p : Past) → is_quiet_step named rope s p step ≡ true
     → p ≡ past_by s p step
-quiet_past named rope s (made.Takes input) p e = absurd (cc)
-quiet_past named rope s (made.Enters k) p e = absurd (cc)
-quiet_past named rope s (made.Executes f) p e =
-    let q = quiet_parts named rope s p f e in
-    let unread : (b : Bool) → b ≡ b && not false = λ b. still_so b in
-    rw q.extra (λ i. record p { first_key = unread p.first_key i; second_key = unread p.second_key i; passed = q.passed i })
+quiet_past named rope s step p e =
+    plain_past rope s step p (and_parts (is_plain_step rope s p step) (not (reaches_in named s step)) e).0
 
-quiet_account : (named : Named) (rope : Words) (s : State) (p : Past) (step : NextStep) → is_quiet_step named rope s p step ≡ true
+plain_account : (rope : Words) (s : State) (p : Past) (step : NextStep) → is_plain_step rope s p step ≡ true
     → IsAccount (where_of step)
-quiet_account named rope s p (made.Takes input) e = absurd (cc)
-quiet_account named rope s p (made.Enters k) e = absurd (cc)
-quiet_account named rope s p (made.Executes f) e =
-    let q = quiet_parts named rope s p f e in
+plain_account rope s p (made.Takes input) e = absurd (cc)
+plain_account rope s p (made.Enters k) e = absurd (cc)
+plain_account rope s p (made.Executes f) e =
+    let q = plain_parts rope s p f e in
     rw q.waited (is_account rope f.place q.placed)
 
 -- a quiet step is noted, and taken
 pub quiet_noted : (scenario : Scenario) (s : State) (step : NextStep) (old : Book) → step ≡ next_step scenario s
-    → is_quiet_step old.named scenario.rope s old.past step ≡ true
+    → is_plain_step scenario.rope s old.past step ≡ true → reaches_in old.named s step ≡ false
     → Notes scenario s old (record old { steps = old.steps + 1 })
 unfolding happens
-quiet_noted scenario s step old was quiet =
-    let e : is_quiet_step old.named scenario.rope s old.past (next_step scenario s) ≡ true = rw was at quiet in
-    let none = step_none old.named scenario.rope s (next_step scenario s) old.past e in
+quiet_noted scenario s step old was plain unreached =
+    let e : is_plain_step scenario.rope s old.past (next_step scenario s) ≡ true = rw was at plain in
+    let e2 : reaches_in old.named s (next_step scenario s) ≡ false = rw was at unreached in
+    let none = none_reached old.named scenario.rope s (next_step scenario s) old.past e e2 in
     let number = account_number (here scenario s) in
     let new : Book = record old { steps = old.steps + 1 } in
     record {
-      known = quiet_account old.named scenario.rope s old.past (next_step scenario s) e;
+      known = plain_account scenario.rope s old.past (next_step scenario s) e;
       each = λ kind. counts_alike old new refl kind ∙ sym (ap (λ b. counted_more (counts_of old kind) number b) (none kind));
       named = refl;
-      waits = quiet_waits old.named scenario.rope s old.past (next_step scenario s) (old.steps + 1) old.waits e;
-      past = quiet_past old.named scenario.rope s (next_step scenario s) old.past e;
+      waits = plain_waits scenario.rope s old.past (next_step scenario s) (old.steps + 1) old.waits e;
+      past = plain_past scenario.rope s (next_step scenario s) old.past e;
       steps = refl;
       last = sym
           (ap (λ b. if b then old.steps + 1 else old.last)
@@ -648,24 +731,26 @@ quiet_noted scenario s step old was quiet =
     }
 
 pub quiet_takes : (scenario : Scenario) (s : State) (step : NextStep) (old : Book) → step ≡ next_step scenario s
-    → is_quiet_step old.named scenario.rope s old.past step ≡ true → Takes scenario s old old
+    → is_plain_step scenario.rope s old.past step ≡ true → reaches_in old.named s step ≡ false → Takes scenario s old old
 unfolding happens
-quiet_takes scenario s step old was quiet =
-    let e : is_quiet_step old.named scenario.rope s old.past (next_step scenario s) ≡ true = rw was at quiet in
-    let none = step_none old.named scenario.rope s (next_step scenario s) old.past e in
+quiet_takes scenario s step old was plain unreached =
+    let e : is_plain_step scenario.rope s old.past (next_step scenario s) ≡ true = rw was at plain in
+    let e2 : reaches_in old.named s (next_step scenario s) ≡ false = rw was at unreached in
+    let none = none_reached old.named scenario.rope s (next_step scenario s) old.past e e2 in
     record {
-      known = quiet_account old.named scenario.rope s old.past (next_step scenario s) e;
+      known = plain_account scenario.rope s old.past (next_step scenario s) e;
       each = λ kind. sym (ap (λ b. left_after (counts_of old kind) (account_number (here scenario s)) b) (none kind));
       named = refl;
       waits = refl;
-      past = quiet_past old.named scenario.rope s (next_step scenario s) old.past e;
+      past = plain_past scenario.rope s (next_step scenario s) old.past e;
     }
 
 pub quiet_told : (scenario : Scenario) (s : State) (step : NextStep) (old : Book) → step ≡ next_step scenario s
-    → is_quiet_step old.named scenario.rope s old.past step ≡ true → (kind : Kind)
+    → is_plain_step scenario.rope s old.past step ≡ true → reaches_in old.named s step ≡ false → (kind : Kind)
     → taken_at scenario s old kind ≡ 0
 unfolding happens
-quiet_told scenario s step old was quiet kind =
-    let e : is_quiet_step old.named scenario.rope s old.past (next_step scenario s) ≡ true = rw was at quiet in
+quiet_told scenario s step old was plain unreached kind =
+    let e : is_plain_step scenario.rope s old.past (next_step scenario s) ≡ true = rw was at plain in
+    let e2 : reaches_in old.named s (next_step scenario s) ≡ false = rw was at unreached in
     ap (λ b. taken (counts_of old kind) (account_number (here scenario s)) b)
-    (step_none old.named scenario.rope s (next_step scenario s) old.past e kind)
+    (none_reached old.named scenario.rope s (next_step scenario s) old.past e e2 kind)

@@ -1,6 +1,6 @@
 -- What happens in a step that is seldom meant.
 use Rattle.std.specs.Prelude.{ℕ, ◌+◌, ◌*◌, ◌/◌, ◌%◌, ◌==◌, ◌&&◌, ◌||◌, nat_le, nat_lt, Bool, true, false, not, List, codes, Option, Some}
-use Rattle.std.specs.Prelude.{None, is_some}
+use Rattle.std.specs.Prelude.{None, is_some, if◌then◌else◌}
 use Rattle.words.specs.Numbers.{correct}
 use Rattle.words.specs.Products.{quotient_fits}
 use Rattle.words.specs.Signs.{over}
@@ -22,7 +22,7 @@ use Rattle.notes.specs.declared.kind.Kind.{Kind}
 use Rattle.notes.specs.declared.kind.Kind.TheVariants.{Quotient, Skip, NoWord, InErasable, NoHandler, OtherBank, NotKept, MinusZero}
 use Rattle.notes.specs.declared.kind.Kind.TheVariants.{Overwritten, Shared, FixedBank}
 use Rattle.notes.specs.declared.past.Past.{Past}
-use Rattle.notes.specs.Past.{Seen, comes_by, enters_shared, executes_shared, is_passed, loses, overwrites}
+use Rattle.notes.specs.Past.{Seen, comes_by, enters_shared, executes_shared, is_passed, loses, overwrites, reads_channel}
 
 -- the instruction that is executed
 abbrev pub code_in : Fetched → Code
@@ -146,18 +146,34 @@ happens_in named rope s p kind step = false
 unfoldable pub happens : Named → Scenario → Kind → Seen → Bool
 happens named scenario kind w = happens_in named scenario.rope w.state w.past kind (next_step scenario w.state)
 
--- ## Steps of which no kind is
+-- ## Steps of which no kind is but another bank
 abbrev pub is_at_word : Words → Linear → Bool
 is_at_word rope (Erasable p) = false
 is_at_word rope (Fixed bank offset) = stands rope bank offset
 
-abbrev pub is_quiet : Named → Words → State → Past → Fetched → Bool
-is_quiet named rope s p f =
-    not f.waited
-    && (not f.extra
-    && (is_at_word rope f.place && (not (f.word == 0o50017)
-    && (not (skips s f) && (not (counts_minus_zero rope s f) && (not (reaches_other named s f) && is_passed p (comes_by s f)))))))
+-- an instruction that reads no channel and is none of the few that are told
+abbrev pub is_plain_code : Words → State → Fetched → Bool
+is_plain_code rope s f =
+    if f.extra then not (reads_channel f) && not (divides rope s f)
+    else not (f.word == 0o50017) && (not (skips s f) && not (counts_minus_zero rope s f))
 
+-- an instruction of which nothing is told but that it reaches another bank
+abbrev pub is_plain : Words → State → Past → Fetched → Bool
+is_plain rope s p f =
+    not f.waited && (is_at_word rope f.place && (is_passed p (comes_by s f) && is_plain_code rope s f))
+
+abbrev pub is_plain_step : Words → State → Past → NextStep → Bool
+is_plain_step rope s p (Executes f) = is_plain rope s p f
+is_plain_step rope s p step = false
+
+abbrev pub reaches_in : Named → State → NextStep → Bool
+reaches_in named s (Executes f) = reaches_other named s f
+reaches_in named s step = false
+
+abbrev pub names_erasable_in : Named → NextStep → Bool
+names_erasable_in named (Executes f) = is_erasable (place_named named f.place)
+names_erasable_in named step = false
+
+-- an instruction of which nothing is told
 abbrev pub is_quiet_step : Named → Words → State → Past → NextStep → Bool
-is_quiet_step named rope s p (Executes f) = is_quiet named rope s p f
-is_quiet_step named rope s p step = false
+is_quiet_step named rope s p step = is_plain_step rope s p step && not (reaches_in named s step)

@@ -1,14 +1,16 @@
 //! How often each kind has happened, by where.
 
-ghost use Rattle.std.specs.Prelude.{◌≡◌, ◌≤◌, ◌^◌, ◌||◌, IfOk, if◌then◌else◌};
+ghost use Rattle.std.specs.Prelude.{◌≡◌, ◌≤◌, ◌^◌, ◌||◌, IfOk, if◌then◌else◌, true};
 ghost use Rattle.cpu.specs.NextStep.{next_step};
 ghost use Rattle.cpu.specs.State.{FitsRun, Scenario};
 ghost use Rattle.notes.specs.Counted.{AreSmall, Counted, Notes, Takes, rewound, taken_at, told_of};
+ghost use Rattle.notes.specs.Notes.{is_plain_step, reaches_in};
 
 use crate::kind::Kind;
 use crate::ledger::Ledger;
+use crate::other_bank::names_erasable_in;
 use crate::past::Past;
-use crate::quiet::is_quiet_step;
+use crate::quiet::{is_plain_step, reaches_in};
 use crate::step::{account_of, happens};
 use crate::waits::Waits;
 use cover::number_of;
@@ -120,11 +122,44 @@ impl Notebook {
         ensures { Notes processor.now.scenario machine.now self.old self.new }
     {
         let step = processor.next_step(machine);
-        if is_quiet_step(&self.named, processor, machine, &self.past, &step) {
-            self.steps += 1;
-            return;
+        if is_plain_step(processor, machine, &self.past, &step) {
+            self.note_plain(processor, machine, &step);
+        } else {
+            self.note_step(processor, machine, &step);
         }
-        self.note_step(processor, machine, &step);
+    }
+
+    /// Notes what happens in the next step, where that is nothing but that another bank is reached.
+    #[inline(always)]
+    fn note_plain(&mut self, processor: &Processor, machine: &Machine, step: &NextStep)
+        requires step { step.now ≡ next_step processor.now.scenario machine.now }
+        requires plain { is_plain_step processor.now.scenario.rope machine.now self.old.past step.now ≡ true }
+        requires small { AreSmall self.old }
+        ensures { Notes processor.now.scenario machine.now self.old self.new }
+    {
+        if reaches_in(&self.named, machine, step) {
+            self.note_reach(processor, machine, step);
+        } else {
+            self.steps += 1;
+        }
+    }
+
+    /// Notes that the next step reaches another bank, where nothing else happens there.
+    fn note_reach(&mut self, processor: &Processor, machine: &Machine, step: &NextStep)
+        requires step { step.now ≡ next_step processor.now.scenario machine.now }
+        requires plain { is_plain_step processor.now.scenario.rope machine.now self.old.past step.now ≡ true }
+        requires reaches { reaches_in self.old.named machine.now step.now ≡ true }
+        requires small { AreSmall self.old }
+        ensures { Notes processor.now.scenario machine.now self.old self.new }
+    {
+        let (_processor, _machine) = (processor, machine);
+        let number = number_of(account_of(step));
+        let is_erasable = names_erasable_in(&self.named, step);
+        let first_other_bank = self.other_banks.count(number, is_erasable);
+        let first_fixed_bank = self.fixed_banks.count(number, !is_erasable);
+        self.steps += 1;
+        let is_first = either(first_other_bank, first_fixed_bank);
+        self.last = latest(is_first, self.steps, self.last);
     }
 
     /// Notes what happens in the next step, which may be any.
@@ -213,10 +248,46 @@ impl Notebook {
         ensures told { (kind : Kind) → told_of result kind ≡ taken_at processor.now.scenario machine.now self.old kind }
     {
         let step = processor.next_step(machine);
-        if is_quiet_step(&self.named, processor, machine, &self.past, &step) {
-            return NOTHING;
+        if is_plain_step(processor, machine, &self.past, &step) {
+            self.take_plain(processor, machine, &step)
+        } else {
+            self.take_step(processor, machine, &step)
         }
-        self.take_step(processor, machine, &step)
+    }
+
+    /// Takes what happens in the next step, where that is nothing but that another bank is reached.
+    #[inline(always)]
+    fn take_plain(&mut self, processor: &Processor, machine: &Machine, step: &NextStep) -> Told
+        requires step { step.now ≡ next_step processor.now.scenario machine.now }
+        requires plain { is_plain_step processor.now.scenario.rope machine.now self.old.past step.now ≡ true }
+        ensures takes { Takes processor.now.scenario machine.now self.old self.new }
+        ensures told { (kind : Kind) → told_of result kind ≡ taken_at processor.now.scenario machine.now self.old kind }
+    {
+        if reaches_in(&self.named, machine, step) {
+            self.take_reach(processor, machine, step)
+        } else {
+            NOTHING
+        }
+    }
+
+    /// Takes that the next step reaches another bank, where nothing else happens there.
+    fn take_reach(&mut self, processor: &Processor, machine: &Machine, step: &NextStep) -> Told
+        requires step { step.now ≡ next_step processor.now.scenario machine.now }
+        requires plain { is_plain_step processor.now.scenario.rope machine.now self.old.past step.now ≡ true }
+        requires reaches { reaches_in self.old.named machine.now step.now ≡ true }
+        ensures takes { Takes processor.now.scenario machine.now self.old self.new }
+        ensures told { (kind : Kind) → told_of result kind ≡ taken_at processor.now.scenario machine.now self.old kind }
+    {
+        let (_processor, _machine) = (processor, machine);
+        let number = number_of(account_of(step));
+        let is_erasable = names_erasable_in(&self.named, step);
+        let other_banks = self.other_banks.take(number, is_erasable);
+        let fixed_banks = self.fixed_banks.take(number, !is_erasable);
+        Told {
+            other_banks,
+            fixed_banks,
+            ..NOTHING
+        }
     }
 
     /// Takes what happens in the next step, which may be any.
@@ -296,6 +367,13 @@ fn is_some(
         || overwritten
         || shared
         || fixed_bank
+}
+
+/// Whether one of two is so.
+fn either(one: bool, other: bool) -> bool
+    ensures { result ≡ (one || other) }
+{
+    one || other
 }
 
 /// The later of two steps, where something has happened in it for the first time.

@@ -2,9 +2,10 @@
 
 ghost use Rattle.std.specs.Prelude.{◌≡◌, Some};
 ghost use Rattle.cpu.specs.Effects.{place_in};
-ghost use Rattle.notes.specs.Notes.{is_elsewhere, is_erasable, leads_elsewhere, place_named, reaches_other};
+ghost use Rattle.notes.specs.Notes.{is_elsewhere, is_erasable, leads_elsewhere, names_erasable_in, place_named};
+ghost use Rattle.notes.specs.Notes.{reaches_other};
 
-use cpu::{Fetched, Machine, named_address};
+use cpu::{Fetched, Machine, NextStep, named_address};
 use space::resolve::resolve;
 use space::{Addr12, Linear};
 use yayul::NamedPlaces;
@@ -33,6 +34,16 @@ pub(crate) fn names_erasable(named: &NamedPlaces, place: &Linear) -> bool
     match place_named(named, place) {
         Some(Linear::Erasable(_)) => true,
         Some(Linear::Fixed(_, _)) | None => false,
+    }
+}
+
+/// Whether the place that the source of a step's instruction names is one of erasable memory.
+pub(crate) fn names_erasable_in(named: &NamedPlaces, step: &NextStep) -> bool
+    ensures { result ≡ names_erasable_in named.now step.now }
+{
+    match step {
+        NextStep::Takes(_) | NextStep::Enters(_) => false,
+        NextStep::Executes(fetched) => names_erasable(named, &fetched.place),
     }
 }
 

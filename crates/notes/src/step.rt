@@ -138,7 +138,7 @@ fn names_z(machine: &Machine, fetched: &Fetched) -> bool
 
 /// Whether the quotient of DV does not fit. A division by Z is none of these.
 #[tactic(auto, using(crate::proofs::Divisions::basic_never))]
-fn divides(processor: &Processor, machine: &Machine, fetched: &Fetched) -> bool
+pub(crate) fn divides(processor: &Processor, machine: &Machine, fetched: &Fetched) -> bool
     ensures { result ≡ divides processor.now.scenario.rope machine.now fetched.now }
 {
     fetched.extra

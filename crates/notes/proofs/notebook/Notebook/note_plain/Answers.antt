@@ -1,10 +1,11 @@
-use Rattle.std.proofs.Common.{◌∙◌, ◌+◌, [], ◌∷◌, sym, subst}
+use Rattle.std.proofs.Common.{◌≡◌, ◌∙◌, ◌+◌, [], ◌∷◌, sym, subst, true}
+use Rattle.notes.specs.Notes.{is_plain_step}
 use Rattle.notes.specs.Counted.{Book, Notes}
 use Rattle.notes.proofs.Counting.{quiet_noted}
-use Rattle.notes.proofs.notebook.Notebook.note.Goals as goal
+use Rattle.notes.proofs.notebook.Notebook.note_plain.Goals as goal
 
-pub returns-then-is_quiet_step : goal.returns-then-is_quiet_step
-returns-then-is_quiet_step c =
+pub returns-else-reaches_in : goal.returns-else-reaches_in
+returns-else-reaches_in c =
     let old : Book = record {
       named = c.self.inside.named;
       counts = c.self.inside.quotients ∷ c.self.inside.skips ∷ c.self.inside.no_words
@@ -17,6 +18,8 @@ returns-then-is_quiet_step c =
       last = c.self.inside.last;
     } in
     let new : Book = record old { steps = old.steps + 1 } in
+    let held = subst (λ (book : Book). is_plain_step c.args.processor.now.scenario.rope c.args.machine.now book.past c.args.step.now ≡ true)
+    (sym c.self.view_is) c.requires.plain in
     subst (λ book. Notes c.args.processor.now.scenario c.args.machine.now book new) c.self.view_is
-    (quiet_noted c.args.processor.now.scenario c.args.machine.now c.next_step-step.result old (c.next_step-step.ensures c.requires.fits)
-    (sym c.is_quiet_step.ensures ∙ c.if-is_quiet_step.true))
+    (quiet_noted c.args.processor.now.scenario c.args.machine.now c.args.step.now old c.requires.step
+    held (sym c.reaches_in.ensures ∙ c.if-reaches_in.false))
