@@ -1,5 +1,6 @@
 pub mod Exact
 pub mod Measuring
 pub mod Sums
+pub mod Short
 pub mod Texts
 mod DelayRows

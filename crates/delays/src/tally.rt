@@ -1,19 +1,21 @@
 //! What is kept of a run, as its steps are made.
 
-ghost use Rattle.std.specs.Prelude.{◌≡◌, ◌+◌, ◌<◌, ◌≤◌, ◌^◌, IfOk, IfSome, None, get_or, if◌then◌else◌};
-ghost use Rattle.cover.specs.Tallies.{account_count};
+ghost use Rattle.std.specs.Prelude.{◌≡◌, ◌+◌, ◌<◌, ◌≤◌, ◌^◌, IfOk, IfSome, None, Some, false, get_or, if◌then◌else◌};
+ghost use Rattle.cover.specs.Tallies.{account_count, account_number};
 ghost use Rattle.cpu.specs.Next.{next};
 ghost use Rattle.cpu.specs.NextStep.{next_step};
 ghost use Rattle.cpu.specs.Run.{run};
 ghost use Rattle.cpu.specs.State.{FitsRun, Scenario};
 ghost use Rattle.delays.specs.Causes.{cause_by, causes};
-ghost use Rattle.delays.specs.Routines.{call_over, left_in, returned_in, with_call};
-ghost use Rattle.delays.specs.Spans.{span_by, span_rows, spent_more, wait_by, wait_rows};
+ghost use Rattle.cpu.specs.declared.next_step.NextStep.TheVariants.{Enters};
+ghost use Rattle.delays.specs.Routines.{call_in, call_over, left_in, returned_in, with_call};
+ghost use Rattle.delays.specs.Spans.{span_by, span_of, span_rows, spent_more, wait_by, wait_rows};
 ghost use Rattle.delays.specs.Stretches.{no_best};
 ghost use Rattle.delays.specs.Tallies.{AreFew, begun_after, delayed_after, IsSmall, IsWithin, mark_in, Measures};
 ghost use Rattle.delays.specs.Tallies.{over_in, put_down, span_in, wait_in, waits_asked, waits_left};
+ghost use Rattle.notes.specs.RunNotes.{where_of};
 
-use crate::call::{Call, Calls, call_in};
+use crate::call::{Calls, call_in, may_call};
 use crate::cause::{CAUSES, asked_in, cause_of, is_closed, where_of};
 use crate::mark::{Begun, Best, Mark, NO_MARK, Stretch};
 use crate::table::Table;
@@ -204,19 +206,17 @@ impl Delays {
     {
         let step = processor.next_step(machine);
         let cause = cause_of(&step, machine, self.last);
-        let here = number_of(where_of(&step));
         let asked = asked_in(&step, machine);
         let cycles = machine.cycles();
-        let call = call_in(&step, machine, &self.mark(cycles));
+        self.begin_call(&step, machine);
         make_step(processor, machine);
         let is_closed = is_closed(machine);
-        self.end_wait(&step, here, cycles);
-        self.begin_span(is_closed, here, cycles);
-        self.begin_call(call);
+        self.end_wait(&step, cycles);
+        self.begin_span(is_closed, &step, cycles);
         self.spend(cause, machine.cycles().saturating_sub(cycles));
         self.ask(asked, machine.cycles());
-        self.end_span(is_closed, here, machine.cycles());
-        self.end_call(machine, here);
+        self.end_span(is_closed, &step, machine.cycles());
+        self.end_call(machine, &step);
         self.cycles = machine.cycles();
         self.last = last_after(&step, self.last);
     }
@@ -232,46 +232,78 @@ impl Delays {
         }
     }
 
-    /// Keeps the wait that a step ends.
-    fn end_wait(&mut self, step: &NextStep, here: usize, cycles: u64)
+    /// Keeps the wait that a step ends. What few steps do stands apart from here on, so that the others have none of
+    /// its locals: a moment is of 19 numbers.
+    #[inline(always)]
+    fn end_wait(&mut self, step: &NextStep, cycles: u64)
         requires steps { self.old.steps ≤ 2 ^ 62 }
         requires few { AreFew self.old.waited (2 ^ 62) }
         ensures value { self.new ≡ record self.old {
           waits = waits_left step.now self.old.waits;
           waited = put_down self.old.waited (wait_by step.now (λ k. get_or self.old.waits k None)
-              (mark_in self.old cycles) here);
+              (mark_in self.old cycles) (account_number (where_of step.now)));
         } }
         ensures within { IsWithin wait_rows (wait_by step.now (λ k. get_or self.old.waits k None)
-            (mark_in self.old cycles) here) }
+            (mark_in self.old cycles) (account_number (where_of step.now))) }
     {
-        if let NextStep::Enters(interrupt) = step {
-            let row = usize::from(interrupt.number());
-            let to = self.mark(cycles);
-            let stretch = Stretch {
-                from: self.waits[row].unwrap_or(to),
-                to,
-                step: self.steps + 1,
-                end: here,
-            };
-            self.waited.add(row, &stretch);
-            self.waits[row] = None;
+        match step {
+            NextStep::Takes(_) | NextStep::Executes(_) => {}
+            NextStep::Enters(interrupt) => {
+                self.enter_interrupt(*interrupt, number_of(where_of(step)), cycles)
+            }
         }
     }
 
+    /// The same where an interrupt is entered.
+    #[inline(never)]
+    fn enter_interrupt(&mut self, interrupt: Interrupt, here: usize, cycles: u64)
+        requires steps { self.old.steps ≤ 2 ^ 62 }
+        requires few { AreFew self.old.waited (2 ^ 62) }
+        ensures value { self.new ≡ record self.old {
+          waits = waits_left (Enters interrupt) self.old.waits;
+          waited = put_down self.old.waited (wait_by (Enters interrupt) (λ k. get_or self.old.waits k None)
+              (mark_in self.old cycles) here);
+        } }
+        ensures within { IsWithin wait_rows (wait_by (Enters interrupt) (λ k. get_or self.old.waits k None)
+            (mark_in self.old cycles) here) }
+    {
+        let row = usize::from(interrupt.number());
+        let to = self.mark(cycles);
+        let stretch = Stretch {
+            from: self.waits[row].unwrap_or(to),
+            to,
+            step: self.steps + 1,
+            end: here,
+        };
+        self.waited.add(row, &stretch);
+        self.waits[row] = None;
+    }
+
     /// Begins a span, where none goes on.
-    fn begin_span(&mut self, is_closed: bool, here: usize, cycles: u64)
-        requires { here < account_count }
+    #[inline(always)]
+    fn begin_span(&mut self, is_closed: bool, step: &NextStep, cycles: u64)
         ensures { self.new ≡ record self.old {
           closed = begun_after is_closed
-              (record { by = here; mark = mark_in self.old cycles }) self.old.closed;
+              (record { by = account_number (where_of step.now); mark = mark_in self.old cycles }) self.old.closed;
         } }
     {
         if is_closed && self.closed.is_none() {
-            self.closed = Some(Begun {
-                by: here,
-                mark: self.mark(cycles),
-            });
+            self.open_span(number_of(where_of(step)), cycles);
         }
+    }
+
+    /// Begins a span.
+    #[inline(never)]
+    fn open_span(&mut self, here: usize, cycles: u64)
+        requires { here < account_count }
+        ensures { self.new ≡ record self.old {
+          closed = Some (record { by = here; mark = mark_in self.old cycles });
+        } }
+    {
+        self.closed = Some(Begun {
+            by: here,
+            mark: self.mark(cycles),
+        });
     }
 
     /// Counts a step, and its cycles at its cause.
@@ -291,29 +323,55 @@ impl Delays {
     }
 
     /// Keeps since when an interrupt is asked for; it may be already.
+    #[inline(always)]
     fn ask(&mut self, asked: Option<Interrupt>, cycles: u64)
         ensures { self.new ≡ record self.old { waits = waits_asked asked (mark_in self.old cycles) self.old.waits } }
     {
         if let Some(interrupt) = asked {
-            let row = usize::from(interrupt.number());
-            if self.waits[row].is_none() {
-                self.waits[row] = Some(self.mark(cycles));
-            }
+            self.ask_for(interrupt, cycles);
+        }
+    }
+
+    /// The same of an interrupt.
+    #[inline(never)]
+    fn ask_for(&mut self, interrupt: Interrupt, cycles: u64)
+        ensures { self.new ≡ record self.old {
+          waits = waits_asked (Some interrupt) (mark_in self.old cycles) self.old.waits;
+        } }
+    {
+        let row = usize::from(interrupt.number());
+        if self.waits[row].is_none() {
+            self.waits[row] = Some(self.mark(cycles));
         }
     }
 
     /// Keeps the span that a step ends.
-    fn end_span(&mut self, is_closed: bool, here: usize, cycles: u64)
+    #[inline(always)]
+    fn end_span(&mut self, is_closed: bool, step: &NextStep, cycles: u64)
         requires few { AreFew self.old.spans (2 ^ 62) }
         ensures value { self.new ≡ record self.old {
           closed = if is_closed then self.old.closed else None;
-          spans = put_down self.old.spans (span_by is_closed self.old.closed (mark_in self.old cycles) here);
+          spans = put_down self.old.spans (span_by is_closed self.old.closed (mark_in self.old cycles)
+              (account_number (where_of step.now)));
         } }
-        ensures within { IsWithin span_rows (span_by is_closed self.old.closed (mark_in self.old cycles) here) }
+        ensures within { IsWithin span_rows (span_by is_closed self.old.closed (mark_in self.old cycles)
+            (account_number (where_of step.now))) }
     {
-        if is_closed {
-            return;
+        if !is_closed && self.closed.is_some() {
+            self.close_span(number_of(where_of(step)), cycles);
         }
+    }
+
+    /// Keeps the span that goes on, which ends.
+    #[inline(never)]
+    fn close_span(&mut self, here: usize, cycles: u64)
+        requires few { AreFew self.old.spans (2 ^ 62) }
+        ensures value { self.new ≡ record self.old {
+          closed = None;
+          spans = put_down self.old.spans (span_of self.old.closed (mark_in self.old cycles) here);
+        } }
+        ensures within { IsWithin span_rows (span_of self.old.closed (mark_in self.old cycles) here) }
+    {
         if let Some(begun) = self.closed {
             let to = self.mark(cycles);
             let stretch = Stretch {
@@ -326,18 +384,55 @@ impl Delays {
             self.closed = None;
         }
     }
+
     /// Keeps the call that a step makes.
-    fn begin_call(&mut self, call: Option<Call>)
-        ensures { self.new ≡ record self.old { calls = with_call call self.old.calls } }
+    #[inline(always)]
+    #[tactic(auto, using(crate::proofs::Short::none_made))]
+    fn begin_call(&mut self, step: &NextStep, machine: &Machine)
+        ensures { self.new ≡ record self.old {
+          calls = with_call (call_in machine.now step.now (mark_in self.old machine.now.cycles)) self.old.calls;
+        } }
     {
-        if let Some(call) = call {
+        if may_call(step) {
+            self.enter_call(step, machine);
+        }
+    }
+
+    /// The same of a step that may make one.
+    #[inline(never)]
+    fn enter_call(&mut self, step: &NextStep, machine: &Machine)
+        ensures { self.new ≡ record self.old {
+          calls = with_call (call_in machine.now step.now (mark_in self.old machine.now.cycles)) self.old.calls;
+        } }
+    {
+        if let Some(call) = call_in(step, machine, &self.mark(machine.cycles())) {
             self.calls.enter(call);
         }
     }
 
     /// Keeps the call that a step ends.
-    fn end_call(&mut self, machine: &Machine, here: usize)
+    #[inline(always)]
+    fn end_call(&mut self, machine: &Machine, step: &NextStep)
         requires few { AreFew self.old.called (2 ^ 62) }
+        ensures value { self.new ≡ record self.old {
+          calls = left_in machine.now self.old.calls;
+          called = put_down self.old.called (call_over (returned_in machine.now self.old.calls)
+              (mark_in self.old machine.now.cycles) (account_number (where_of step.now)));
+        } }
+        ensures within { IsWithin account_count
+            (call_over (returned_in machine.now self.old.calls) (mark_in self.old machine.now.cycles)
+            (account_number (where_of step.now))) }
+    {
+        if !machine.inside() && !self.calls.none_returns(machine) {
+            self.leave_call(machine, number_of(where_of(step)));
+        }
+    }
+
+    /// The same where one may return.
+    #[inline(never)]
+    fn leave_call(&mut self, machine: &Machine, here: usize)
+        requires few { AreFew self.old.called (2 ^ 62) }
+        requires outside { machine.now.inside ≡ false }
         ensures value { self.new ≡ record self.old {
           calls = left_in machine.now self.old.calls;
           called = put_down self.old.called (call_over (returned_in machine.now self.old.calls)
@@ -346,9 +441,6 @@ impl Delays {
         ensures within { IsWithin account_count
             (call_over (returned_in machine.now self.old.calls) (mark_in self.old machine.now.cycles) here) }
     {
-        if machine.inside() {
-            return;
-        }
         if let Some(call) = self.calls.leave(&machine.next_place()) {
             let stretch = Stretch {
                 from: call.mark,
