@@ -1,4 +1,5 @@
 """Tests of `agcws compare --only --flight`, which tells the words of uncertain forms apart, on a source with each kind of form, beside expected lines by hand."""
+import re
 import unittest
 
 from common import Case, agcws, read, write
@@ -120,6 +121,19 @@ class Certain(Case):
         ):
             with self.subTest(name):
                 self.assertAnswer(agcws("compare", "--only", "--flight", *self.image_of(source, changed)), bool(changed), wanted.encode())
+
+    def test_warned(self):
+        """W17 of `check` stands on the lines of those words that are uncertain by 2CADR or EBANK=, and on no other."""
+        for name, source in (("SOURCE", SOURCE), ("OTHERS", OTHERS), ("CERTAIN", CERTAIN)):
+            path, rope = self.image_of(source, {})
+            lines = {row[6:13]: int(row[:5]) for row in agcws("asm", "--flight", path, f"{self.room}/again.rope")[1].decode().split("\n") if row[5:6] == " " and row[8:9] == ","}
+            path, rope = self.image_of(source, {offset: 0o07070 for offset in range(0o100)})
+            told = agcws("compare", "--only", "--flight", path, rope)[1].decode().split("\n")
+            wanted = sorted({lines[row[:7]] for row in told if row.endswith((" UNCERTAIN 2CADR", " UNCERTAIN EBANK="))})
+            found = re.findall(r"^[^ ]*:(\d+):\d+: warning W17: ", agcws("check", "--flight", path)[1].decode(), re.M)
+            with self.subTest(name):
+                self.assertEqual([int(it) for it in found], wanted)
+                self.assertEqual(bool(wanted), name != "CERTAIN")
 
     def test_standard(self):
         """Without --flight no word has a remark."""

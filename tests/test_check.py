@@ -127,7 +127,7 @@ FORMS = [
     (" OCTAL 37777", (1, 2, "E15: OCTAL is no operator", "with --flight this is taken"), None),
     (" 2OCT 0000500000", (1, 2, "E15: 2OCT is no operator of this assembler", "two words: an OCT for each; with --flight this is taken"), None),
     (" OCT 1 # " + 120 * "x", (1, 121, "E11: the line has more than 120 bytes", "part the comment into two lines; with --flight this is taken"), None),
-    (" MM 37", (1, 2, "E15: MM is no operator", ""), (1, 2, "E15: MM is not taken: what yaYUL makes of it is not known for sure", "OCT makes a word")),
+    (" MM 37", (1, 2, "E15: MM is no operator", ""), (1, 2, "E15: MM is not taken, since it is not sure what yaYUL makes of it: perhaps the word of DEC (80 in 100)", "OCT makes a word")),
     (" 2DEC 60000", (1, 2, "E15: 2DEC is no operator of this assembler", "two words: a DEC for each; with --flight this is taken"), None),
     (" 2DEC* 3.986032 E10 B-36*", (1, 2, "E15: 2DEC* is no operator", "with --flight this is taken"), None),
     (" DEC 5 E3", (1, 6, "E16: DEC takes one number, and nothing after it", "a comment begins with #"),
@@ -139,7 +139,7 @@ FORMS = [
     (" INDEX 1| CAF 0", (2, 6, "E25: CAF takes a fixed place, and 0 is none", ""), None),
     (" CAF X|X EQUALS 5", (1, 6, "E25: CAF takes a fixed place, and X, of line 2, is none", ""), (1, 6, "E25: CAF takes a fixed place, and X, of line 2, is none", "")),
     (" SETLOC 100|X ERASE 0 - 7", (2, 9, "E16: ERASE takes nothing, or a plus sign and a number", "ERASE reserves one word, ERASE +1 two"),
-     (2, 9, "E16: ERASE takes nothing, or a plus sign and a number: what yaYUL makes of a range is not known for sure", "ERASE reserves one word, ERASE +1 two")),
+     (2, 9, "E16: ERASE takes nothing, or a plus sign and a number: of a range perhaps all words (60 to 90 in 100)", "ERASE reserves one word, ERASE +1 two")),
     ("$FILE.agc", (1, 1, "E13: $FILE.agc has a $, which no label may have", ""), (1, 1, "E13: $FILE.agc has a $, which no label may have", "")),
     (" AD -MAXADRS", (1, 5, "E16: -MAXADRS is no sign with a number, which stands alone and moves on from this line", "NAME +1 is the word after NAME; CS loads a complement; with --flight this is taken"),
      (1, 5, "E17: no line defines -MAXADRS", "of a number: -MAXADRS DEC 5, behind the last jump, and of a word that changes: -MAXADRS ERASE, after SETLOC 100")),
@@ -151,7 +151,7 @@ FORMS = [
     (" -CADR X|X EQUALS 100", (1, 2, "E15: -CADR is no operator", "did you mean ECADR?; with --flight this is taken"), (1, 8, "E25: -CADR takes a fixed place, and X, of line 2, is none", "")),
     (" -CCS X|X OCT 1", (1, 2, "E15: -CCS is no operator", "did you mean CCS?; with --flight this is taken"), (1, 7, "E25: -CCS takes a word of erasable memory, and X, of line 2, is not there", "")),
     (" BBCON X| BANK 30|X OCT 1", (1, 2, "E15: BBCON is no operator", "with --flight this is taken"),
-     (1, 8, "E25: BBCON takes a fixed place of a bank below 30, and X, of line 3, is none: what yaYUL adds from bank 30 on is not known for sure", "")),
+     (1, 8, "E25: BBCON takes a fixed place of a bank below 30, and X, of line 3, is none: from bank 30 on yaYUL perhaps adds 060 (65 in 100)", "")),
     (" OCTAL 7 +1", (1, 2, "E15: OCTAL is no operator", ""), (1, 8, "E16: OCTAL takes one number, and nothing after it", "a comment begins with #")),
     (" DNCHAN X|X OCT 1", (1, 2, "E15: DNCHAN is no operator", "with --flight this is taken"), (1, 9, "E25: DNCHAN takes a channel, 0 to 777, and X, of line 2, is none", "")),
 ]
@@ -303,6 +303,17 @@ NAMED = [
     ("RETURN OCT 1;2DEC OCT 2;DNCHAN OCT 3;COUNTS OCT 4", [(1, 1)], [(1, 1), (2, 1), (3, 1)]),
     ("X OCT 1;-CCS OCT 1;+3 OCT 4", [], [(2, 1)]),
 ]
+# Flight sources with the lines of W17, with --flight alone: 2CADR of banks 030 to 037, and behind an EBANK= that an earlier one may have used up.
+DOUBTED = [
+    (" EBANK= 1400; 2CADR F; 2CADR F; BBCON F; -2CADR F; EBANK= 1400; 2CADR F;F TCF F", [(3, 2), (4, 2), (5, 2)]),
+    (" 2CADR F; 2CADR F; BBCON F;F TCF F", []),
+    (" 2CADR F; BANK 27;F TCF F", []),
+    (" 2CADR F; BANK 30;F TCF F", [(1, 2)]),
+    ("+3 2CADR F; EBANK= 1400; 2CADR F; 2CADR F; BANK 37;F TCF F", [(1, 4), (3, 2), (4, 2)]),
+    (" 2CADR F; BANK 40;F TCF F", []),
+    (" 2CADR F; FROB; BANK 30;F TCF F", []),
+    (" GENADR F; 2DEC 1; OCT -1; VN 0616; CADR 10000; BANK 5;F TCF F", []),
+]
 # A fault and warnings on one line and beside it.
 BOTH = " CA 5;CA FIV; AD 6"
 TOLD = re.compile(rb"^(.*):(\d+):(\d+): error E(\d+): (.+)$")
@@ -417,6 +428,11 @@ class Check(Case):
             got = [[it[:2] for it in warned_by(PROGRAM, path, *options)[1] if it[2] == "W1"] for options in ((), ("--flight",))]
             with self.subTest(f"W1 of {shown}"):
                 self.assertEqual(got, wanted)
+        for shown, wanted in DOUBTED:
+            written(path, shown.replace(";", "\n").encode() + b"\n")
+            got = [[it[:2] for it in warned_by(PROGRAM, path, *options)[1] if it[2] == "W17"] for options in ((), ("--flight",))]
+            with self.subTest(f"W17 of {shown}"):
+                self.assertEqual(got, [[], wanted])
         with open(path, "wb") as file:
             file.write(BOTH.replace(";", "\n").encode() + b"\n")
         wanted = 1, [(1, 5, "W2"), (2, 4, "E15"), (2, 1, "W1"), (3, 2, "W4"), (3, 5, "W2")], [b"1 error, 4 warnings"], b""
@@ -562,12 +578,12 @@ class Check(Case):
         """Each warning of rows/refusals.txt is drawn on its line."""
         rows = re.findall(r"^\| W(\d+) \| (.*) \| `(.*)` \| (\d+) \|$", rows_of_refusals(), re.M)
         with self.subTest("the rows of warnings"):
-            self.assertEqual([int(it[0]) for it in rows], [*range(1, 17)])
+            self.assertEqual([int(it[0]) for it in rows], [*range(1, 18)])
         for number, mistake, source, line in rows:
             got = list(rows_explained(PROGRAM, f"W{number}"))
             with self.subTest(f"explain W{number} and refusals.txt"):
                 self.assertEqual(got, [(plain(mistake), source, line)])
-            _, found, _, _ = warned_by(PROGRAM, written(f"{self.room}/row.agc", source.replace(";", "\n").encode() + b"\n"), "--unused")
+            _, found, _, _ = warned_by(PROGRAM, written(f"{self.room}/row.agc", source.replace(";", "\n").encode() + b"\n"), "--unused", *(["--flight"] if number == "17" else []))
             with self.subTest(f"the row of W{number}"):
                 self.assertIn((int(line), f"W{number}"), {(it[0], it[2]) for it in found}, str(found))
 
@@ -580,8 +596,8 @@ class Check(Case):
             self.assertTrue(ran("17") == ran("E17") or ran("17").stdout == ran("E17").stdout)
         warned = [int(it) for it in re.findall(rb"^W(\d+): .", ran().stdout, re.M)]
         with self.subTest("explain lists the numbers of warnings"):
-            self.assertEqual(warned, [*range(1, 17)])
-        for word in ("99", "E1", "X", "E", "256", "W", "W0", "W17", "w4"):
+            self.assertEqual(warned, [*range(1, 18)])
+        for word in ("99", "E1", "X", "E", "256", "W", "W0", "W18", "w4"):
             got = ran(word)
             with self.subTest(f"explain {word}"):
                 self.assertEqual((got.returncode, got.stdout, got.stderr), (2, b"", b"error: no refusal, no warning and no note is called so; agcws explain lists them\n"))

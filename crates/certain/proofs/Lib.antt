@@ -6,3 +6,4 @@ pub mod FormRows
 pub mod Feeds
 pub mod Listed
 pub mod Passed
+pub mod Warned

@@ -77,7 +77,7 @@ some_split : (n : ℕ) (words : Words) (byte : ℕ) (text : List ℕ) (sh : Show
 some_split n words byte text sh =
     first_split n words (byte ∷ text) sh ∙ ap (λ gap. fore n words sh gap ++ byte ∷ text) (gap_some byte text)
 
-text_is : (n : ℕ) (words : Words) (text : List ℕ) (sh : Shown) → text_on n (first_row n words text sh) ≡ text
+pub text_is : (n : ℕ) (words : Words) (text : List ℕ) (sh : Shown) → text_on n (first_row n words text sh) ≡ text
 text_is n words [] sh =
     drop_all (front_length n + 2) (first_row n words [] sh)
     (let long = fore_long n words sh [] in
@@ -91,7 +91,7 @@ text_is n words (byte ∷ text) sh =
     ∙ drop-append_seam (fore n words sh (codes "  ")) (byte ∷ text)
 
 -- ## Which row is that of a second word
-second_is : (n : ℕ) (words : Words) (p : ℕ × ℕ) → is_second n (second_row n words p) ≡ true
+pub second_is : (n : ℕ) (words : Words) (p : ℕ × ℕ) → is_second n (second_row n words p) ≡ true
 second_is n words p =
     let long : (length (second_row n words p) == front_length n) ≡ true = eq-eqb _ _ (second_long n words p) in
     let place = place_is (Some p) (number_column n ++ word_columns words p.0 p.1) in
@@ -104,7 +104,7 @@ columns_near n m lt =
     let two = column_long m in
     omega (arith, short, one, two)
 
-first_not : (before n : ℕ) (words : Words) (text : List ℕ) (place : Option Linear) (ws : List (ℕ × ℕ)) → before < 9999999
+pub first_not : (before n : ℕ) (words : Words) (text : List ℕ) (place : Option Linear) (ws : List (ℕ × ℕ)) → before < 9999999
     → (text ≡ [] → ws ≡ []) → is_second before (first_row n words text (record { place = place; words = ws })) ≡ false
 first_not before n words text place [] lt none =
     elim (cases_Bool (length (first_row n words text (record { place = place; words = [] })) == front_length before)) [
@@ -164,7 +164,7 @@ unfolding statement_of uncounted_statement runs
 none_shown Standard s = refl
 none_shown Flight s = refl
 
-empty_shows : (s : Layout) (text : List ℕ) → text ≡ [] → (shown s.location (statement_on s text)).words ≡ []
+pub empty_shows : (s : Layout) (text : List ℕ) → text ≡ [] → (shown s.location (statement_on s text)).words ≡ []
 empty_shows s text none = ap (λ (t : List ℕ). (shown s.location (statement_on s t)).words) none ∙ none_shown s.language s
 
 -- ## All lines

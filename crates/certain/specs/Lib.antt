@@ -4,3 +4,4 @@ pub mod Rows
 pub mod Places
 pub mod Comparison
 pub mod Lines
+pub mod Doubted

@@ -4,6 +4,7 @@
 
 mod comparison;
 mod counts;
+mod doubted;
 mod form;
 mod form_lines;
 pub mod laws;
@@ -12,6 +13,7 @@ mod places;
 mod rows;
 
 pub use comparison::write_comparison;
+pub use doubted::doubted_lines;
 pub use form::UncertainForm;
 pub use places::UncertainPlaces;
 pub use rows::{PlaceMargin, is_second, place_before, text_on};

@@ -3,7 +3,7 @@
 ghost use Rattle.std.specs.Prelude.{◌≡◌, ◌+◌, ◌<◌, ◌≤◌, ◌^◌, IfOk, IfSome, None, get_or, set};
 ghost use Rattle.agc_text.specs.Lines.{lines};
 ghost use Rattle.rope.specs.Places.{fixed_places, place_number, word_at};
-ghost use Rattle.certain.specs.Rows.{place_before};
+ghost use Rattle.certain.specs.Rows.{place_before, placed_rows};
 ghost use Rattle.certain.specs.Places.{all_certain, form_at, held_places, line_on, no_line, row_passed, rows_passed};
 ghost use Rattle.certain.specs.Places.{second_held, start_with, uncertain_words, with_form};
 
@@ -79,12 +79,11 @@ impl Model for UncertainPlaces {
 impl UncertainPlaces {
     /// The uncertain places of the lines of a source of the language of flight programs, whose words stand in a fixed
     /// memory. `None` is that memory ran out.
-    #[tactic(auto, unfolding(crate::specs::Places::uncertain_words, crate::specs::Rows::placed_rows))]
+    #[tactic(auto, unfolding(crate::specs::Places::uncertain_words))]
     pub fn of(alloc: Global, rows: &SourceRows, rope: &Rope) -> Option<UncertainPlaces>
         ensures { IfSome result (λ places. places ≡ uncertain_words rows.now rope.now) }
     {
-        let mut listing = Buffer::new(alloc);
-        let Ok(()) = rows.write(Notation::Text, rope, &PlaceMargin, &mut listing) else {
+        let Some(listing) = placed_rows(alloc, rows, rope) else {
             return None;
         };
         let Ok(mut places) = UncertainPlaces::none(alloc) else {
@@ -107,6 +106,17 @@ impl UncertainPlaces {
         ensures { result ≡ get_or self.now place None }
     {
         self.forms[place as usize]
+    }
+
+    /// The uncertain form of the word at a bank and an offset, if any.
+    pub(crate) fn form_of(&self, bank: u16, offset: u16) -> Option<UncertainForm>
+        ensures { result ≡ form_at self.now bank offset }
+    {
+        let place = usize::from(bank) * BANK_WORDS as usize + usize::from(offset);
+        match self.forms.get(place) {
+            Some(form) => *form,
+            None => None,
+        }
     }
 
     // No place is uncertain. All memory is taken here.
@@ -174,6 +184,18 @@ impl UncertainPlaces {
         if place < HELD_PLACES {
             self.forms[place] = form;
         }
+    }
+}
+
+/// The rows of a source, each after its place. `None` is that memory ran out.
+#[tactic(auto, unfolding(crate::specs::Rows::placed_rows))]
+pub(crate) fn placed_rows(alloc: Global, rows: &SourceRows, rope: &Rope) -> Option<Buffer>
+    ensures { IfSome result (λ listing. lines listing.written ≡ placed_rows rows.now rope.now) }
+{
+    let mut listing = Buffer::new(alloc);
+    match rows.write(Notation::Text, rope, &PlaceMargin, &mut listing) {
+        Ok(()) => Some(listing),
+        Err(_) => None,
     }
 }
 

@@ -21,7 +21,7 @@ use Rattle.yayul.specs.declared.language.Language.{Language}
 use Rattle.yayul.specs.declared.language.Language.TheVariants.{Flight, Standard}
 use Rattle.yayul.specs.Readings.{Parts, parts_for}
 use Rattle.faults.specs.Causes.{Cause, cause_of_kind, filled}
-use Rattle.faults.specs.FlightCauses.{told_cause, unsure_operators}
+use Rattle.faults.specs.FlightCauses.{alternatives, told_cause, unsure_operators}
 use Rattle.faults.specs.Interpretive.{count_before_first, first_and_others, interpretive_operators}
 use Rattle.faults.specs.Kinds.{kind_of_source}
 use Rattle.faults.specs.Report.{beside_text, cure_text, report, shown_line, told_text, warning_text}
@@ -39,7 +39,7 @@ fault f = record { line = f.0; kind = f.1; span = record { start = 1; width = 2 
 
 -- a warning of a line
 abbrev warned : ℕ × ℕ → Warning
-warned w = record { line = w.0; number = w.1; span = record { start = 1; width = 2 } }
+warned w = record { line = w.0; number = w.1; span = record { start = 1; width = 2 }; doubt = None }
 
 -- the line of a fault and its kind
 abbrev row : Finding → ℕ × FaultKind
@@ -145,22 +145,25 @@ told r =
 
 abbrev lines_with_causes : List ((List ℕ × FaultKind) × (List ℕ × List ℕ))
 lines_with_causes =
-    ((codes " MM 37", UnknownOperator), (codes "MM is not taken: what yaYUL makes of it is not known for sure", codes "OCT makes a word"))
+    ((codes " MM 37", UnknownOperator), (codes "MM is not taken, since it is not sure what yaYUL makes of it: perhaps the word of DEC (80 in 100)", codes "OCT makes a word"))
     ∷ (
       (codes "+3 DNPTR X", UnknownOperator),
       (
-        codes "DNPTR is not taken: what yaYUL makes of it is not known for sure",
+        codes "DNPTR is not taken, since it is not sure what yaYUL makes of it: perhaps 30000, and the address of 12 bits (88 in 100)",
         codes "OCT makes a word",
       ),
     )
     ∷ (
       (codes "X =MINUS Y", UnknownOperator),
       (
-        codes "=MINUS is not taken: what yaYUL makes of it is not known for sure",
+        codes "=MINUS is not taken, since it is not sure what yaYUL makes of it: perhaps a number, the location less the operand (60 in 100)",
         codes "EQUALS gives X a value",
       ),
     )
-    ∷ ((codes " SBANK= X", UnknownOperator), (codes "SBANK= is not taken: what yaYUL makes of it is not known for sure", []))
+    ∷ ((codes " SBANK= X", UnknownOperator), (
+      codes "SBANK= is not taken, since it is not sure what yaYUL makes of it: perhaps bits 7 to 5 of each 2CADR behind it (60 in 100)",
+      [],
+    ))
     ∷ ((codes " TFC LOOP", UnknownOperator), (codes "TFC is no operator", codes "did you mean TCF?"))
     ∷ ((codes "-LONGNAME OCT 1", BadLabel), (codes "-LONGNAME has more than 8 characters, the most of a label", []))
     ∷ ((codes "+ OCT 1", BadLabel), (codes "+ is a sign alone, and no label", []))
@@ -168,7 +171,7 @@ lines_with_causes =
     ∷ (
       (codes "X ERASE 0 - 7", BadOperand),
       (
-        codes "ERASE takes nothing, or a plus sign and a number: what yaYUL makes of a range is not known for sure",
+        codes "ERASE takes nothing, or a plus sign and a number: of a range perhaps all words (60 to 90 in 100)",
         codes "ERASE reserves one word, ERASE +1 two",
       ),
     )
@@ -189,10 +192,13 @@ lines_with_causes =
         codes "DEC takes decimal digits",
       ),
     )
-    ∷ ((codes " 2OCT 123", BadOperand), (codes "2OCT takes ten octal digits, 0 to 7, in one field", []))
-    ∷ ((codes " VN 12", BadOperand), (codes "VN takes four decimal digits, two of the verb and two of the noun", []))
+    ∷ ((codes " 2OCT 123", BadOperand), (codes "2OCT takes ten octal digits, 0 to 7, in one field: fewer perhaps with zeros before them (85 in 100)", []))
+    ∷ ((codes " VN 12", BadOperand), (
+      codes "VN takes four decimal digits, two of the verb and two of the noun: fewer perhaps with zeros before them (85 in 100)",
+      [],
+    ))
     ∷ ((codes " CA -LONGNAME", BadOperand), (codes "-LONGNAME is no symbol, which has 8 characters at most, and no number", []))
-    ∷ ((codes "-1 CA 18", BadOperand), (codes "numbers are octal, and 18 has a digit 8 or 9", codes "18D is decimal"))
+    ∷ ((codes "-1 CA 18", BadOperand), (codes "numbers are octal, and 18 has a digit 8 or 9: perhaps it is decimal (60 in 100)", codes "18D is decimal"))
     ∷ ((codes "-1 CA", BadOperand), (codes "CA needs an operand", []))
     ∷ (
       (codes "X EQUALS Y", UsedTooEarly),
@@ -202,7 +208,7 @@ lines_with_causes =
     ∷ ((codes " CAF X", WrongKindOfAddress), (codes "CAF takes a fixed place, and X is none", []))
     ∷ (
       (codes " BBCON X", WrongKindOfAddress),
-      (codes "BBCON takes a fixed place of a bank below 30, and X is none: what yaYUL adds from bank 30 on is not known for sure", []),
+      (codes "BBCON takes a fixed place of a bank below 30, and X is none: from bank 30 on yaYUL perhaps adds 060 (65 in 100)", []),
     )
     ∷ ((codes "+2 2DNADR X", WrongKindOfAddress), (codes "2DNADR takes an erasable place, and X is none", []))
     ∷ ((codes " DNCHAN 1000", WrongKindOfAddress), (codes "DNCHAN takes a channel, 0 to 777, and 1000 is none", []))
@@ -211,6 +217,18 @@ lines_with_causes =
     ∷ ((codes " TC 0 -1", OutOfRange), (codes "an address below 0 is not taken: what yaYUL makes of it is not known for sure", []))
     ∷ ((codes " TC X -1", OutOfRange), (codes "this leads out of its bank, or of the numbers", []))
     ∷ (
+      (codes " TC X -12006", OutOfRange),
+      (codes "this leads out of its bank: less the number of a place it is perhaps an offset (88 in 100)", []),
+    )
+    ∷ (
+      (codes " CA X", OutOfRange),
+      (codes "X is past the last address: a number of EQUALS is perhaps a place from 10000 on (88 in 100)", []),
+    )
+    ∷ (
+      (codes " NV 0509", UnknownOperator),
+      (codes "NV is not taken, since it is not sure what yaYUL makes of it: perhaps the word of VN (60 in 100)", codes "OCT makes a word"),
+    )
+    ∷ (
       (codes " TC 14000", OutOfRange),
       (
         codes "14000 names no place: from 14000 to 17777 the order of the banks is not known for sure",
@@ -218,7 +236,7 @@ lines_with_causes =
       ),
     )
     ∷ ((codes " TC 100000", OutOfRange), (codes "100000 is past the last address or number", []))
-    ∷ ((codes " 2DEC 5.0 B-1", OutOfRange), (codes "this is more than 2DEC holds: what yaYUL makes of it is not known for sure", []))
+    ∷ ((codes " 2DEC 5.0 B-1", OutOfRange), (codes "this is more than 2DEC holds: yaYUL perhaps makes the greatest of it (85 in 100, of DEC 70)", []))
     ∷ ((codes " OCTAL -100000", OutOfRange), (codes "a word holds 77777 at most, and -100000 is more", []))
     ∷ ((codes " OCT 1", LongLine), (codes "the line has more than 120 bytes before its comment", []))
     ∷ ((codes " OCT 1", TooManyLines), (codes "the source has more than 262144 lines", []))
@@ -232,6 +250,10 @@ each_cause = refl
 none_is_one : list_any (λ name. is_some (flight_operator name)) (map (λ e. e.0) unsure_operators) ≡ false
 unfolding operators flight_operators
 none_is_one = refl
+
+-- each has an alternative, in the same order
+each_has_one : map {B = List ℕ} (λ e. e.0) alternatives ≡ map {B = List ℕ} (λ e. e.0) unsure_operators
+each_has_one = refl
 
 -- ## Of the standard language
 -- the row of the cure of a fault of a line, by its kind

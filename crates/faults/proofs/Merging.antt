@@ -14,6 +14,7 @@ use Rattle.faults.specs.declared.flow.Before.{Before}
 use Rattle.faults.specs.declared.mistakes.Names.{Names}
 use Rattle.faults.specs.declared.told.Warning.{Warning}
 use Rattle.yayul.specs.Readings.{Parts, parts_for, parts_in}
+use Rattle.faults.specs.Joined.{joined}
 use Rattle.faults.specs.Report.{count_before, merged}
 use Rattle.yayul.specs.declared.reading.Reading.{Reading}
 use Rattle.faults.specs.Warnings.{is_short, is_among, with_name, before_next, line_warnings, warned_lines}
@@ -33,6 +34,19 @@ merged_step error warning faults rest warnings f o0 o1 o2 next e1 e2 =
     ap (λ o. o ++ later) (e2 ∙ ap (λ o. o ++ error f) e1 ∙ append_assoc o0 early (error f))
     ∙ append_assoc o0 (early ++ error f) later
     ∙ whole
+
+-- a warning, after those of earlier lines of another list
+pub joined_step :
+    (warnings rest others : List Warning) (w : Warning) (o0 o1 o2 : List Warning) → warnings ≡ w ∷ rest
+    → o1 ≡ o0 ++ take (count_before w.line others) others → o2 ≡ o1 ++ w ∷ []
+    → o2 ++ joined rest (drop (count_before w.line others) others) ≡ o0 ++ joined warnings others
+joined_step warnings rest others w o0 o1 o2 next e1 e2 =
+    let n = count_before w.line others in
+    let later = joined rest (drop n others) in
+    ap (λ o. o ++ later) (e2 ∙ ap (λ o. o ++ w ∷ []) e1)
+    ∙ append_assoc (o0 ++ take n others) (w ∷ []) later
+    ∙ append_assoc o0 (take n others) (w ∷ later)
+    ∙ ap (λ (ws : List Warning). o0 ++ joined ws others) (sym next)
 
 -- the warnings of a line, and of those after it
 pub warned_step :

@@ -198,7 +198,7 @@ each_told = refl
 -- a place that is taken, a line below the one whose word stands there; and a warning of an earlier line before it
 taken_after_a_warning : report Json Standard (codes "a\"b") (text_of (codes "CA TC 5; OCT 2"))
     (record (fault (2, PlaceTaken, 1, 3)) { taken_by = Some 1 } ∷ [])
-    (record { line = 1; number = 1; span = record { start = 0; width = 2 } } ∷ [])
+    (record { line = 1; number = 1; span = record { start = 0; width = 2 }; doubt = None } ∷ [])
     ≡ text_of ((codes "{\"kind\":\"warning\",\"number\":\"W1\",\"file\":\"a\\\"b\",\"line\":1,\"column\":1,\"end\":3,\"said\":\"CA is an "
     ++ (codes "operator's name, and in the first column it is a label\",\"cure\":\"put a blank before CA\",\"flight\":false,"
     ++ codes "\"fix\":{\"line\":1,\"column\":1,\"end\":1,\"text\":\"        \",\"sure\":true},\"related\":null};"))

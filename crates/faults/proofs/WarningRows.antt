@@ -6,16 +6,19 @@ use Rattle.agc_text.specs.Fields.{runs}
 use Rattle.agc_text.specs.Lines.{lines}
 use Rattle.feed.specs.Statements.{parsed}
 use Rattle.yayul.specs.Operators.{operators}
-use Rattle.yayul.specs.Roles.{roles}
+use Rattle.yayul.specs.Roles.{flight_roles, roles}
 use Rattle.yayul.specs.declared.faults.FaultKind.{FaultKind}
 use Rattle.yayul.specs.declared.faults.FaultKind.TheVariants.{PlaceTaken, TwiceDefined, Undefined, UsedTooEarly, WrongKindOfAddress}
 use Rattle.yayul.specs.declared.finding.Finding.{Finding}
 use Rattle.json_text.specs.declared.notation.Notation.TheVariants.{Text}
-use Rattle.yayul.specs.declared.language.Language.TheVariants.{Standard}
+use Rattle.yayul.specs.declared.language.Language.TheVariants.{Flight, Standard}
 use Rattle.faults.specs.Causes.{cause_of_kind}
 use Rattle.faults.specs.Kinds.{kind_of_source}
 use Rattle.faults.specs.Warnings.{warnings}
+use Rattle.faults.specs.Joined.{joined}
 use Rattle.faults.specs.Report.{beside_text, count_text, report, shown_error, shown_line, told_text, warning_text}
+use Rattle.faults.specs.declared.told.Doubt.{Doubt}
+use Rattle.faults.specs.declared.told.Doubt.TheVariants.{HeldBank, SuperbankBits}
 use Rattle.faults.specs.declared.told.Warning.{Warning}
 
 -- a source of lines, each but the last followed by a semicolon here
@@ -107,7 +110,11 @@ abbrev placed : ℕ → FaultKind → Finding
 placed line kind = record { line = line; kind = kind; span = record { start = 1; width = 2 }; taken_by = None }
 
 abbrev warned : ℕ → ℕ → Warning
-warned line number = record { line = line; number = number; span = record { start = 1; width = 2 } }
+warned line number = record { line = line; number = number; span = record { start = 1; width = 2 }; doubt = None }
+
+-- a warning of a word that is not certain
+abbrev doubted : ℕ → Doubt → Warning
+doubted line doubt = record { line = line; number = 17; span = record { start = 1; width = 5 }; doubt = Some doubt }
 
 -- the faults of a line stand before its warnings, and the warnings of earlier lines before both
 shown_in_order : report Text Standard (codes "a") (source (codes " CA 5; TS FIV;Z")) (placed 2 Undefined ∷ placed 2 WrongKindOfAddress ∷ [])
@@ -167,6 +174,29 @@ taken_alone : shown_error Text Standard (codes "a") [] (lines (source (codes " 2
     ≡ source (codes "a:3:2: error E21: line 1 has a word at this place already;    3 |  OCT 2;      |  ^^;")
 unfolding cause_of_kind shown_line beside_text lines digits runs roles
 taken_alone = refl
+
+-- words that are not certain: by a superbank, and by an EBANK= that may be used up
+told_doubts : report Text Flight (codes "a") (source (codes " 2CADR F; BBCON F")) [] (doubted 1 SuperbankBits ∷ doubted 2 HeldBank ∷ [])
+    ≡ source (codes "a:1:2: warning W17: the second word of 2CADR is not certain: for banks 030 to 037 a superbank, 060, may stand in it "
+    ++ codes "(65 in 100);    1 |  2CADR F;      |  ^^^^^;"
+    ++ (codes "a:2:2: warning W17: a word of BBCON is not certain: EBANK= before an earlier 2CADR may hold for that one alone (85 in "
+    ++ codes "100);    2 |  BBCON F;      |  ^^^^^;      = EBANK= on the line before BBCON makes it certain;"))
+unfolding report told_text warning_text kind_of_source lines digits runs roles flight_roles
+told_doubts = refl
+
+-- ## Two lists of warnings as one
+-- the lines of some warnings of a list, and of some of another
+abbrev joined_lines : List ℕ → List ℕ → List (ℕ × ℕ)
+joined_lines some others = map (λ (w : Warning). (w.line, w.number))
+    (joined (map (λ line. warned line 1) some) (map (λ line. warned line 2) others))
+
+none_joined : joined_lines [] (3 ∷ 4 ∷ []) ++ joined_lines (3 ∷ 4 ∷ []) [] ≡ (3, 2) ∷ (4, 2) ∷ (3, 1) ∷ (4, 1) ∷ []
+none_joined = refl
+
+-- on one line those of the first list come first
+some_joined : joined_lines (2 ∷ 5 ∷ 5 ∷ []) (1 ∷ 2 ∷ 3 ∷ 5 ∷ 7 ∷ [])
+    ≡ (1, 2) ∷ (2, 1) ∷ (2, 2) ∷ (3, 2) ∷ (5, 1) ∷ (5, 1) ∷ (5, 2) ∷ (7, 2) ∷ []
+some_joined = refl
 
 -- how many there are
 count_shown : count_text Text 2 3 ++ count_text Text 1 0 ≡ source (codes "2 errors, 3 warnings;1 error, 0 warnings;")

@@ -24,6 +24,9 @@ use Rattle.faults.specs.Refusals.{meaning}
 use Rattle.faults.specs.Registers.{registers}
 use Rattle.faults.specs.declared.nearness.Closeness.{Closeness}
 use Rattle.faults.specs.declared.nearness.Closeness.TheVariants.{AsLong, InCapitals, Near}
+use Rattle.faults.specs.declared.told.Doubt.{Doubt}
+use Rattle.faults.specs.declared.told.Doubt.TheVariants.{HeldBank, SuperbankBits}
+use Rattle.faults.specs.declared.told.Warning.{Warning}
 use Rattle.faults.specs.Shown.{shown_byte}
 use Rattle.faults.specs.Warnings.{is_among, is_short}
 
@@ -459,3 +462,14 @@ warning_cause parts number =
     (codes "the program first, or a jump to it, and constants behind its last jump")
     else if nat_le 12 number && nat_le number 16 then way_cause number
     else said []
+
+-- 17: why it is not certain what the assembler of flight programs makes of a word, and how sure it is that it makes another
+abbrev pub doubt_cause : Doubt → Cause
+doubt_cause SuperbankBits = said
+    (codes "the second word of % is not certain: for banks 030 to 037 a superbank, 060, may stand in it (65 in 100)")
+doubt_cause HeldBank = cured (codes "a word of % is not certain: EBANK= before an earlier 2CADR may hold for that one alone (85 in 100)")
+    (codes "EBANK= on the line before % makes it certain")
+
+-- a warning in words: by its number, or by why a word is not certain
+abbrev pub caution_cause : Parts → Warning → Cause
+caution_cause parts w = option_map_or doubt_cause w.doubt (warning_cause parts w.number)

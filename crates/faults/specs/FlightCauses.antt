@@ -1,6 +1,6 @@
 -- What a fault of a flight source is in words, where these are others than those of the standard language: of a form that is not taken,
 -- since what yaYUL makes of it is not known for sure, that this is so.
-use Rattle.std.specs.Prelude.{ℕ, ◌&&◌, not, Bool, true, false, nat_le, nat_lt, List, [], ◌∷◌, codes, is_some, unwrap_or, if◌then◌else◌}
+use Rattle.std.specs.Prelude.{ℕ, ◌&&◌, not, Bool, true, false, nat_le, nat_lt, List, [], ◌∷◌, codes, drop, is_some, unwrap_or, if◌then◌else◌}
 use Rattle.std.specs.Option.{option_map_or}
 use Rattle.agc_text.specs.Digits.{digits_value}
 use Rattle.agc_text.specs.Tables.{value_in}
@@ -15,7 +15,8 @@ use Rattle.yayul.specs.declared.language.Language.TheVariants.{Flight, Standard}
 use Rattle.faults.specs.Roles.{is_count_complement, is_equals, is_erase, is_octal, is_octal_pair}
 use Rattle.faults.specs.Roles.{is_verb_noun, names_bank, refuses_label, takes_decimal, takes_low_bank}
 use Rattle.yayul.specs.Readings.{Parts}
-use Rattle.faults.specs.Causes.{Cause, begins, cured, fault_cause, has_foreign_comment, holds, is_signed, said, symbol_cause, text_of}
+use Rattle.faults.specs.Causes.{Cause, begins, cured, cured_by, fault_cause, has_foreign_comment, holds, is_signed, said}
+use Rattle.faults.specs.Causes.{is_beyond_octal, symbol_cause, text_of}
 use Rattle.faults.specs.Warnings.{is_short}
 
 -- ## Operators
@@ -23,6 +24,7 @@ use Rattle.faults.specs.Warnings.{is_short}
 abbrev pub unsure_operators : List (List ℕ × List ℕ)
 unsure_operators =
     (codes "MM", codes "OCT makes a word")
+    ∷ (codes "NV", codes "OCT makes a word")
     ∷ (codes "EDRUPT", codes "OCT makes a word")
     ∷ (codes "DNPTR", codes "OCT makes a word")
     ∷ (codes "-DNPTR", codes "OCT makes a word")
@@ -33,6 +35,23 @@ unsure_operators =
     ∷ (codes "=MINUS", codes "EQUALS gives & a value")
     ∷ (codes "=PLUS", codes "EQUALS gives & a value")
     ∷ (codes "SBANK=", [])
+    ∷ []
+
+-- what yaYUL makes of each, perhaps, and how sure that is
+abbrev pub alternatives : List (List ℕ × List ℕ)
+alternatives =
+    (codes "MM", codes "the word of DEC (80 in 100)")
+    ∷ (codes "NV", codes "the word of VN (60 in 100)")
+    ∷ (codes "EDRUPT", codes "07000, and 9 bits of the operand (75 in 100)")
+    ∷ (codes "DNPTR", codes "30000, and the address of 12 bits (88 in 100)")
+    ∷ (codes "-DNPTR", codes "the complement of the word of DNPTR (80 in 100)")
+    ∷ (codes "2FCADR", codes "the words of FCADR and of GENADR (60 in 100)")
+    ∷ (codes "2BCADR", codes "the words of 2CADR (75 in 100)")
+    ∷ (codes "BBCON*", codes "66100 (75 in 100)")
+    ∷ (codes "=ECADR", codes "a number, the address of 11 bits (70 in 100)")
+    ∷ (codes "=MINUS", codes "a number, the location less the operand (60 in 100)")
+    ∷ (codes "=PLUS", codes "a number, the location and the operand (60 in 100)")
+    ∷ (codes "SBANK=", codes "bits 7 to 5 of each 2CADR behind it (60 in 100)")
     ∷ []
 
 -- ## Causes
@@ -71,9 +90,11 @@ form_cause near text parts f =
     if takes_decimal parts.role then decimal_cause parts
     else if has_octal_alone parts then cured (codes "% takes octal digits, 0 to 7, or a sign and such digits, and @ is neither")
     (codes "DEC takes decimal digits")
-    else if is_octal_pair parts.role then said (codes "2OCT takes ten octal digits, 0 to 7, in one field")
-    else if is_verb_noun parts.role then said (codes "VN takes four decimal digits, two of the verb and two of the noun")
+    else if is_octal_pair parts.role then said (codes "2OCT takes ten octal digits, 0 to 7, in one field: fewer perhaps with zeros before them (85 in 100)")
+    else if is_verb_noun parts.role then said (codes "VN takes four decimal digits, two of the verb and two of the noun: fewer perhaps with zeros before them (85 in 100)")
     else if has_signed_alone parts then said (codes "@ is no symbol, which has 8 characters at most, and no number")
+    else if is_beyond_octal (text_of parts.operand) then
+    cured (codes "numbers are octal, and @ has a digit 8 or 9: perhaps it is decimal (60 in 100)") (codes "@D is decimal")
     else fault_cause near text parts f
 
 -- E16 of an operand
@@ -81,7 +102,7 @@ abbrev pub flight_operand_cause : Bool → List ℕ → Parts → Finding → Ca
 flight_operand_cause near text parts f =
     if has_foreign_comment parts then fault_cause near text parts f
     else if is_erase parts.role then
-    cured (codes "ERASE takes nothing, or a plus sign and a number: what yaYUL makes of a range is not known for sure")
+    cured (codes "ERASE takes nothing, or a plus sign and a number: of a range perhaps all words (60 to 90 in 100)")
     (codes "ERASE reserves one word, ERASE +1 two")
     else if names_bank parts.role && not (is_some parts.operand) then said
     (codes "% without a bank goes on in that of the location, which is in erasable memory")
@@ -97,7 +118,7 @@ waiting_cause near parts = symbol_cause
 abbrev pub flight_kind_cause : Bool → List ℕ → Parts → Finding → Cause
 flight_kind_cause near text parts f =
     if takes_low_bank parts.role then said
-    (codes "% takes a fixed place of a bank below 30, and @^ is none: what yaYUL adds from bank 30 on is not known for sure")
+    (codes "% takes a fixed place of a bank below 30, and @^ is none: from bank 30 on yaYUL perhaps adds 060 (65 in 100)")
     else if is_count_complement parts.role then said (codes "% takes a word of erasable memory, and @^ is not there")
     else fault_cause near text parts f
 
@@ -111,13 +132,26 @@ abbrev pub is_between_banks : Parts → Bool
 is_between_banks parts = option_map_or (λ n. nat_le 0o14000 n && nat_lt n 0o20000) (digits_value 8 (text_of parts.operand)) false
     && not (is_some parts.offset)
 
+-- a number from 010000 on, as those of places are, taken from the operand
+abbrev pub is_moved_far : Parts → Bool
+is_moved_far parts = begins 0o55 (text_of parts.offset)
+    && option_map_or (nat_le 0o10000) (digits_value 8 (drop 1 (text_of parts.offset))) false
+
+-- a symbol without an offset
+abbrev pub is_symbol_alone : Parts → Bool
+is_symbol_alone parts = not (is_some (digits_value 8 (text_of parts.operand))) && not (is_some parts.offset)
+
 -- E26: a number out of its range
 abbrev pub flight_range_cause : Bool → List ℕ → Parts → Finding → Cause
 flight_range_cause near text parts f =
-    if takes_decimal parts.role then said (codes "this is more than % holds: what yaYUL makes of it is not known for sure")
+    if takes_decimal parts.role then said (codes "this is more than % holds: yaYUL perhaps makes the greatest of it (85 in 100, of DEC 70)")
     else if is_octal parts.role then said (codes "a word holds 77777 at most, and @ is more")
     else if is_moved_back parts then said (codes "an address below 0 is not taken: what yaYUL makes of it is not known for sure")
     else if is_between_banks parts then said (codes "@ names no place: from 14000 to 17777 the order of the banks is not known for sure")
+    else if is_moved_far parts then
+    said (codes "this leads out of its bank: less the number of a place it is perhaps an offset (88 in 100)")
+    else if is_symbol_alone parts then
+    said (codes "@ is past the last address: a number of EQUALS is perhaps a place from 10000 on (88 in 100)")
     else fault_cause near text parts f
 
 -- E13: a label without a label's form
@@ -128,8 +162,9 @@ flight_label_cause near text parts f = if has_signed_label parts then signed_lab
 abbrev pub flight_operator_cause : Bool → List ℕ → Parts → Finding → Cause
 flight_operator_cause near text parts f =
     if is_some (value_in unsure_operators (text_of parts.operator)) then
-    cured (codes "% is not taken: what yaYUL makes of it is not known for sure")
+    cured_by (codes "% is not taken, since it is not sure what yaYUL makes of it: perhaps !")
     (unwrap_or (value_in unsure_operators (text_of parts.operator)) [])
+    (unwrap_or (value_in alternatives (text_of parts.operator)) [])
     else fault_cause near text parts f
 
 -- E18: a symbol that has no value where it is asked for

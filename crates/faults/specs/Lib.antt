@@ -9,6 +9,7 @@ pub mod Views
 pub mod Mending
 pub mod Objects
 pub mod Report
+pub mod Joined
 pub mod FeedCauses
 pub mod FeedReport
 pub mod Kinds

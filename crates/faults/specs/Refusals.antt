@@ -58,7 +58,7 @@ heading number = codes "E" ++ decimal number ++ codes ": " ++ meaning number ++ 
 
 -- the numbers of warnings
 abbrev pub warning_numbers : List ℕ
-warning_numbers = 1 ∷ 2 ∷ 3 ∷ 4 ∷ 5 ∷ 6 ∷ 7 ∷ 8 ∷ 9 ∷ 10 ∷ 11 ∷ 12 ∷ 13 ∷ 14 ∷ 15 ∷ 16 ∷ []
+warning_numbers = 1 ∷ 2 ∷ 3 ∷ 4 ∷ 5 ∷ 6 ∷ 7 ∷ 8 ∷ 9 ∷ 10 ∷ 11 ∷ 12 ∷ 13 ∷ 14 ∷ 15 ∷ 16 ∷ 17 ∷ []
 
 abbrev pub is_warned : ℕ → Bool
 is_warned number = list_any (λ n. n == number) warning_numbers
@@ -82,6 +82,7 @@ warning_meaning number =
     else if number == 14 then codes "the program runs on over the vectors, while RELINT stands"
     else if number == 15 then codes "a word is reserved where an earlier line reserves one"
     else if number == 16 then codes "nothing leads to an instruction behind a jump"
+    else if number == 17 then codes "a word of a flight source is not certain"
     else []
 
 -- the number of a warning, and what it means

@@ -18,7 +18,7 @@ use Rattle.yayul.specs.Flight.{is_count}
 use Rattle.yayul.specs.Forms.{is_digits}
 use Rattle.faults.specs.Roles.{is_equals, refuses_label}
 use Rattle.yayul.specs.Readings.{Parts, parts_for}
-use Rattle.faults.specs.Causes.{Cause, below_cause, filled, holds, near_label, text_of, warning_cause, without_colon}
+use Rattle.faults.specs.Causes.{Cause, below_cause, caution_cause, filled, holds, near_label, text_of, without_colon}
 use Rattle.faults.specs.Kinds.{kind_of_source}
 use Rattle.faults.specs.Refusals.{meaning}
 use Rattle.faults.specs.FlightCauses.{told_cause}
@@ -105,7 +105,7 @@ error_text notation language name text parts near other f =
 
 -- a warning of a line with some fields
 unfoldable pub warning_text : Notation → List ℕ → List ℕ → Parts → Warning → List ℕ
-warning_text notation name text parts w = told_in notation name text parts [] None (as_warning w) (warning_cause parts w.number)
+warning_text notation name text parts w = told_in notation name text parts [] None (as_warning w) (caution_cause parts w)
 
 -- a line may have a label: its operator, if any, takes one
 abbrev pub takes_label : Parts → Bool

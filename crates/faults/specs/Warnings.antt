@@ -54,7 +54,8 @@ has_alone condition parts = condition && not (is_some parts.offset)
 
 -- a warning of a number at a field of a line, where a condition holds
 abbrev pub warned_if : Bool → ℕ → ℕ → Piece → List Warning
-warned_if condition line number p = if condition then record { line = line; number = number; span = span_of p } ∷ [] else []
+warned_if condition line number p =
+    if condition then record { line = line; number = number; span = span_of p; doubt = None } ∷ [] else []
 
 -- what is said of a field, where it stands
 abbrev pub at_field : (Piece → List Warning) → Option Piece → List Warning

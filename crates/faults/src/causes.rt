@@ -12,7 +12,7 @@ ghost use Rattle.faults.specs.Causes.{room_cause, kind_cause, range_cause, cause
 ghost use Rattle.faults.specs.Causes.{near_label, said, cured, cured_by, text_of, holds, begins, holds_sign, is_signed};
 ghost use Rattle.faults.specs.Causes.{is_label, is_octal_bank, is_decimal_bank, has_parted_offset, lists_numbers};
 ghost use Rattle.faults.specs.Causes.{without_colon, long_cause, number_cause, is_foreign_comment, has_foreign_comment};
-ghost use Rattle.faults.specs.Causes.{way_cause};
+ghost use Rattle.faults.specs.Causes.{caution_cause, doubt_cause, way_cause};
 ghost use Rattle.faults.specs.Causes.{is_beyond_octal, foreign_operators};
 ghost use Rattle.faults.specs.Registers.{registers};
 ghost use Rattle.faults.specs.Views.{cause_in, entries};
@@ -27,6 +27,7 @@ use crate::roles::{
     takes_fixed_place, takes_nothing, writes_erasable,
 };
 use crate::texts::front;
+use crate::told::{Doubt, Warning};
 use agc_text::{Field, LINE_LENGTH, Number, decimal_value, octal_value};
 use yayul::{FaultKind, Finding, Language, Reading, is_digits, is_operator};
 
@@ -127,8 +128,33 @@ pub(crate) fn fault_cause(text: &[u8], parts: &Reading<'_>, near: bool, finding:
     }
 }
 
-/// A warning of a line with some fields in words.
-pub(crate) fn warning_cause(parts: &Reading<'_>, number: u8) -> Cause
+/// A warning of a line with some fields in words: by its number, or by why a word is not certain.
+pub(crate) fn caution_cause(parts: &Reading<'_>, warning: &Warning) -> Cause
+    ensures { cause_in result ≡ caution_cause (parts_in parts.now) warning.now }
+{
+    match warning.doubt {
+        Some(doubt) => doubt_cause(doubt),
+        None => warning_cause(parts, warning.number),
+    }
+}
+
+// 17: why it is not certain what the assembler of flight programs makes of a word.
+fn doubt_cause(doubt: Doubt) -> Cause
+    ensures { cause_in result ≡ doubt_cause doubt }
+{
+    match doubt {
+        Doubt::SuperbankBits => Cause::said(
+            b"the second word of % is not certain: for banks 030 to 037 a superbank, 060, may stand in it (65 in 100)",
+        ),
+        Doubt::HeldBank => Cause::cured(
+            b"a word of % is not certain: EBANK= before an earlier 2CADR may hold for that one alone (85 in 100)",
+            b"EBANK= on the line before % makes it certain",
+        ),
+    }
+}
+
+// A warning of a line with some fields in words, by its number.
+fn warning_cause(parts: &Reading<'_>, number: u8) -> Cause
     ensures { cause_in result ≡ warning_cause (parts_in parts.now) number }
 {
     match number {

@@ -6,7 +6,7 @@ ghost use Rattle.faults.specs.Refusals.{warning_meaning, is_warned};
 use crate::refusals::Refusal;
 
 /// The numbers, rising.
-pub const WARNING_NUMBERS: [u8; 16] = [1, 2, 3, 4, 5, 6, 7, 8, 9, 10, 11, 12, 13, 14, 15, 16];
+pub const WARNING_NUMBERS: [u8; 17] = [1, 2, 3, 4, 5, 6, 7, 8, 9, 10, 11, 12, 13, 14, 15, 16, 17];
 
 /// The warning of a number, where there is one, and what draws it.
 pub fn warning_of(number: u8) -> Option<Refusal>
@@ -29,6 +29,7 @@ pub fn warning_of(number: u8) -> Option<Refusal>
         14 => CAUSES_14,
         15 => CAUSES_15,
         16 => CAUSES_16,
+        17 => CAUSES_17,
         _ => return None,
     };
     Some(Refusal { number, causes })
@@ -55,6 +56,7 @@ pub(crate) fn warning_meaning(number: u8) -> &'static [u8]
         14 => b"the program runs on over the vectors, while RELINT stands",
         15 => b"a word is reserved where an earlier line reserves one",
         16 => b"nothing leads to an instruction behind a jump",
+        17 => b"a word of a flight source is not certain",
         _ => b"",
     }
 }
@@ -195,4 +197,14 @@ const CAUSES_16: &[u8] = b"
     D TCF D
     X OCT 1
   Cure: a label and a jump to it, or leave it out
+";
+
+const CAUSES_17: &[u8] = b"
+- with --flight, in a source without faults: 2CADR of a place of banks 030 to 037, whose second word may hold a superbank, and 2CADR, BBCON or -2CADR behind an EBANK= that stands before an earlier 2CADR, and may hold for that one alone; the word stays as without --flight
+     SETLOC 4000
+     EBANK= 1400
+     2CADR F
+  >  2CADR F
+    F TCF F
+  Cure: for EBANK=, one on the line before it
 ";

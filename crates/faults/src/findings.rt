@@ -344,8 +344,8 @@ fn push_merged(
     push_warnings(out, notation, language, name, texts, rest)
 }
 
-// How many of some warnings in order stand before a line.
-fn count_before(line: u32, warnings: &[Warning]) -> usize
+/// How many of some warnings in order stand before a line.
+pub(crate) fn count_before(line: u32, warnings: &[Warning]) -> usize
     ensures value { result ≡ count_before line warnings.now }
     ensures within { result ≤ length warnings.now }
 {

@@ -1,19 +1,22 @@
 //! What a fault of a flight source is in words, where these are others than those of the standard language.
 
-ghost use Rattle.std.specs.Prelude.{◌≡◌};
+ghost use Rattle.std.specs.Prelude.{◌≡◌, [], false, nat_le, unwrap_or};
+ghost use Rattle.std.specs.Option.{option_map_or};
+ghost use Rattle.agc_text.specs.Digits.{digits_value};
+ghost use Rattle.agc_text.specs.Tables.{value_in};
 ghost use Rattle.yayul.specs.Readings.{parts_in};
 ghost use Rattle.faults.specs.FlightCauses.{unsure_operators, form_cause, has_ten_alone, signed_label_cause};
 ghost use Rattle.faults.specs.FlightCauses.{has_signed_label, has_octal_alone, has_signed_alone, decimal_cause};
 ghost use Rattle.faults.specs.FlightCauses.{flight_operand_cause, flight_label_cause, flight_operator_cause};
 ghost use Rattle.faults.specs.FlightCauses.{flight_early_cause, waiting_cause, flight_kind_cause, is_moved_back};
 ghost use Rattle.faults.specs.FlightCauses.{is_between_banks, flight_range_cause, flight_cause, is_of_flight};
-ghost use Rattle.faults.specs.FlightCauses.{is_of_form, told_cause};
+ghost use Rattle.faults.specs.FlightCauses.{alternatives, is_moved_far, is_of_form, is_symbol_alone, told_cause};
 ghost use Rattle.faults.specs.Report.{flight_clause};
 ghost use Rattle.faults.specs.Views.{cause_in, entries};
 
 use crate::causes::{
-    Cause, begins, fault_cause, has_foreign_comment, holds, is_signed, symbol_cause, text_of,
-    value_in,
+    Cause, begins, fault_cause, has_foreign_comment, holds, is_beyond_octal, is_signed, symbol_cause,
+    text_of, value_in,
 };
 use crate::names::is_short;
 use crate::roles::{
@@ -128,12 +131,23 @@ fn flight_operator_cause(near: bool, text: &[u8], parts: &Reading<'_>, finding: 
     ensures { cause_in result ≡ flight_operator_cause near text.now (parts_in parts.now) finding.now }
 {
     if let Some(cure) = value_in(unsure_operators(), text_of(parts.operator)) {
-        Cause::cured(
-            b"% is not taken: what yaYUL makes of it is not known for sure",
+        Cause::cured_by(
+            b"% is not taken, since it is not sure what yaYUL makes of it: perhaps !",
             cure,
+            alternative_of(text_of(parts.operator)),
         )
     } else {
         fault_cause(text, parts, near, finding)
+    }
+}
+
+// What yaYUL makes of an operator, perhaps.
+fn alternative_of(operator: &[u8]) -> &'static [u8]
+    ensures { result.now ≡ unwrap_or (value_in alternatives operator.now) [] }
+{
+    match value_in(alternatives(), operator) {
+        Some(alternative) => alternative,
+        None => b"",
     }
 }
 
@@ -197,7 +211,7 @@ fn flight_operand_cause(near: bool, text: &[u8], parts: &Reading<'_>, finding: &
         fault_cause(text, parts, near, finding)
     } else if is_erase(parts.role) {
         Cause::cured(
-            b"ERASE takes nothing, or a plus sign and a number: what yaYUL makes of a range is not known for sure",
+            b"ERASE takes nothing, or a plus sign and a number: of a range perhaps all words (60 to 90 in 100)",
             b"ERASE reserves one word, ERASE +1 two",
         )
     } else if names_bank(parts.role) && parts.operand.is_none() {
@@ -223,11 +237,16 @@ fn form_cause(near: bool, text: &[u8], parts: &Reading<'_>, finding: &Finding) -
             b"DEC takes decimal digits",
         )
     } else if is_octal_pair(parts.role) {
-        Cause::said(b"2OCT takes ten octal digits, 0 to 7, in one field")
+        Cause::said(b"2OCT takes ten octal digits, 0 to 7, in one field: fewer perhaps with zeros before them (85 in 100)")
     } else if is_verb_noun(parts.role) {
-        Cause::said(b"VN takes four decimal digits, two of the verb and two of the noun")
+        Cause::said(b"VN takes four decimal digits, two of the verb and two of the noun: fewer perhaps with zeros before them (85 in 100)")
     } else if has_signed_alone(parts) {
         Cause::said(b"@ is no symbol, which has 8 characters at most, and no number")
+    } else if is_beyond_octal(text_of(parts.operand)) {
+        Cause::cured(
+            b"numbers are octal, and @ has a digit 8 or 9: perhaps it is decimal (60 in 100)",
+            b"@D is decimal",
+        )
     } else {
         fault_cause(text, parts, near, finding)
     }
@@ -265,8 +284,8 @@ fn flight_kind_cause(near: bool, text: &[u8], parts: &Reading<'_>, finding: &Fin
 {
     if takes_low_bank(parts.role) {
         Cause::said(
-            b"% takes a fixed place of a bank below 30, and @^ is none: what yaYUL adds from bank 30 on is not known \
-                for sure",
+            b"% takes a fixed place of a bank below 30, and @^ is none: from bank 30 on yaYUL perhaps adds 060 \
+                (65 in 100)",
         )
     } else if is_count_complement(parts.role) {
         Cause::said(b"% takes a word of erasable memory, and @^ is not there")
@@ -280,7 +299,7 @@ fn flight_range_cause(near: bool, text: &[u8], parts: &Reading<'_>, finding: &Fi
     ensures { cause_in result ≡ flight_range_cause near text.now (parts_in parts.now) finding.now }
 {
     if takes_decimal(parts.role) {
-        Cause::said(b"this is more than % holds: what yaYUL makes of it is not known for sure")
+        Cause::said(b"this is more than % holds: yaYUL perhaps makes the greatest of it (85 in 100, of DEC 70)")
     } else if is_octal(parts.role) {
         Cause::said(b"a word holds 77777 at most, and @ is more")
     } else if is_moved_back(parts) {
@@ -290,6 +309,14 @@ fn flight_range_cause(near: bool, text: &[u8], parts: &Reading<'_>, finding: &Fi
     } else if is_between_banks(parts) {
         Cause::said(
             b"@ names no place: from 14000 to 17777 the order of the banks is not known for sure",
+        )
+    } else if is_moved_far(parts) {
+        Cause::said(
+            b"this leads out of its bank: less the number of a place it is perhaps an offset (88 in 100)",
+        )
+    } else if is_symbol_alone(parts) {
+        Cause::said(
+            b"@ is past the last address: a number of EQUALS is perhaps a place from 10000 on (88 in 100)",
         )
     } else {
         fault_cause(text, parts, near, finding)
@@ -305,6 +332,32 @@ fn is_moved_back(parts: &Reading<'_>) -> bool
     is_address && begins(b'-', text_of(parts.offset))
 }
 
+// Whether a number from 010000 on, as those of places are, is taken from the operand.
+fn is_moved_far(parts: &Reading<'_>) -> bool
+    ensures { result ≡ is_moved_far (parts_in parts.now) }
+{
+    let offset = text_of(parts.offset);
+    begins(b'-', offset) && is_far_number(offset.get(1..).unwrap_or(&[]))
+}
+
+// Octal digits of a number from 010000 on.
+fn is_far_number(text: &[u8]) -> bool
+    ensures { result ≡ option_map_or (nat_le 0o10000) (digits_value 8 text.now) false }
+{
+    match octal_value(text) {
+        Some(Number::Small(number)) => 0o10000 <= number,
+        Some(Number::Large) => true,
+        None => false,
+    }
+}
+
+// Whether a symbol stands without an offset.
+fn is_symbol_alone(parts: &Reading<'_>) -> bool
+    ensures { result ≡ is_symbol_alone (parts_in parts.now) }
+{
+    octal_value(text_of(parts.operand)).is_none() && parts.offset.is_none()
+}
+
 // Octal digits that name no place, between those of bank 1 and those of bank 4.
 fn is_between_banks(parts: &Reading<'_>) -> bool
     ensures { result ≡ is_between_banks (parts_in parts.now) }
@@ -314,8 +367,9 @@ fn is_between_banks(parts: &Reading<'_>) -> bool
     is_between && parts.offset.is_none()
 }
 
-const UNSURE_OPERATORS: [(&str, &str); 11] = [
+const UNSURE_OPERATORS: [(&str, &str); 12] = [
     ("MM", "OCT makes a word"),
+    ("NV", "OCT makes a word"),
     ("EDRUPT", "OCT makes a word"),
     ("DNPTR", "OCT makes a word"),
     ("-DNPTR", "OCT makes a word"),
@@ -332,4 +386,25 @@ fn unsure_operators() -> &'static [(&'static str, &'static str)]
     ensures { entries result.now ≡ unsure_operators }
 {
     &UNSURE_OPERATORS
+}
+
+const ALTERNATIVES: [(&str, &str); 12] = [
+    ("MM", "the word of DEC (80 in 100)"),
+    ("NV", "the word of VN (60 in 100)"),
+    ("EDRUPT", "07000, and 9 bits of the operand (75 in 100)"),
+    ("DNPTR", "30000, and the address of 12 bits (88 in 100)"),
+    ("-DNPTR", "the complement of the word of DNPTR (80 in 100)"),
+    ("2FCADR", "the words of FCADR and of GENADR (60 in 100)"),
+    ("2BCADR", "the words of 2CADR (75 in 100)"),
+    ("BBCON*", "66100 (75 in 100)"),
+    ("=ECADR", "a number, the address of 11 bits (70 in 100)"),
+    ("=MINUS", "a number, the location less the operand (60 in 100)"),
+    ("=PLUS", "a number, the location and the operand (60 in 100)"),
+    ("SBANK=", "bits 7 to 5 of each 2CADR behind it (60 in 100)"),
+];
+
+fn alternatives() -> &'static [(&'static str, &'static str)]
+    ensures { entries result.now ≡ alternatives }
+{
+    &ALTERNATIVES
 }

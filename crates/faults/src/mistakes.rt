@@ -361,7 +361,12 @@ pub(crate) fn warn_if(
             start: field.start,
             width: field.text.len(),
         };
-        found.push(Warning { line, number, span })?;
+        found.push(Warning {
+            line,
+            number,
+            span,
+            doubt: None,
+        })?;
     }
     Ok(())
 }

@@ -10,7 +10,7 @@ ghost use Rattle.faults.specs.Views.{cause_in, place_in};
 ghost use Rattle.faults.specs.Report.{margin_byte, numbered, shown_part, row_text, marks_text, place_text, kind_text};
 ghost use Rattle.faults.specs.Report.{caused_text, message_text, cure_text, error_text, told_in, warning_text};
 
-use crate::causes::{Cause, text_of, warning_cause};
+use crate::causes::{Cause, caution_cause, text_of};
 use crate::flight_causes::told_cause;
 use crate::objects::{Place, push_object};
 use crate::told::{Severity, Told, Warning};
@@ -262,7 +262,7 @@ pub(crate) fn push_warning(
         b"",
         None,
         &Told::warning(warning),
-        &warning_cause(parts, warning.number),
+        &caution_cause(parts, warning),
     )
 }
 

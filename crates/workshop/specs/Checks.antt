@@ -1,12 +1,18 @@
 -- What the engines answer that tell what is wrong with a source, and with a feed, and what they have then written.
-use Rattle.std.specs.Prelude.{◌≡◌, ℕ, nat_lt, if◌then◌else◌, List, length, Bool, Result, Ok, Err, IfOk}
+use Rattle.std.specs.Prelude.{◌≡◌, ℕ, nat_lt, if◌then◌else◌, List, [], length, Bool, Result, Ok, Err, IfOk}
 use Rattle.feed.specs.Feed.{most_bytes}
 use Rattle.json_text.specs.declared.notation.Notation.{Notation}
 use Rattle.yayul.specs.Survey.{told}
+use Rattle.yayul.specs.Program.{Program, program}
+use Rattle.yayul.specs.declared.faults.Fault.{Fault}
 use Rattle.yayul.specs.declared.language.Language.{Language}
+use Rattle.yayul.specs.declared.language.Language.TheVariants.{Flight, Standard}
 use Rattle.faults.specs.FeedReport.{feed_faults, feed_report}
+use Rattle.faults.specs.Joined.{joined}
 use Rattle.faults.specs.Report.{count_text, report}
 use Rattle.faults.specs.Warnings.{warnings}
+use Rattle.faults.specs.declared.told.Warning.{Warning}
+use Rattle.certain.specs.Doubted.{doubted}
 use Rattle.workshop.specs.declared.checking.Tally.{Tally}
 use Rattle.workshop.specs.declared.fault.WorkshopFault.{WorkshopFault}
 use Rattle.workshop.specs.declared.fault.WorkshopFault.TheVariants.{NoMemory, TooLong}
@@ -14,15 +20,25 @@ use Rattle.workshop.specs.Failures.{Reader, Writer}
 use Rattle.workshop.specs.Loading.{Reads, ReadsText}
 use Rattle.workshop.specs.Ropes.{WritesText}
 
+-- the warnings of words that are not certain, where a flight source has no fault
+abbrev pub doubts_in : Result Program Fault → List Warning
+doubts_in (Ok p) = doubted p.source p.rope
+doubts_in (Err fault) = []
+
+-- all warnings of a source of a language, those of labels that no operand names where they are asked for
+abbrev pub cautions : Language → Bool → List ℕ → List Warning
+cautions Standard unused source = warnings Standard unused source
+cautions Flight unused source = joined (warnings Flight unused source) (doubts_in (program Flight source))
+
 -- how many faults and warnings are told of a source of a language, with labels that no operand names where that is asked for
 abbrev pub tally : Language → Bool → List ℕ → Tally
-tally language unused source = record { errors = length (told language source); warnings = length (warnings language unused source) }
+tally language unused source = record { errors = length (told language source); warnings = length (cautions language unused source) }
 
 -- the faults and the warnings of a source of a language and of this name in a notation; and how many there are
 abbrev pub reported : Notation → Language → List ℕ → Bool → List ℕ → Result (List ℕ × Tally) WorkshopFault
 reported notation language name unused source =
     if nat_lt most_bytes (length source) then Err TooLong else Ok
-    (report notation language name source (told language source) (warnings language unused source), tally language unused source)
+    (report notation language name source (told language source) (cautions language unused source), tally language unused source)
 
 -- the fault of a feed of this name in a notation, where it has one; and how many are told
 abbrev pub feed_reported : Notation → List ℕ → List ℕ → Result (List ℕ × ℕ) WorkshopFault

@@ -3,19 +3,22 @@
 ghost use Rattle.std.specs.Prelude.{◌≡◌, ◌^◌, ◌+◌, ◌-◌, min, length, IfErr, IfOk};
 ghost use Rattle.std.specs.Result.{result_map_both};
 ghost use Rattle.faults.specs.Report.{refused_file, report};
-ghost use Rattle.faults.specs.Warnings.{warnings};
-ghost use Rattle.workshop.specs.Checks.{Checks, TellsTally, feed_reported, reported};
+ghost use Rattle.certain.specs.Doubted.{doubted};
+ghost use Rattle.yayul.specs.Program.{program};
+ghost use Rattle.yayul.specs.declared.language.Language.TheVariants as Language;
+ghost use Rattle.workshop.specs.Checks.{Checks, TellsTally, cautions, doubts_in, feed_reported, reported};
 ghost use Rattle.workshop.specs.Failures.{reader, writer};
 ghost use Rattle.workshop.specs.Faults.{number_of};
 ghost use Rattle.workshop.specs.declared.fault.WorkshopFault.TheVariants as WorkshopFault;
 ghost use Rattle.workshop.specs.Loading.{Reads, ReadsText};
 
 use crate::fault::WorkshopFault;
-use faults::{counts, feed_report, refused_file, report, warnings};
+use certain::doubted_lines;
+use faults::{Warning, counts, feed_report, joined, refused_file, report, warnings};
 use json_text::Notation;
 use std::alloc::{AllocError, Global};
 use words::{MOST_BYTES, Read, Write, read_text, write_all};
-use yayul::{Finding, Language, findings};
+use yayul::{Finding, Language, Program, assemble, findings};
 
 /// How many faults and warnings were told.
 #[derive(Clone, Copy, PartialEq, Eq, Debug, Drop)]
@@ -158,17 +161,58 @@ pub(crate) fn told_of(
     findings: &[Finding],
 ) -> Result<(Vec<u8>, Tally), AllocError>
     ensures text { IfOk result (λ r. r.0.items
-        ≡ report notation language name.now source.now findings.now (warnings language unused source.now)) }
+        ≡ report notation language name.now source.now findings.now (cautions language unused source.now)) }
     ensures count { IfOk result (λ r. r.1 ≡ record
-        { errors = length findings.now; warnings = length (warnings language unused source.now) }) }
+        { errors = length findings.now; warnings = length (cautions language unused source.now) }) }
 {
-    let warnings = warnings(alloc, language, source, unused)?;
+    let warnings = cautions(alloc, language, unused, source)?;
     let text = report(alloc, notation, language, name, source, findings, &warnings)?;
     let tally = Tally {
         errors: findings.len(),
         warnings: warnings.len(),
     };
     Ok((text, tally))
+}
+
+// All warnings of a source of a language, those of labels that no operand names where they are asked for.
+fn cautions(
+    alloc: Global,
+    language: Language,
+    unused: bool,
+    source: &[u8],
+) -> Result<Vec<Warning>, AllocError>
+    ensures { IfOk result (λ found. found.items ≡ cautions language unused source.now) }
+{
+    let warnings = warnings(alloc, language, source, unused)?;
+    match language {
+        Language::Standard => Ok(warnings),
+        Language::Flight => {
+            let doubts = doubts_in(alloc, source)?;
+            joined(alloc, &warnings, &doubts)
+        }
+    }
+}
+
+// The warnings of words that are not certain, where a flight source has no fault.
+fn doubts_in(alloc: Global, source: &[u8]) -> Result<Vec<Warning>, AllocError>
+    ensures { IfOk result (λ found. found.items ≡ doubts_in (program Language.Flight source.now)) }
+{
+    match assemble(alloc, Language::Flight, source) {
+        Ok(program) => doubts_of(alloc, program),
+        Err(fault) if fault.line == 0 => Err(AllocError),
+        Err(_) => Ok(Vec::new(alloc)),
+    }
+}
+
+// Those of an assembled source.
+fn doubts_of(alloc: Global, program: Program) -> Result<Vec<Warning>, AllocError>
+    ensures { IfOk result (λ found. found.items ≡ doubted program.source program.rope) }
+{
+    let (rope, rows) = program.split_rows();
+    match doubted_lines(alloc, &rows, &rope) {
+        Some(found) => Ok(found),
+        None => Err(AllocError),
+    }
 }
 
 // Reads a feed, and tells its fault in a notation, and how many are told.

@@ -1,4 +1,4 @@
-use Rattle.std.proofs.Common.{arith, sym}
+use Rattle.std.proofs.Common.{None, arith, sym}
 use Rattle.std.specs.Prelude.{nat_le}
 use Rattle.std.proofs.lemmas.Bool.Decides.{nat_tests}
 use Rattle.std.proofs.lemmas.List.Sums.{position_or_len_is}
@@ -6,7 +6,7 @@ use Rattle.faults.specs.declared.told.Warning.{Warning}
 use Rattle.faults.proofs.findings.count_before.Goals as goal
 
 abbrev nothing : Warning
-nothing = record { line = 0; number = 0; span = record { start = 0; width = 0 } }
+nothing = record { line = 0; number = 0; span = record { start = 0; width = 0 }; doubt = None }
 
 pub returns-then-line-warning-clause-value : goal.returns-then-line-warning-clause-value
 returns-then-line-warning-clause-value c =
