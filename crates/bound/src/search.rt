@@ -77,6 +77,9 @@ fn number_all(
     if let Some(at) = settle(graph, &mut numbers) {
         return loop_at(alloc, graph, &numbers, at);
     }
+    if let Some(at) = endless(graph, &mut numbers) {
+        return loop_at(alloc, graph, &numbers, at);
+    }
     let mut rows = Vec::new(alloc);
     for (number, site) in graph.sites.as_slice().iter().enumerate() {
         let value = value_of(numbers.values.as_slice(), number);
@@ -204,6 +207,20 @@ fn settle(graph: &Graph, numbers: &mut Numbers) -> Option<usize> {
     }
     let from = grown(graph, numbers)?;
     Some(looping(graph, numbers.best.as_slice(), from))
+}
+
+/// The number of a word of a loop from which no way leads back, if there is one. Words without a number have an edge of
+/// theirs as their way.
+fn endless(graph: &Graph, numbers: &mut Numbers) -> Option<usize> {
+    let mut found = None;
+    for edge in graph.edges.as_slice() {
+        let from = edge.from;
+        if from < numbers.best.len() && value_of(numbers.values.as_slice(), from) == 0 {
+            numbers.best[from] = edge.to;
+            found = Some(from);
+        }
+    }
+    Some(looping(graph, numbers.best.as_slice(), found?))
 }
 
 /// Lets each number grow once. Answers a word whose number did.

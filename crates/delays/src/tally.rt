@@ -232,8 +232,8 @@ impl Delays {
         }
     }
 
-    /// Keeps the wait that a step ends. What few steps do stands apart from here on, so that the others have none of
-    /// its locals: a moment is of 19 numbers.
+    /// Keeps the wait that a step ends. What few steps do stands apart from here on, so that the others have none of its
+    /// locals: a moment is of 19 numbers.
     #[inline(always)]
     fn end_wait(&mut self, step: &NextStep, cycles: u64)
         requires steps { self.old.steps ≤ 2 ^ 62 }
