@@ -160,10 +160,13 @@ lines_with_causes =
         codes "EQUALS gives X a value",
       ),
     )
-    ∷ ((codes " SBANK= X", UnknownOperator), (
-      codes "SBANK= is not taken, since it is not sure what yaYUL makes of it: perhaps bits 7 to 5 of each 2CADR behind it (60 in 100)",
-      [],
-    ))
+    ∷ (
+      (codes " SBANK= X", UnknownOperator),
+      (
+        codes "SBANK= is not taken, since it is not sure what yaYUL makes of it: perhaps bits 7 to 5 of each 2CADR behind it (60 in 100)",
+        [],
+      ),
+    )
     ∷ ((codes " TFC LOOP", UnknownOperator), (codes "TFC is no operator", codes "did you mean TCF?"))
     ∷ ((codes "-LONGNAME OCT 1", BadLabel), (codes "-LONGNAME has more than 8 characters, the most of a label", []))
     ∷ ((codes "+ OCT 1", BadLabel), (codes "+ is a sign alone, and no label", []))
@@ -193,10 +196,13 @@ lines_with_causes =
       ),
     )
     ∷ ((codes " 2OCT 123", BadOperand), (codes "2OCT takes ten octal digits, 0 to 7, in one field: fewer perhaps with zeros before them (85 in 100)", []))
-    ∷ ((codes " VN 12", BadOperand), (
-      codes "VN takes four decimal digits, two of the verb and two of the noun: fewer perhaps with zeros before them (85 in 100)",
-      [],
-    ))
+    ∷ (
+      (codes " VN 12", BadOperand),
+      (
+        codes "VN takes four decimal digits, two of the verb and two of the noun: fewer perhaps with zeros before them (85 in 100)",
+        [],
+      ),
+    )
     ∷ ((codes " CA -LONGNAME", BadOperand), (codes "-LONGNAME is no symbol, which has 8 characters at most, and no number", []))
     ∷ ((codes "-1 CA 18", BadOperand), (codes "numbers are octal, and 18 has a digit 8 or 9: perhaps it is decimal (60 in 100)", codes "18D is decimal"))
     ∷ ((codes "-1 CA", BadOperand), (codes "CA needs an operand", []))

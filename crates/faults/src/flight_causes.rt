@@ -15,8 +15,8 @@ ghost use Rattle.faults.specs.Report.{flight_clause};
 ghost use Rattle.faults.specs.Views.{cause_in, entries};
 
 use crate::causes::{
-    Cause, begins, fault_cause, has_foreign_comment, holds, is_beyond_octal, is_signed, symbol_cause,
-    text_of, value_in,
+    Cause, begins, fault_cause, has_foreign_comment, holds, is_beyond_octal, is_signed,
+    symbol_cause, text_of, value_in,
 };
 use crate::names::is_short;
 use crate::roles::{
@@ -237,9 +237,13 @@ fn form_cause(near: bool, text: &[u8], parts: &Reading<'_>, finding: &Finding) -
             b"DEC takes decimal digits",
         )
     } else if is_octal_pair(parts.role) {
-        Cause::said(b"2OCT takes ten octal digits, 0 to 7, in one field: fewer perhaps with zeros before them (85 in 100)")
+        Cause::said(
+            b"2OCT takes ten octal digits, 0 to 7, in one field: fewer perhaps with zeros before them (85 in 100)",
+        )
     } else if is_verb_noun(parts.role) {
-        Cause::said(b"VN takes four decimal digits, two of the verb and two of the noun: fewer perhaps with zeros before them (85 in 100)")
+        Cause::said(
+            b"VN takes four decimal digits, two of the verb and two of the noun: fewer perhaps with zeros before them (85 in 100)",
+        )
     } else if has_signed_alone(parts) {
         Cause::said(b"@ is no symbol, which has 8 characters at most, and no number")
     } else if is_beyond_octal(text_of(parts.operand)) {
@@ -299,7 +303,9 @@ fn flight_range_cause(near: bool, text: &[u8], parts: &Reading<'_>, finding: &Fi
     ensures { cause_in result ≡ flight_range_cause near text.now (parts_in parts.now) finding.now }
 {
     if takes_decimal(parts.role) {
-        Cause::said(b"this is more than % holds: yaYUL perhaps makes the greatest of it (85 in 100, of DEC 70)")
+        Cause::said(
+            b"this is more than % holds: yaYUL perhaps makes the greatest of it (85 in 100, of DEC 70)",
+        )
     } else if is_octal(parts.role) {
         Cause::said(b"a word holds 77777 at most, and @ is more")
     } else if is_moved_back(parts) {
@@ -398,8 +404,14 @@ const ALTERNATIVES: [(&str, &str); 12] = [
     ("2BCADR", "the words of 2CADR (75 in 100)"),
     ("BBCON*", "66100 (75 in 100)"),
     ("=ECADR", "a number, the address of 11 bits (70 in 100)"),
-    ("=MINUS", "a number, the location less the operand (60 in 100)"),
-    ("=PLUS", "a number, the location and the operand (60 in 100)"),
+    (
+        "=MINUS",
+        "a number, the location less the operand (60 in 100)",
+    ),
+    (
+        "=PLUS",
+        "a number, the location and the operand (60 in 100)",
+    ),
     ("SBANK=", "bits 7 to 5 of each 2CADR behind it (60 in 100)"),
 ];
 
