@@ -673,6 +673,24 @@ class Moves(ModuleCase):
             self.assertEqual(ran.stdout.split(), wanted, ran.stderr[-400:])
 
 
+class Tables(ModuleCase):
+    """A table of functions, which the linker may leave."""
+
+    def test_tables(self):
+        """One in which nothing stands goes, whatever else the module has, and one in which something stands is left to wasm-opt."""
+        import build
+
+        head, types, code = b"\0asm\1\0\0\0", b"\1\4\1\x60\0\0", b"\x0a\x81\1" + bytes(129)
+        table, elements = b"\4\5\1\x70\5\1\1", b"\x09\7\1\0\x41\0\x0b\1\0"
+        for what, module, wanted in [
+            ("no table", head + types + code, head + types + code),
+            ("an empty table", head + types + table + code, head + types + code),
+            ("a table with a function", head + types + table + elements + code, head + types + table + elements + code),
+        ]:
+            with self.subTest(what):
+                self.assertEqual(build.without_table(module), wanted)
+
+
 class Browsers(ModuleCase):
     """Pages from the disk."""
 

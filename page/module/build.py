@@ -24,6 +24,8 @@ LINKED = f"""-mwasm64 -O2 -s --gc-sections --no-entry --export=main --import-mem
 FEATURES = "--enable-memory64 --enable-bulk-memory --enable-sign-ext --enable-mutable-globals --enable-nontrapping-float-to-int".split()
 # What makes it small: functions that differ in constants alone become one.
 SMALL = "-O1 --merge-similar-functions --rse --merge-locals --vacuum".split()
+# Sections of a module: tables of functions, and what stands in them.
+TABLES, ELEMENTS = 4, 9
 # The section that says which program this is.
 NAME = b"agcws"
 
@@ -55,6 +57,28 @@ def section(name, content):
     return b"\0" + number(len(body)) + body
 
 
+def parts(module):
+    """Returns the number of each section of a module, with its bytes."""
+    found, at = [], 8
+    while at < len(module):
+        size, shift, begin = 0, 0, at + 1
+        while True:
+            size, shift, begin = size | (module[begin] & 127) << shift, shift + 7, begin + 1
+            if module[begin - 1] < 128:
+                break
+        found.append((module[at], module[at : begin + size]))
+        at = begin + size
+    return found
+
+
+def without_table(module):
+    """Returns a module without its table of functions, where that has none: the linker may leave one with wide indexes, which wasm-opt does not read."""
+    found = parts(module)
+    if any(number == ELEMENTS for number, _ in found):
+        return module
+    return module[:8] + b"".join(it for number, it in found if number != TABLES)
+
+
 def said(version, is_proved):
     """Returns the section that says which program this is."""
     return section(NAME, json.dumps({"version": version, "proved": is_proved, "pages": FIRST_PAGES}, separators=(",", ":")).encode())
@@ -75,6 +99,7 @@ def module_of(bitcode, version, is_proved):
         run(clang, *TARGET, *AS_IT_IS, "-x", "ir", "-c", "-o", f"{room}/program.o", f"{room}/calling.ll")
         run(clang, *TARGET, *LAYER, "-c", "-o", f"{room}/layer.o", f"{HERE}/layer.c")
         run(toolchain.wasm_linker(room), *LINKED, "-o", f"{room}/wide.wasm", f"{room}/program.o", f"{room}/layer.o")
+        write(f"{room}/wide.wasm", without_table(read(f"{room}/wide.wasm")))
         run("wasm-opt", *FEATURES, "--memory64-lowering", *SMALL, "-o", f"{room}/agcws.wasm", f"{room}/wide.wasm")
         return read(f"{room}/agcws.wasm") + said(version, is_proved)
 
