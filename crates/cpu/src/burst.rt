@@ -127,7 +127,7 @@ impl Machine {
         let cycles = self.cycles().wrapping_add(u64::from(taken));
         let extra_then = extra_by(row.role, extra);
         self.perform(rope, instruction, word);
-        self.end_instruction(extra_then, cycles);
+        self.end_plain(extra, extra_then, cycles);
         extra_then
     }
 

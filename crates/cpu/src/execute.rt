@@ -9,7 +9,7 @@ ghost use Rattle.cpu.specs.Next.{output_on, jumps_by, jump_cycles, entry, entere
 use crate::address::{Addr10, address_of_word, channel_of_word};
 use crate::dispatch::decode;
 use crate::instruction::{Instruction, Role};
-use crate::machine::{FIRST_ADDRESS, Machine};
+use crate::machine::{FIRST_ADDRESS, FIRST_SWITCHED, Machine};
 use crate::output::Output;
 use feed::Interrupt;
 use rope::Rope;
@@ -33,14 +33,17 @@ impl Machine {
         if address.number() >= FIRST_FIXED {
             let (bank, offset) = resolve_fixed(address);
             rope.word(bank, offset)
+        } else if address.number() >= FIRST_SWITCHED {
+            let (bank, offset) = self.switched(address);
+            rope.word(bank, offset)
         } else {
-            self.word_in_window(rope)
+            self.word_in_erasable(rope)
         }
     }
 
-    /// The word at Z, where the bank registers count.
-    #[inline(always)]
-    fn word_in_window(&self, rope: &Rope) -> Word
+    /// The word at Z, in erasable memory, where few programs stand.
+    #[inline(never)]
+    fn word_in_erasable(&self, rope: &Rope) -> Word
         ensures { result ≡ word_at_z rope.now self.now }
     {
         self.word_at(rope, &self.next_place())

@@ -8,17 +8,31 @@ ghost use Rattle.cpu.specs.Effects.{dcs, index, mp, dv, msu, bzf, bzmf, relint, 
 
 use crate::address::{Addr10, before};
 use crate::bits::{and, is_whole};
-use crate::machine::Machine;
+use crate::machine::{FIRST_SWITCHED, Machine};
 use rope::Rope;
 use space::{Addr12, Eras};
 use words::{Overflow, Wide, div};
 
-// Does something with what is read at an address, and stores that there again where the place edits.
+// Does something with what is read at an address of an erasable place, and stores that there again where the place edits.
 macro_rules! reading {
     ($machine:expr, $rope:expr, $address:expr, |$read:ident| $effect:block) => {{
-        let $read = $machine.reading($rope, $address);
+        let $read = $machine.reading_erasable($rope, $address);
         $effect
         $machine.edit(&$read);
+    }};
+}
+
+// The same of any address. In fixed memory nothing is stored again, so that this has code of its own.
+macro_rules! reading_any {
+    ($machine:expr, $rope:expr, $address:expr, |$read:ident| $effect:block) => {{
+        if $address.number() >= FIRST_SWITCHED {
+            let $read = $machine.reading_fixed($rope, $address);
+            $effect
+        } else {
+            let $read = $machine.reading_erasable($rope, $address);
+            $effect
+            $machine.edit(&$read);
+        }
     }};
 }
 
@@ -77,7 +91,7 @@ impl Machine {
     pub(crate) fn clear_and_add(&mut self, rope: &Rope, address: Addr12)
         ensures { self.new ≡ changes self.old (ca rope.now self.old address) }
     {
-        reading!(self, rope, address, |read| {
+        reading_any!(self, rope, address, |read| {
             self.put(Eras::A, read.value);
         });
     }
@@ -88,7 +102,7 @@ impl Machine {
     pub(crate) fn clear_and_subtract(&mut self, rope: &Rope, address: Addr12)
         ensures { self.new ≡ changes self.old (cs rope.now self.old address) }
     {
-        reading!(self, rope, address, |operand| {
+        reading_any!(self, rope, address, |operand| {
             self.put(Eras::A, operand.value.neg());
         });
     }
@@ -99,7 +113,7 @@ impl Machine {
     pub(crate) fn add(&mut self, rope: &Rope, address: Addr12)
         ensures { self.new ≡ changes self.old (ad rope.now self.old address) }
     {
-        reading!(self, rope, address, |addend| {
+        reading_any!(self, rope, address, |addend| {
             let sum = self.reg(Eras::A).add(addend.value);
             self.put(Eras::A, sum);
         });
@@ -123,7 +137,7 @@ impl Machine {
     pub(crate) fn mask(&mut self, rope: &Rope, address: Addr12)
         ensures { self.new ≡ changes self.old (mask rope.now self.old address) }
     {
-        reading!(self, rope, address, |mask| {
+        reading_any!(self, rope, address, |mask| {
             let masked = and(is_whole(&mask.place), self.reg(Eras::A), mask.value);
             self.put(Eras::A, masked);
         });
@@ -302,7 +316,7 @@ impl Machine {
     pub(crate) fn index(&mut self, rope: &Rope, address: Addr12)
         ensures { self.new ≡ changes self.old (index rope.now self.old address) }
     {
-        reading!(self, rope, address, |increment| {
+        reading_any!(self, rope, address, |increment| {
             self.wait_with_sum(increment.value);
         });
     }
@@ -312,7 +326,7 @@ impl Machine {
     pub(crate) fn multiply(&mut self, rope: &Rope, address: Addr12)
         ensures { self.new ≡ changes self.old (mp rope.now self.old address) }
     {
-        reading!(self, rope, address, |multiplier| {
+        reading_any!(self, rope, address, |multiplier| {
             let product = self.word(Eras::A).mul(multiplier.value.correct());
             self.put(Eras::A, product.high.extend());
             self.put(Eras::L, product.low.extend());

@@ -1,8 +1,9 @@
 //! The machine, and what its parts read and keep.
 
-ghost use Rattle.std.specs.Prelude.{◌≡◌, ◌+◌, ◌<◌, ◌^◌, Some, None, true, false};
+ghost use Rattle.std.specs.Prelude.{◌≡◌, ◌+◌, ◌<◌, ◌≤◌, ◌^◌, Some, None, true, false, []};
 ghost use Rattle.space.specs.Cells.{get, get_channel};
 ghost use Rattle.space.specs.Places.{IsErasable};
+ghost use Rattle.space.specs.declared.place.Linear.{Linear};
 ghost use Rattle.cpu.specs.State.{Scenario, start, FitsRun};
 ghost use Rattle.cpu.specs.Representation.{HasRoom};
 ghost use Rattle.cpu.specs.Effects.{change, changes, next_address, place_in, erasable_in, value_at, operand, edits};
@@ -17,7 +18,7 @@ use feed::{Interrupt, MOST_SERIES};
 use rope::Rope;
 use space::resolve::resolve;
 use space::{
-    Addr12, Chan, Eras, FIRST_FIXED, FIRST_IN_WINDOW, Linear, Store, resolve_fixed,
+    Addr12, Bank, Chan, Eras, FIRST_FIXED, FIRST_IN_WINDOW, Linear, Offset, Store, resolve_fixed,
     resolve_unbanked,
 };
 use std::marker::Model;
@@ -28,6 +29,9 @@ const INTERRUPTS: usize = feed::INTERRUPTS as usize;
 
 /// The address at which a run starts.
 pub(crate) const FIRST_ADDRESS: u16 = 0o4000;
+
+/// The first address whose bank FB selects.
+pub(crate) const FIRST_SWITCHED: u16 = 0o2000;
 
 /// What was read at an address, and the place to which the address led.
 #[derive(Clone, Copy)]
@@ -371,6 +375,18 @@ impl Machine {
         self.cycles = cycles;
     }
 
+    /// Ends an instruction as `end_instruction` does, where extracode is known to have been in force before it or not.
+    #[inline(always)]
+    pub(crate) fn end_plain(&mut self, before: bool, extra: bool, end: u64)
+        requires { self.old.extra ≡ before }
+        ensures { self.new ≡ record self.old { extra = extra; cycles = end } }
+    {
+        if extra != before {
+            self.extra = extra;
+        }
+        self.cycles = end;
+    }
+
     /// The place to which an address leads.
     #[tactic(auto, unfolding(crate::specs::Effects::place_in))]
     pub(crate) fn place(&self, address: Addr12) -> Linear
@@ -394,14 +410,24 @@ impl Machine {
     }
 
     /// The erasable place to which an address leads, where the erasable bank counts.
-    #[tactic(auto, unfolding(crate::specs::Effects::erasable_in))]
+    #[inline(always)]
+    #[tactic(auto, unfolding(crate::specs::Effects::erasable_in, crate::specs::Effects::place_in))]
     fn erasable_in_window(&self, address: Addr10) -> Eras
+        requires { 0o1400 ≤ address }
         ensures { result ≡ erasable_in self.now address }
     {
-        match self.place(address.widen()) {
-            Linear::Erasable(place) => place,
-            Linear::Fixed(_, _) => unreachable!(),
-        }
+        self.store.place_in_erasable_window(address.widen())
+    }
+
+    /// The bank and the offset to which an address leads whose bank FB and the superbank bit select.
+    #[inline(always)]
+    #[tactic(auto, unfolding(crate::specs::Effects::place_in))]
+    pub(crate) fn switched(&self, address: Addr12) -> (Bank, Offset)
+        requires first { 0o2000 ≤ address }
+        requires last { address < 0o4000 }
+        ensures { place_in self.now address ≡ Linear.Fixed result.0 result.1 }
+    {
+        self.store.place_in_fixed_window(address)
     }
 
     /// What is read at a place.
@@ -428,38 +454,53 @@ impl Machine {
 
     /// What is read at an address, and where. Only an address in a window needs the bank registers.
     #[inline(always)]
-    #[tactic(auto, unfolding(crate::specs::Effects::place_in, crate::specs::Effects::value_at))]
     pub(crate) fn reading(&self, rope: &Rope, address: Addr12) -> Reading
         ensures place { result.place ≡ place_in self.now address }
         ensures value { result.value ≡ operand rope.now self.now address }
     {
-        if address.number() >= FIRST_FIXED {
-            let (bank, offset) = resolve_fixed(address);
-            Reading {
-                place: Linear::Fixed(bank, offset),
-                value: rope.word(bank, offset).extend(),
-            }
-        } else if address.number() < FIRST_IN_WINDOW {
-            let place = resolve_unbanked(address);
-            Reading {
-                place: Linear::Erasable(place),
-                value: self.reg(place),
-            }
+        if address.number() >= FIRST_SWITCHED {
+            self.reading_fixed(rope, address)
         } else {
-            self.reading_in_window(rope, address)
+            self.reading_erasable(rope, address)
         }
     }
 
-    /// The same, where the bank registers count.
+    /// The same of an address that leads to fixed memory, where nothing edits.
     #[inline(always)]
-    fn reading_in_window(&self, rope: &Rope, address: Addr12) -> Reading
+    #[tactic(auto, unfolding(crate::specs::Effects::place_in, crate::specs::Effects::value_at, crate::specs::Effects::edits))]
+    pub(crate) fn reading_fixed(&self, rope: &Rope, address: Addr12) -> Reading
+        requires { 0o2000 ≤ address }
+        ensures place { result.place ≡ place_in self.now address }
+        ensures value { result.value ≡ operand rope.now self.now address }
+        ensures edits { edits result.place result.value ≡ [] }
+    {
+        let (bank, offset) = if address.number() >= FIRST_FIXED {
+            resolve_fixed(address)
+        } else {
+            self.switched(address)
+        };
+        Reading {
+            place: Linear::Fixed(bank, offset),
+            value: rope.word(bank, offset).extend(),
+        }
+    }
+
+    /// The same of an address that leads to an erasable place.
+    #[inline(always)]
+    #[tactic(auto, unfolding(crate::specs::Effects::place_in, crate::specs::Effects::value_at))]
+    pub(crate) fn reading_erasable(&self, rope: &Rope, address: Addr12) -> Reading
+        requires { address < 0o2000 }
         ensures place { result.place ≡ place_in self.now address }
         ensures value { result.value ≡ operand rope.now self.now address }
     {
-        let place = self.place(address);
+        let place = if address.number() < FIRST_IN_WINDOW {
+            resolve_unbanked(address)
+        } else {
+            self.store.place_in_erasable_window(address)
+        };
         Reading {
-            place,
-            value: self.value_at(rope, &place),
+            place: Linear::Erasable(place),
+            value: self.reg(place),
         }
     }
 

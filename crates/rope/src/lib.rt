@@ -8,6 +8,7 @@ mod image;
 pub mod laws;
 mod memory;
 mod reading;
+mod slot;
 mod spelling;
 
 pub use dump::{Dump, byte_of};

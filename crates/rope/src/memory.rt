@@ -5,6 +5,7 @@ ghost use Rattle.rope.specs.Places.{place_number, fixed_places, banks, no_words,
 ghost use Rattle.rope.specs.declared.fault.RopeFault.TheVariants.{NoMemory};
 
 use crate::fault::RopeFault;
+use crate::slot::Slot;
 use space::{Bank, Offset};
 use std::alloc::{AllocError, Global};
 use std::marker::Model;
@@ -25,7 +26,7 @@ pub(crate) const PLACES: usize = ENTRIES * BANK_WORDS;
 /// Fixed memory, seen as the words that stand in it, each at its bank and offset.
 #[derive(Drop)]
 pub struct Rope {
-    slots: Vec<Option<Word>>,
+    slots: Vec<Slot>,
 }
 
 impl Model for Rope {
@@ -73,14 +74,14 @@ impl Rope {
     pub fn has(&self, bank: Bank, offset: Offset) -> bool
         ensures { result ≡ stands self.now bank offset }
     {
-        self.slot(bank, offset).is_some()
+        self.slot(bank, offset).stands()
     }
 
     /// The word at this place, 0 where none stands. In the banks 044 to 047 none ever does.
     pub fn word(&self, bank: Bank, offset: Offset) -> Word
         ensures { result ≡ word_at self.now bank offset }
     {
-        self.slot(bank, offset).unwrap_or(Word::ZERO)
+        self.slot(bank, offset).word()
     }
 
     /// Adds a word at a place of the banks 0 to 043 where none stands.
@@ -105,21 +106,21 @@ impl Rope {
         requires { bank < banks }
         ensures { self.new ≡ with_word self.old bank offset word }
     {
-        self.slots[slot_number(bank, offset)] = Some(word);
+        self.slots[slot_number(bank, offset)] = Slot::of(word);
     }
 
     // The word at this place, where one stands.
-    fn slot(&self, bank: Bank, offset: Offset) -> Option<Word>
+    fn slot(&self, bank: Bank, offset: Offset) -> Slot
         ensures { result ≡ slot_at self.now bank offset }
     {
         if bank.number() >= BANKS {
-            return None;
+            return Slot::EMPTY;
         }
         slot_of(&self.slots, slot_number(bank, offset))
     }
 }
 
-fn slot_of(slots: &[Option<Word>], number: usize) -> Option<Word>
+fn slot_of(slots: &[Slot], number: usize) -> Slot
     requires { number < length slots.now }
     ensures { result ≡ slice_index_or slots.now number None }
 {
@@ -133,16 +134,16 @@ fn slot_number(bank: Bank, offset: Offset) -> usize
 }
 
 // A slot for each place, all of them empty.
-fn empty_slots(alloc: Global) -> Result<Vec<Option<Word>>, AllocError>
+fn empty_slots(alloc: Global) -> Result<Vec<Slot>, AllocError>
     ensures { IfOk result (λ v. v.items ≡ replicate fixed_places None) }
 {
     let mut slots = Vec::with_capacity(alloc, PLACES)?;
-    slots.resize(PLACES, None)?;
+    slots.resize(PLACES, Slot::EMPTY)?;
     Ok(slots)
 }
 
 // The same slots again.
-fn copied_slots(alloc: Global, slots: &[Option<Word>]) -> Result<Vec<Option<Word>>, AllocError>
+fn copied_slots(alloc: Global, slots: &[Slot]) -> Result<Vec<Slot>, AllocError>
     ensures { IfOk result (λ v. v.items ≡ slots.now) }
 {
     let mut copy = Vec::with_capacity(alloc, PLACES)?;

@@ -1,6 +1,6 @@
 -- The map of cells that a pointwise function gives.
-use Rattle.std.proofs.Common.{◌≡◌, ℕ, zero, suc, replicate, ◌+◌, ◌-◌, ◌/◌, ◌%◌, ◌≤◌, ◌<◌, ◌≢◌, Bool, true, false, cond, ◌&&◌, eqb, ltb, leb}
-use Rattle.std.proofs.Common.{List, [], ◌∷◌, map, filter, Option, Some, None, unwrap_or, get_or, refl, sym, ap, ◌∙◌, arith, ⊎_elim}
+use Rattle.std.proofs.Common.{◌≡◌, ℕ, zero, suc, replicate, ◌+◌, ◌-◌, ◌≤◌, ◌<◌, ◌≢◌, Bool, true, false, cond, ◌&&◌, eqb, ltb, leb}
+use Rattle.std.proofs.Common.{List, ◌∷◌, map, filter, Option, Some, None, unwrap_or, get_or, refl, sym, ap, ◌∙◌, arith, ⊎_elim}
 use Rattle.std.proofs.lemmas.Bool.Decides.{nat_tests}
 use Rattle.std.proofs.lemmas.Bool.{both_ways, cases_eq, cases_lt}
 use Rattle.std.proofs.lemmas.List.{length-replicate, get_or-replicate, get_or_past}
@@ -9,25 +9,26 @@ use Rattle.std.specs.Ordering.{nat_cmp, eq_by_cmp}
 use Rattle.std.specs.Cmp.{nat_cmp_total}
 use Rattle.std.specs.FinMap.{find, get-from_entries, get-insert, same_map, nat_cmp-IsAntisymmetric}
 use Rattle.std.specs.FinMap as fin
-use Rattle.space.specs.Cells.{is_cell, cells_below, Cells, cells_by, at, zero_cells}
-use Rattle.space.specs.Stored.{stored, cell_limit, IsStored, number_by, held_at, banked}
+use Rattle.space.specs.Cells.{is_cell, cells_below, Cells, cells_by, at, zero_cells, superbank}
+use Rattle.space.specs.Stored.{stored, cell_limit, IsStored, number_by, held_at, superbank_in, selected_by, Holds}
+use Rattle.space.specs.Places.{selected_bank}
 use Rattle.words.specs.Numbers.{extend, correct}
 
--- what stands at a place of which the registers or the banks hold another number
-pub register_here : (r : List ℕ) (b : List (List ℕ)) (c x : ℕ) → c < 8 → get_or r c 0 ≡ x → held_at r b c ≡ x
+-- what stands at a place of which the registers or erasable memory hold another number
+pub register_here : (r : List ℕ) (b : List ℕ) (c x : ℕ) → c < 8 → get_or r c 0 ≡ x → held_at r b c ≡ x
 register_here r b c x lt here = grind (arith, nat_tests)
 
-pub register_others : (r q : List ℕ) (b : List (List ℕ)) (c : ℕ) → ((k : ℕ) → k ≢ c → get_or q k 0 ≡ get_or r k 0) → (k : ℕ) → k ≢ c
+pub register_others : (r q : List ℕ) (b : List ℕ) (c : ℕ) → ((k : ℕ) → k ≢ c → get_or q k 0 ≡ get_or r k 0) → (k : ℕ) → k ≢ c
     → held_at q b k ≡ held_at r b k
-register_others r q b c others k ne = ap (λ x. cond (ltb k 8) x (banked b k)) (others k ne)
+register_others r q b c others k ne = ap (λ x. cond (ltb k 8) x (get_or b k 0)) (others k ne)
 
-pub bank_here : (r : List ℕ) (b : List (List ℕ)) (c x : ℕ) → 8 ≤ c → banked b c ≡ x → held_at r b c ≡ x
-bank_here r b c x ge here = let above : ltb c 8
-    ≡ false = grind (arith, nat_tests) in ap (λ t. cond t (get_or r c 0) (banked b c)) above ∙ here
+pub word_here : (r : List ℕ) (b : List ℕ) (c x : ℕ) → 8 ≤ c → get_or b c 0 ≡ x → held_at r b c ≡ x
+word_here r b c x ge here = let above : ltb c 8
+    ≡ false = grind (arith, nat_tests) in ap (λ t. cond t (get_or r c 0) (get_or b c 0)) above ∙ here
 
-pub bank_others : (r : List ℕ) (b d : List (List ℕ)) (c : ℕ) → ((k : ℕ) → k ≢ c → banked d k ≡ banked b k) → (k : ℕ) → k ≢ c
+pub word_others : (r : List ℕ) (b d : List ℕ) (c : ℕ) → ((k : ℕ) → k ≢ c → get_or d k 0 ≡ get_or b k 0) → (k : ℕ) → k ≢ c
     → held_at r d k ≡ held_at r b k
-bank_others r b d c others k ne = ap (λ x. cond (ltb k 8) (get_or r k 0) x) (others k ne)
+word_others r b d c others k ne = ap (λ x. cond (ltb k 8) (get_or r k 0) x) (others k ne)
 
 find_cons : (f : ℕ → ℕ) (q a : ℕ) (b : Bool) (r : List ℕ)
     → find nat_cmp q (map (λ c. (c, f c)) (cond b (a ∷ r) r)) ≡ cond (eqb q a && b) (Some (f q)) (find nat_cmp q (map (λ c. (c, f c)) r))
@@ -126,7 +127,7 @@ pub register_view : (e : ℕ → ℕ) (ch : List ℕ) (s : Cells) (c : ℕ) → 
 register_view e ch s c v lt n6 n7 = at_view e ch s c v (omega arith) n6 n7 ∙ number_by-register c (e c) lt
 
 -- what the registers hold
-pub held_view : (r : List ℕ) (b : List (List ℕ)) (ch : List ℕ) (s : Cells) (c : ℕ) → cells_by (stored (held_at r b) ch) ≡ s → c < 8 → c ≢ 6
+pub held_view : (r : List ℕ) (b : List ℕ) (ch : List ℕ) (s : Cells) (c : ℕ) → cells_by (stored (held_at r b) ch) ≡ s → c < 8 → c ≢ 6
     → c ≢ 7 → at s c ≡ get_or r c 0
 held_view r b ch s c v lt n6 n7 = register_view (held_at r b) ch s c v lt n6 n7 ∙ register_here r b c (get_or r c 0) lt refl
 
@@ -231,7 +232,7 @@ register_limit e ch c is lt =
     let same : stored e ch c ≡ e c = stored-place e ch c (omega arith) ∙ number_by-register c (e c) lt in
     rw (← same) (is.limits c)
 
-pub held_limit : (r : List ℕ) (b : List (List ℕ)) (ch : List ℕ) (c : ℕ) → IsStored (held_at r b) ch → c < 8 → get_or r c 0 < cell_limit c
+pub held_limit : (r : List ℕ) (b : List ℕ) (ch : List ℕ) (c : ℕ) → IsStored (held_at r b) ch → c < 8 → get_or r c 0 < cell_limit c
 held_limit r b ch c is lt = rw (← register_here r b c (get_or r c 0) lt refl) (register_limit (held_at r b) ch c is lt)
 
 pub channel_limit : (e : ℕ → ℕ) (ch : List ℕ) (n : ℕ) → IsStored e ch → get_or ch n 0 < 32768
@@ -243,30 +244,72 @@ channel_limit e ch n is =
 zero_at : (n q : ℕ) → ◌≡◌ {A = ℕ} (get_or (replicate n 0) q 0) 0
 zero_at n q = ⊎_elim (λ lt. get_or-replicate n q 0 0 lt) (λ ge. get_or_past (replicate n 0) q 0 (rw length-replicate ge)) (cases_lt q n)
 
-zero_in : (b m i q : ℕ) → ◌≡◌ {A = ℕ} (get_or (get_or (replicate b (replicate m 0)) i []) q 0) 0
-zero_in b m i q =
-    ⊎_elim
-    (λ lt. ap (λ l. get_or l q 0) (get_or-replicate b i (replicate m 0) [] lt) ∙ zero_at m q)
-    (λ ge. ap (λ l. get_or l q 0) (get_or_past (replicate b (replicate m 0)) i [] (rw length-replicate ge)))
-    (cases_lt i b)
+zero_held : (r m q : ℕ) → held_at (replicate r 0) (replicate m 0) q ≡ 0
+zero_held r m q = rw (zero_at r q, zero_at m q) (grind (arith, nat_tests))
 
-zero_held : (r b m q : ℕ) → held_at (replicate r 0) (replicate b (replicate m 0)) q ≡ 0
-zero_held r b m q = rw (zero_at r q, zero_in b m (q / 256) (q % 256)) (grind (arith, nat_tests))
-
-stored-zeros : (r b m n q : ℕ) → stored (held_at (replicate r 0) (replicate b (replicate m 0))) (replicate n 0) q ≡ 0
+stored-zeros : (r m n q : ℕ) → stored (held_at (replicate r 0) (replicate m 0)) (replicate n 0) q ≡ 0
 unfolding stored
-stored-zeros r b m n q = rw (zero_held r b m q, zero_at n (q - 2048)) (grind (arith, nat_tests))
+stored-zeros r m n q = rw (zero_held r m q, zero_at n (q - 2048)) (grind (arith, nat_tests))
 
-pub view-zero : (r b m n : ℕ) → cells_by (stored (held_at (replicate r 0) (replicate b (replicate m 0))) (replicate n 0)) ≡ zero_cells
+pub view-zero : (r m n : ℕ) → cells_by (stored (held_at (replicate r 0) (replicate m 0)) (replicate n 0)) ≡ zero_cells
 unfolding zero_cells
-view-zero r b m n = same-cells_by _ _ (stored-zeros r b m n)
+view-zero r m n = same-cells_by _ _ (stored-zeros r m n)
 
 cell_limit-positive : (c : ℕ) → 0 < cell_limit c
 unfolding cell_limit
 cell_limit-positive c = grind (arith, nat_tests)
 
-pub IsStored-zero : (r b m n : ℕ) → IsStored (held_at (replicate r 0) (replicate b (replicate m 0))) (replicate n 0)
-IsStored-zero r b m n = record {
-  limits = λ c. rw (stored-zeros r b m n c) (cell_limit-positive c);
-  extended = λ c _. zero_held r b m c ∙ ap (λ x. extend (correct x)) (sym (zero_held r b m c));
+pub IsStored-zero : (r m n : ℕ) → IsStored (held_at (replicate r 0) (replicate m 0)) (replicate n 0)
+IsStored-zero r m n = record {
+  limits = λ c. rw (stored-zeros r m n c) (cell_limit-positive c);
+  extended = λ c _. zero_held r m c ∙ ap (λ x. extend (correct x)) (sym (zero_held r m c));
 }
+
+-- the bank that is selected
+pub selects-zero : (r n : ℕ) → 0 ≡ selected_by (replicate r 0) (replicate n 0)
+selects-zero r n = rw (zero_at r 4, zero_at n 7) refl
+
+pub selects-registers : (r q ch : List ℕ) (s : ℕ) → get_or q 4 0 ≡ get_or r 4 0 → s ≡ selected_by r ch → s ≡ selected_by q ch
+selects-registers r q ch s same before = before ∙ ap (λ f. selected_bank f (superbank_in (get_or ch 7 0))) (sym same)
+
+pub selects-channels : (r ch dh : List ℕ) (s : ℕ) → get_or dh 7 0 ≡ get_or ch 7 0 → s ≡ selected_by r ch → s ≡ selected_by r dh
+selects-channels r ch dh s same before = before ∙ ap (λ w. selected_bank (get_or r 4 0) (superbank_in w)) (sym same)
+
+cell_limit-fixed_bank : cell_limit 4 ≡ 32
+unfolding cell_limit
+cell_limit-fixed_bank = refl
+
+pub fixed_bank_limit : (x : ℕ) → x < 32 → x < cell_limit 4
+fixed_bank_limit x lt = rw cell_limit-fixed_bank lt
+
+pub fixed_bank_below : (r b : List ℕ) (ch : List ℕ) → IsStored (held_at r b) ch → get_or r 4 0 < 32
+fixed_bank_below r b ch is = rw (← cell_limit-fixed_bank) (held_limit r b ch 4 is (omega arith))
+
+selected_below : (f : ℕ) (b : Bool) → f < 32 → selected_bank f b < 40
+selected_below f b lt = grind (arith, nat_tests)
+
+pub selected_limit : (r b ch : List ℕ) (s : ℕ) → Holds r b ch s → s < 40
+selected_limit r b ch s is =
+    rw is.selects (selected_below (get_or r 4 0) (superbank_in (get_or ch 7 0)) (fixed_bank_below r b ch is.numbers))
+
+superbank_view : (s : Cells) (w : ℕ) → at s (2048 + 7) ≡ w → superbank s ≡ superbank_in w
+unfolding superbank
+superbank_view s w e = ap superbank_in e
+
+pub selected_view : (r b ch : List ℕ) (n : ℕ) (s : Cells) → cells_by (stored (held_at r b) ch) ≡ s → Holds r b ch n
+    → n ≡ selected_bank (at s 4) (superbank s)
+selected_view r b ch n s v is =
+    let bank = held_view r b ch s 4 v (omega arith) (λ e. omega arith) (λ e. omega arith) in
+    let word = channel_view (held_at r b) ch s 7 v (omega arith) (λ e. omega arith) (λ e. omega arith) in
+    is.selects ∙ ap (λ f. selected_bank f (superbank_in (get_or ch 7 0))) (sym bank)
+    ∙ ap (selected_bank (at s 4)) (sym (superbank_view s (get_or ch 7 0) word))
+
+pub selects-fixed_bank : (r ch : List ℕ) (f s : ℕ) (b : Bool) → get_or r 4 0 ≡ f → b ≡ superbank_in (get_or ch 7 0) → s ≡ selected_bank f b
+    → s ≡ selected_by r ch
+selects-fixed_bank r ch f s b here bit is =
+    is ∙ ap (selected_bank f) bit ∙ ap (λ g. selected_bank g (superbank_in (get_or ch 7 0))) (sym here)
+
+pub selects-superbank : (r ch : List ℕ) (w s : ℕ) (b : Bool) → get_or ch 7 0 ≡ w → b ≡ superbank_in w → s ≡ selected_bank (get_or r 4 0) b
+    → s ≡ selected_by r ch
+selects-superbank r ch w s b here bit is =
+    is ∙ ap (selected_bank (get_or r 4 0)) bit ∙ ap (λ v. selected_bank (get_or r 4 0) (superbank_in v)) (sym here)

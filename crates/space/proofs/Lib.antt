@@ -1,4 +1,3 @@
-mod BankLemmas
 mod CellLemmas
 mod ChangedLemmas
 mod LaneLemmas

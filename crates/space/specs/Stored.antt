@@ -1,36 +1,20 @@
--- How a store holds its cells: eight banks of erasable places beside the registers and the channels.
-use Rattle.std.specs.Prelude.{ℕ, ◌-◌, ◌/◌, ◌%◌, ◌<◌, ◌≤◌, ◌≡◌, ◌==◌, nat_lt, if◌then◌else◌, ◌||◌, List, [], length, slice_index}
-use Rattle.std.specs.Prelude.{slice_index_or}
+-- How a store holds its cells: the erasable places beside the registers and the channels, and the fixed bank that they select.
+use Rattle.std.specs.Prelude.{ℕ, ◌-◌, ◌/◌, ◌%◌, ◌<◌, ◌≤◌, ◌≡◌, Bool, ◌==◌, nat_lt, if◌then◌else◌, ◌||◌, List, slice_index}
 use Rattle.words.specs.Numbers.{extend, correct}
-use Rattle.space.specs.Cells.{erasable_count, accumulator, return_address, erasable_bank, fixed_bank, program_counter}
+use Rattle.space.specs.Cells.{erasable_count, accumulator, return_address, erasable_bank, fixed_bank, program_counter, superbank_channel}
+use Rattle.space.specs.Places.{selected_bank}
 
 -- how many places are registers, the first of all
 abbrev pub register_count : ℕ
 register_count = 8
 
--- how many banks there are
-abbrev pub bank_count : ℕ
-bank_count = 8
-
--- how many words stand in a bank
-abbrev pub bank_size : ℕ
-bank_size = 0o400
-
--- each bank has all its words
-abbrev pub AreWhole : List (List ℕ) → Type 0
-AreWhole banks = (i : ℕ) → i < bank_count → length (slice_index_or banks i []) ≡ bank_size
-
 -- how many words are compared at a time
 abbrev pub lane_count : ℕ
 lane_count = 0o40
 
--- the number that the banks hold for a place
-abbrev pub banked : List (List ℕ) → ℕ → ℕ
-banked banks p = slice_index (slice_index_or banks (p / bank_size) []) (p % bank_size)
-
--- the number that is held for a place: the first places are registers, any other stands in its bank
-abbrev pub held_at : List ℕ → List (List ℕ) → ℕ → ℕ
-held_at registers banks p = if nat_lt p register_count then slice_index registers p else banked banks p
+-- the number that is held for a place: the first places are registers
+abbrev pub held_at : List ℕ → List ℕ → ℕ → ℕ
+held_at registers erasable p = if nat_lt p register_count then slice_index registers p else slice_index erasable p
 
 -- the number of a cell by what is held for its place: that of a register itself, of any other place what is read there
 abbrev pub number_by : ℕ → ℕ → ℕ
@@ -55,7 +39,16 @@ pub record IsStored (places : ℕ → ℕ) (channels : List ℕ) : Type 0 where
   pub limits : (c : ℕ) → stored places channels c < cell_limit c
   pub extended : (c : ℕ) → register_count ≤ c → places c ≡ extend (correct (places c))
 
--- the same of the arrays, of which each bank has all its words
-pub record Holds (registers : List ℕ) (banks : List (List ℕ)) (channels : List ℕ) : Type 0 where
-  pub numbers : IsStored (held_at registers banks) channels
-  pub whole : AreWhole banks
+-- the superbank bit in the word of its channel
+abbrev pub superbank_in : ℕ → Bool
+superbank_in word = word / 0o100 % 2 == 1
+
+-- the bank that is selected by what the registers and the channels hold
+abbrev pub selected_by : List ℕ → List ℕ → ℕ
+selected_by registers channels =
+    selected_bank (slice_index registers fixed_bank) (superbank_in (slice_index channels superbank_channel))
+
+-- the same of the arrays, and the number beside them is that of the bank that they select
+pub record Holds (registers erasable channels : List ℕ) (selected : ℕ) : Type 0 where
+  pub numbers : IsStored (held_at registers erasable) channels
+  pub selects : selected ≡ selected_by registers channels

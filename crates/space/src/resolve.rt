@@ -1,10 +1,13 @@
 //! From addresses to places and back.
 
 ghost use Rattle.std.specs.Prelude.{◌≡◌, ◌<◌, ◌≤◌, ℕ, Bool};
-ghost use Rattle.space.specs.Places.{place, window, eb_of, fb_of, sup_of, IsErasable};
+ghost use Rattle.space.specs.Places.{place, selected_bank, window, eb_of, fb_of, sup_of, IsErasable};
 
 use crate::numbers::{Addr12, Bank, Eras, Offset};
 use crate::place::{Banks, Linear};
+
+/// The first address whose bank FB selects.
+pub(crate) const FIRST_SWITCHED: u16 = 0o2000;
 
 /// The first address that leads to bank 2 or 3 whatever the bank registers hold.
 pub const FIRST_FIXED: u16 = 0o4000;
@@ -21,16 +24,23 @@ pub fn resolve(address: Addr12, banks: Banks) -> Linear
         Linear::Erasable(Eras::new(address))
     } else if address >= FIRST_FIXED {
         Linear::Fixed(Bank::new(address / 0o2000), Offset::new(address % 0o2000))
-    } else if address < 0o2000 {
+    } else if address < FIRST_SWITCHED {
         Linear::Erasable(Eras::new(banks.eb * 0o400 + (address - 0o1400)))
     } else {
-        let bank = if banks.sup && banks.fb >= 0o30 {
-            banks.fb + 0o10
-        } else {
-            banks.fb
-        };
-        Linear::Fixed(Bank::new(bank), Offset::new(address - 0o2000))
+        Linear::Fixed(
+            Bank::new(selected_bank(banks.fb, banks.sup)),
+            Offset::new(address - FIRST_SWITCHED),
+        )
     }
+}
+
+/// The number of the bank that FB selects: from 030 on the superbank bit adds 010.
+pub(crate) fn selected_bank(fb: u16, sup: bool) -> u16
+    requires { fb < 0o40 }
+    ensures bank { result ≡ selected_bank fb sup }
+    ensures range { result < 0o50 }
+{
+    if sup && fb >= 0o30 { fb + 0o10 } else { fb }
 }
 
 /// The bank and the offset to which an address leads that needs no bank register.

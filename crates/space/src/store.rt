@@ -5,16 +5,20 @@ ghost use Rattle.std.specs.Prelude.{replicate, not, ◌==◌, if◌then◌else�
 ghost use Rattle.space.specs.Cells.{at, word_at, get, put, get_channel, put_channel, kept, kept_of_word, zero_cells};
 ghost use Rattle.space.specs.Cells.{changed_places, superbank, accumulator, return_address, erasable_bank, fixed_bank};
 ghost use Rattle.space.specs.Cells.{program_counter, both_banks, always_zero, lower_accumulator_channel};
-ghost use Rattle.space.specs.Cells.{return_address_channel, channel_cell, erasable_count, channel_count};
-ghost use Rattle.space.specs.Stored.{cell_limit, register_count, lane_count};
+ghost use Rattle.space.specs.Cells.{return_address_channel, superbank_channel, channel_cell, erasable_count};
+ghost use Rattle.space.specs.Cells.{channel_count};
+ghost use Rattle.space.specs.Places.{place, selected_bank};
+ghost use Rattle.space.specs.Stored.{cell_limit, register_count, lane_count, superbank_in};
+ghost use Rattle.space.specs.declared.place.Linear.{Linear};
 ghost use Rattle.words.specs.Numbers.{extend};
 ghost use Rattle.std.specs.FinMap.{insert};
 
-mod banks;
+mod erasable;
 
-use self::banks::{ErasableBanks, LANES, differing, number_in, set_in, zero_banks};
-use crate::numbers::{Addr12, Chan, Eras};
+use self::erasable::{Erasable, LANES, differing, zero_erasable};
+use crate::numbers::{Addr12, Bank, Chan, Eras, Offset};
 use crate::place::Banks;
+use crate::resolve::{FIRST_IN_WINDOW, FIRST_SWITCHED, selected_bank};
 use std::marker::Model;
 use words::{Wide, Word};
 
@@ -30,13 +34,15 @@ const CHUNKS: u16 = 64;
 /// The superbank bit in its channel.
 const SUPERBANK_BIT: u16 = 0o100;
 
-/// The registers, the eight banks of erasable memory, and the channels.
+/// The registers, erasable memory, and the channels, with the number of the fixed bank that they select.
 ///
-/// The registers are the first places. A bank holds the other places as they are read, and the channels hold words.
+/// The registers are the first places. Erasable memory holds the other places as they are read, and the channels hold
+/// words.
 #[derive(Drop)]
 pub struct Store {
     registers: [u16; 8],
-    banks: ErasableBanks,
+    selected: u16,
+    erasable: Erasable,
     channels: [u16; 512],
 }
 
@@ -51,9 +57,9 @@ impl Model for Store {
 
     ghost coded = { map.code coded_ℕ coded_ℕ };
 
-    ghost view = { λ s. cells_by (stored (held_at s.registers s.banks) s.channels) };
+    ghost view = { λ s. cells_by (stored (held_at s.registers s.erasable) s.channels) };
 
-    ghost invariant = { λ s. Holds s.registers s.banks s.channels };
+    ghost invariant = { λ s. Holds s.registers s.erasable s.channels s.selected };
 }
 
 impl Store {
@@ -63,7 +69,8 @@ impl Store {
     {
         Store {
             registers: zero_registers(),
-            banks: zero_banks(),
+            selected: 0,
+            erasable: zero_erasable(),
             channels: silent_channels(),
         }
     }
@@ -73,7 +80,8 @@ impl Store {
         ensures { other.new ≡ self.now }
     {
         other.registers.copy_from_slice(&self.registers);
-        other.banks.copy_from_slice(&self.banks);
+        other.selected = self.selected;
+        other.erasable.copy_from_slice(&self.erasable);
         other.channels.copy_from_slice(&self.channels);
     }
 
@@ -149,8 +157,10 @@ impl Store {
             self.keep(place, edited(place, value.correct()));
         } else if place == Eras::BB {
             let word = value.correct().to_u16();
-            self.hold(Eras::FB, word / 0o2000);
+            self.hold_fixed_bank(word / 0o2000);
             self.hold(Eras::EB, word % 0o10);
+        } else if place == Eras::FB {
+            self.hold_fixed_bank(value.correct().to_u16() / 0o2000);
         } else if place != Eras::ZERO {
             self.hold(place, kept(place, value));
         }
@@ -166,8 +176,43 @@ impl Store {
         Banks {
             eb: self.held(Eras::EB),
             fb: self.held(Eras::FB),
-            sup: self.held_on(Chan::SUPERBANK) / SUPERBANK_BIT % 2 == 1,
+            sup: superbank_in(self.held_on(Chan::SUPERBANK)),
         }
+    }
+
+    /// The bank and the offset to which an address leads whose bank FB and the superbank bit select.
+    #[inline(always)]
+    #[tactic(auto, unfolding(crate::specs::Places::place))]
+    pub fn place_in_fixed_window(&self, address: Addr12) -> (Bank, Offset)
+        requires first { 0o2000 ≤ address }
+        requires last { address < 0o4000 }
+        ensures { place address (at self.now erasable_bank) (at self.now fixed_bank) (superbank self.now)
+            ≡ Linear.Fixed result.0 result.1 }
+    {
+        (
+            self.selected_bank(),
+            Offset::new(address.number() - FIRST_SWITCHED),
+        )
+    }
+
+    /// The erasable place to which an address leads whose bank EB selects.
+    #[inline(always)]
+    #[tactic(auto, unfolding(crate::specs::Places::place, crate::specs::Stored::cell_limit))]
+    pub fn place_in_erasable_window(&self, address: Addr12) -> Eras
+        requires first { 0o1400 ≤ address }
+        requires last { address < 0o2000 }
+        ensures { place address (at self.now erasable_bank) (at self.now fixed_bank) (superbank self.now)
+            ≡ Linear.Erasable result }
+    {
+        Eras::new(self.held(Eras::EB) * 0o400 + (address.number() - FIRST_IN_WINDOW))
+    }
+
+    /// The fixed bank that FB and the superbank bit select.
+    #[inline(always)]
+    fn selected_bank(&self) -> Bank
+        ensures { result ≡ selected_bank (at self.now fixed_bank) (superbank self.now) }
+    {
+        Bank::new(self.selected)
     }
 
     /// Whether a place reads differently in the other store.
@@ -180,12 +225,11 @@ impl Store {
     /// Which of the places of a chunk read differently in the other store: bit k tells of the first place plus k.
     fn differing(&self, other: &Store, first: u16) -> u64
         requires registers { register_count ≤ first }
-        requires chunk { first % lane_count ≡ 0 }
-        requires last { first < erasable_count }
+        requires last { first + lane_count ≤ erasable_count }
         ensures { (k : ℕ) → k < lane_count → result / 2 ^ k % 2
             ≡ (if get self.now (first + k) == get other.now (first + k) then 0 else 1) }
     {
-        differing(&self.banks, &other.banks, first)
+        differing(&self.erasable, &other.erasable, usize::from(first))
     }
 
     /// What is read on a channel.
@@ -214,7 +258,7 @@ impl Store {
             self.write(Eras::Q, value);
         } else if channel == Chan::SUPERBANK {
             let kept = value.correct().and(Word::of_low_bits(SUPERBANK_MASK));
-            self.hold_on(channel, kept.to_u16());
+            self.hold_superbank(kept.to_u16());
         } else {
             self.hold_on(channel, word);
         }
@@ -237,10 +281,20 @@ impl Store {
         requires register { place < register_count }
         requires both_banks { place ≢ both_banks }
         requires always_zero { place ≢ always_zero }
+        requires fixed_bank { place ≢ fixed_bank }
         requires limit { number < cell_limit place }
         ensures { self.new ≡ insert self.old place number }
     {
         set(&mut self.registers, usize::from(place.number()), number);
+    }
+
+    /// Puts a number into the cell of FB.
+    fn hold_fixed_bank(&mut self, number: u16)
+        requires { number < 0o40 }
+        ensures { self.new ≡ insert self.old fixed_bank number }
+    {
+        self.selected = selected_bank(number, superbank_in(self.channels[7]));
+        set(&mut self.registers, 4, number);
     }
 
     /// What is read at a place that is no register.
@@ -248,7 +302,7 @@ impl Store {
         requires { register_count ≤ place }
         ensures { result ≡ extend (at self.now place) }
     {
-        Wide::of_u16(number_in(&self.banks, place.number()))
+        Wide::of_u16(self.erasable[usize::from(place.number())])
     }
 
     /// Puts a word into the cell of a place that is no register.
@@ -256,7 +310,8 @@ impl Store {
         requires { register_count ≤ place }
         ensures { self.new ≡ insert self.old place word }
     {
-        set_in(&mut self.banks, place.number(), word.extend().to_u16());
+        let index = usize::from(place.number());
+        set(&mut self.erasable, index, word.extend().to_u16());
     }
 
     /// The number in the cell of a channel.
@@ -274,10 +329,20 @@ impl Store {
     fn hold_on(&mut self, channel: Chan, number: u16)
         requires lower_accumulator { channel ≢ lower_accumulator_channel }
         requires return_address { channel ≢ return_address_channel }
+        requires superbank { channel ≢ superbank_channel }
         requires limit { number < 0o100000 }
         ensures { self.new ≡ insert self.old (channel_cell channel) number }
     {
         set(&mut self.channels, usize::from(channel.number()), number);
+    }
+
+    /// Puts a number into the cell of the superbank's channel.
+    fn hold_superbank(&mut self, number: u16)
+        requires { number < 0o100000 }
+        ensures { self.new ≡ insert self.old (channel_cell superbank_channel) number }
+    {
+        self.selected = selected_bank(self.registers[4], superbank_in(number));
+        set(&mut self.channels, 7, number);
     }
 }
 
@@ -347,6 +412,13 @@ fn edited(place: Eras, word: Word) -> Word
     } else {
         word
     }
+}
+
+/// The superbank bit in the word of its channel.
+fn superbank_in(word: u16) -> bool
+    ensures { result ≡ superbank_in word }
+{
+    word / SUPERBANK_BIT % 2 == 1
 }
 
 /// Puts a number at one index, and leaves the others.
