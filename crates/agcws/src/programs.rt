@@ -21,7 +21,8 @@ use workshop::{
     try_notes, try_program, write_end,
 };
 
-/// `agcws run [--end] [--progress] [--until-idle | --notes [--json]] .. SRC FEED N`. All files are opened before anything is read.
+/// `agcws run [--end] [--progress] [--until-idle | --notes [--json]] .. SRC FEED N`. All files are opened before
+/// anything is read.
 pub fn run(rt: &HostRuntime, asked: &Run<'_>) -> Result<u8, WorkshopFault> {
     let program = opened_program(rt, &asked.program)?;
     let summary = with_stdout(rt, |out| run_told(rt, program, asked, out))?;

@@ -1,5 +1,6 @@
 -- To which places the words of fixed memory lead without a branch.
-use Rattle.std.specs.Prelude.{ℕ, zero, suc, ◌+◌, ◌*◌, ◌%◌, nat_le, Bool, true, false, not, ◌==◌, ◌&&◌, ◌||◌, List, Option, None, Some, codes}
+use Rattle.std.specs.Prelude.{ℕ, zero, suc, ◌+◌, ◌*◌, ◌%◌, nat_le, Bool, true, false, not, ◌==◌}
+use Rattle.std.specs.Prelude.{◌&&◌, ◌||◌, List, Option, None, Some, codes}
 use Rattle.std.specs.Prelude.{if◌then◌else◌}
 use Rattle.std.specs.Option.{option_map}
 use Rattle.agc_text.specs.Tables.{same_name}

@@ -13,7 +13,7 @@ use rope::Rope;
 use space::{Addr12, Eras};
 use words::{Overflow, Wide, div};
 
-// Does something with what is read at an address of an erasable place, and stores that there again where the place edits.
+// Does something with what is read at an erasable place, by its address, and stores that there again where it edits.
 macro_rules! reading {
     ($machine:expr, $rope:expr, $address:expr, |$read:ident| $effect:block) => {{
         let $read = $machine.reading_erasable($rope, $address);

@@ -122,7 +122,8 @@ abbrev pub link_effort : LinkLines → ℕ
 link_effort lines = index_effort lines.index
 
 -- how many times a request does, besides new ones: of `why` each link, and its last search once, or twice where it ends at a step; of the
--- last outputs each, and all steps twice; of `where` and `out` four times, of `calls` five; of a choice its search and its links, of `never` two
+-- last outputs each, and all steps twice; of `where` and `out` four times, of `calls` five; of a choice its search and its
+-- links, of `never` two
 -- searches and these
 abbrev pub effort : ExtendedLine → ℕ
 effort (WhyStep lines) = link_effort lines

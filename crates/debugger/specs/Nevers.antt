@@ -44,7 +44,8 @@ barred_text s k =
     else (if s.inhibit then codes " INHIBITED"
     else codes " ASKED"))
 
--- where no choice led away: the interrupt whose entry leads to the place, if there is one; else that there was no choice, where no step came
+-- where no choice led away: the interrupt whose entry leads to the place, if there is one; else that there was no choice, where
+-- no step came
 abbrev pub kept_away : Option ℕ → State → Option ℕ → List ℕ
 kept_away came s (Some k) = line (codes "INTERRUPT " ++ decimal k ++ barred_text s k)
 kept_away None s None = line (codes "NO CHOICE LED AWAY")

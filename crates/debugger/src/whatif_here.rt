@@ -130,7 +130,8 @@ fn told_of(
     requires few { steps ≤ 2 ^ 40 - 2 }
     requires within { first + more ≤ steps }
     requires stands { machine.now ≡ run processor.now.scenario first }
-    ensures text { IfOk result (λ told. told.text.written ≡ tried_text processor.now.scenario first more trial.now steps) }
+    ensures text { IfOk result
+        (λ told. told.text.written ≡ tried_text processor.now.scenario first more trial.now steps) }
 {
     match trial {
         Trial::Given(input) => try_steps(alloc, processor, machine, first, more, *input, steps),

@@ -1,5 +1,6 @@
 -- A word that is no TC of an address of fixed memory makes no call, and none is over where its low bits are not marked.
-use Rattle.std.proofs.Common.{◌≡◌, ◌≢◌, ◌⊎◌, ℕ, ◌+◌, ◌-◌, ◌*◌, ◌%◌, ◌<◌, ◌≤◌, ◌==◌, ◌&&◌, ◌||◌, Bool, true, false, not, List, [], ◌∷◌, length, get_or, set}
+use Rattle.std.proofs.Common.{◌≡◌, ◌≢◌, ◌⊎◌, ℕ, ◌+◌, ◌-◌, ◌*◌, ◌%◌, ◌<◌, ◌≤◌, ◌==◌, ◌&&◌, ◌||◌, Bool, true}
+use Rattle.std.proofs.Common.{false, not, List, [], ◌∷◌, length, get_or, set}
 use Rattle.std.proofs.Common.{None, refl, sym, ap, ◌∙◌, arith, inl, inr, find, unwrap_or, ⊎_elim}
 use Rattle.std.specs.Prelude.{codes, nat_le, nat_lt, take, slice_get, if◌then◌else◌}
 use Rattle.std.specs.List.{list_all, list_any}

@@ -9,7 +9,8 @@ use Rattle.expect.specs.declared.claim.Claim.TheVariants.{Covered}
 use Rattle.expect.specs.declared.claim.Stated.{Stated}
 use Rattle.expect.specs.declared.known.Known.{Known}
 
--- the notes of the run, a line each; what `check` tells of the source, and how many errors and warnings; how many instructions of the program
+-- the notes of the run, a line each; what `check` tells of the source, and how many errors and warnings; how many instructions
+-- of the program
 -- it has executed
 pub record Facts : Type 0 where
   pub notes : List ℕ

@@ -1,5 +1,6 @@
 -- The kinds of notes, as `run --notes` names them, and which notes of a run are others than those that it may have.
-use Rattle.std.specs.Prelude.{ℕ, ◌+◌, ◌/◌, ◌%◌, ◌==◌, ◌&&◌, ◌||◌, nat_lt, Bool, false, not, List, [], ◌∷◌, replicate, set, Option, None, Some}
+use Rattle.std.specs.Prelude.{ℕ, ◌+◌, ◌/◌, ◌%◌, ◌==◌, ◌&&◌, ◌||◌, nat_lt, Bool, false, not, List}
+use Rattle.std.specs.Prelude.{[], ◌∷◌, replicate, set, Option, None, Some}
 use Rattle.std.specs.Prelude.{codes, if◌then◌else◌}
 use Rattle.std.specs.List.{list_any}
 use Rattle.agc_text.specs.Fields.{runs, texts}

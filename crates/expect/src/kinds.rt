@@ -5,8 +5,8 @@ ghost use Rattle.std.specs.List.{list_any};
 ghost use Rattle.std.specs.Option.{option_map};
 ghost use Rattle.agc_text.specs.Fields.{runs, texts};
 ghost use Rattle.agc_text.specs.Lines.{lines};
-ghost use Rattle.expect.specs.Kinds.{and_kind, and_spot, first_other, has_kind, is_listed_at, is_other, is_spot, kind_in};
-ghost use Rattle.expect.specs.Kinds.{kind_named, later_kind_in, nothing_allowed, place_noted, with_kind};
+ghost use Rattle.expect.specs.Kinds.{and_kind, and_spot, first_other, has_kind, is_listed_at, is_other, is_spot};
+ghost use Rattle.expect.specs.Kinds.{kind_in, kind_named, later_kind_in, nothing_allowed, place_noted, with_kind};
 
 use crate::claim::{Allowed, MOST_SPOTS, Spot};
 use crate::fields::is_word;

@@ -3,8 +3,8 @@
 ghost use Rattle.std.specs.Prelude.{◌≡◌, ◌≤◌, ◌*◌, ◌+◌, IfOk};
 ghost use Rattle.agc_text.specs.Fields.{runs, texts};
 ghost use Rattle.expect.specs.Kinds.{kind_in};
-ghost use Rattle.expect.specs.Lines.{covered_at, kinds_at, listed_all, listed_next, moved, notes_at, opened, opened_after};
-ghost use Rattle.expect.specs.Lines.{pending_kind, placed, so_far, with_room};
+ghost use Rattle.expect.specs.Lines.{covered_at, kinds_at, listed_all, listed_next, moved, notes_at, opened};
+ghost use Rattle.expect.specs.Lines.{opened_after, pending_kind, placed, so_far, with_room};
 
 use crate::calls::ended;
 use crate::claim::{Allowed, Claim, Spot};
@@ -208,7 +208,8 @@ fn moved(at: u64, allowed: &Allowed, kind: u64, place: Option<Linear>) -> Result
     }
 }
 
-/// What a line claims of the instructions that are executed: how many they are at least, which has a number among the fields.
+/// What a line claims of the instructions that are executed: how many they are at least, which has a number among the
+/// fields.
 pub(crate) fn covered_at(at: u64, fields: &[u8]) -> Result<Claim, Wrong>
     requires { at ≤ 1 }
     ensures { result ≡ covered_at at (texts (runs fields.now)) }

@@ -1,6 +1,7 @@
 -- What a fault of a flight source is in words, where these are others than those of the standard language: of a form that is not taken,
 -- since what yaYUL makes of it is not known for sure, that this is so.
-use Rattle.std.specs.Prelude.{ℕ, ◌&&◌, not, Bool, true, false, nat_le, nat_lt, List, [], ◌∷◌, codes, drop, is_some, unwrap_or, if◌then◌else◌}
+use Rattle.std.specs.Prelude.{ℕ, ◌&&◌, not, Bool, true, false, nat_le, nat_lt, List, []}
+use Rattle.std.specs.Prelude.{◌∷◌, codes, drop, is_some, unwrap_or, if◌then◌else◌}
 use Rattle.std.specs.Option.{option_map_or}
 use Rattle.agc_text.specs.Digits.{digits_value}
 use Rattle.agc_text.specs.Tables.{value_in}
@@ -90,8 +91,10 @@ form_cause near text parts f =
     if takes_decimal parts.role then decimal_cause parts
     else if has_octal_alone parts then cured (codes "% takes octal digits, 0 to 7, or a sign and such digits, and @ is neither")
     (codes "DEC takes decimal digits")
-    else if is_octal_pair parts.role then said (codes "2OCT takes ten octal digits, 0 to 7, in one field: fewer perhaps with zeros before them (85 in 100)")
-    else if is_verb_noun parts.role then said (codes "VN takes four decimal digits, two of the verb and two of the noun: fewer perhaps with zeros before them (85 in 100)")
+    else if is_octal_pair parts.role then said
+    (codes "2OCT takes ten octal digits, 0 to 7, in one field: fewer perhaps with zeros before them (85 in 100)")
+    else if is_verb_noun parts.role then said
+    (codes "VN takes four decimal digits, two of the verb and two of the noun: fewer perhaps with zeros before them (85 in 100)")
     else if has_signed_alone parts then said (codes "@ is no symbol, which has 8 characters at most, and no number")
     else if is_beyond_octal (text_of parts.operand) then
     cured (codes "numbers are octal, and @ has a digit 8 or 9: perhaps it is decimal (60 in 100)") (codes "@D is decimal")

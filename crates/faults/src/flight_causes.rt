@@ -242,7 +242,8 @@ fn form_cause(near: bool, text: &[u8], parts: &Reading<'_>, finding: &Finding) -
         )
     } else if is_verb_noun(parts.role) {
         Cause::said(
-            b"VN takes four decimal digits, two of the verb and two of the noun: fewer perhaps with zeros before them (85 in 100)",
+            b"VN takes four decimal digits, two of the verb and two of the noun: fewer perhaps with zeros before \
+                them (85 in 100)",
         )
     } else if has_signed_alone(parts) {
         Cause::said(b"@ is no symbol, which has 8 characters at most, and no number")

@@ -25,7 +25,8 @@ use agc_text::{Field, Number, octal_value};
 use std::alloc::{AllocError, Global};
 use yayul::Reading;
 
-/// Of A, L and Q those that a routine of an interrupt has neither kept nor changed, on the straight way from its vector.
+/// Of A, L and Q those that a routine of an interrupt has neither kept nor changed, on the straight way from its
+/// vector.
 #[derive(Clone, Copy, Drop)]
 pub(crate) struct Unkept {
     pub(crate) a: bool,

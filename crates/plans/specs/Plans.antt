@@ -37,7 +37,8 @@ use Rattle.plans.specs.declared.plan.Verdicts.{Verdicts}
 use Rattle.plans.specs.declared.plan.Verdicts.TheVariants.{Lines, Tap, Junit}
 use Rattle.plans.specs.declared.plan.Plan.TheVariants.{Assemble, AssembleWithSums, Run, Trace, Cover, Reach, ReachRun, Debug, DebugExtended}
 use Rattle.plans.specs.declared.plan.Plan.TheVariants.{Check, Explain, Upgrade, Show, Compare, CompareOnly, Sum, SumBothForms, ShowParity}
-use Rattle.plans.specs.declared.plan.Plan.TheVariants.{ShowDamages, ShowMended, NoSteps, TooManySteps, Access, Bound, Delays, Differ, Align, Carry}
+use Rattle.plans.specs.declared.plan.Plan.TheVariants.{ShowDamages, ShowMended, NoSteps, TooManySteps, Access, Bound}
+use Rattle.plans.specs.declared.plan.Plan.TheVariants.{Delays, Differ, Align, Carry}
 use Rattle.plans.specs.declared.plan.Plan.TheVariants.{Find, Expect, WhatIf}
 use Rattle.arguments.specs.declared.AlignArguments.{AlignArguments}
 use Rattle.arguments.specs.declared.FindArguments.{FindArguments}

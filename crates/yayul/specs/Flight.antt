@@ -10,9 +10,12 @@ use Rattle.yayul.specs.Operators.{operators, addressed, code}
 use Rattle.yayul.specs.Forms.{is_sign, first_is, is_digits, greatest_number, alone, complemented, number_in, octal_in, with_form, shift_in}
 use Rattle.yayul.specs.Forms.{moved_by, operand_in, operation_of, label_in, statement_of}
 use Rattle.yayul.specs.Scales.{decimal_content}
-use Rattle.yayul.specs.Language.{Address, Addressed, AddressedCode, All, Bank, BankRange, BankWord, Channel, Complemented, Constant, Constants, Content}
-use Rattle.yayul.specs.Language.{Ebank, Equals, ErasablePlace, FarAddress, FarComplement, FixedAddress, FixedPlace, Flight, FlightOperator, Gives, Is}
-use Rattle.yayul.specs.Language.{Label, Language, Location, Minus, Missing, Named, Nine, No, NoForm, Nothing, Numeral, Octals, One, Operand, Pair}
+use Rattle.yayul.specs.Language.{Address, Addressed, AddressedCode, All, Bank, BankRange, BankWord, Channel}
+use Rattle.yayul.specs.Language.{Complemented, Constant, Constants, Content}
+use Rattle.yayul.specs.Language.{Ebank, Equals, ErasablePlace, FarAddress, FarComplement, FixedAddress, FixedPlace}
+use Rattle.yayul.specs.Language.{Flight, FlightOperator, Gives, Is}
+use Rattle.yayul.specs.Language.{Label, Language, Location, Minus, Missing, Named, Nine, No, NoForm, Nothing}
+use Rattle.yayul.specs.Language.{Numeral, Octals, One, Operand, Pair}
 use Rattle.yayul.specs.Language.{Operation, Operator, PassedOver, Plus, Setloc, Shift, Standard, Statement, Takes, Ten, Term, Twelve, Two}
 use Rattle.yayul.specs.Language.{TwoOrThree, Unknown, VerbNoun}
 

@@ -1,5 +1,6 @@
 -- Decimal constants of flight programs: with a point and powers of ten and of two, in one word or two.
-use Rattle.std.specs.Prelude.{ℕ, ◌+◌, ◌-◌, ◌*◌, ◌/◌, ◌%◌, ◌^◌, ◌==◌, ◌&&◌, ◌||◌, not, Bool, true, false, nat_le, nat_lt, List, [], ◌∷◌, length, take, drop, slice_get}
+use Rattle.std.specs.Prelude.{ℕ, ◌+◌, ◌-◌, ◌*◌, ◌/◌, ◌%◌, ◌^◌, ◌==◌, ◌&&◌, ◌||◌, not, Bool, true, false, nat_le}
+use Rattle.std.specs.Prelude.{nat_lt, List, [], ◌∷◌, length, take, drop, slice_get}
 use Rattle.std.specs.Prelude.{Option, None, Some, is_some, option_map, option_and_then, if◌then◌else◌}
 use Rattle.std.specs.Option.{option_map_or, option_or}
 use Rattle.words.specs.Numbers.{neg}
@@ -130,7 +131,9 @@ scales_beside Two pointed scales = if no_field scales && not pointed then Some l
 
 abbrev pub magnitude_content : Precision → Bool → List ℕ → List (List ℕ) → Option Content
 magnitude_content precision minus text scales =
-    option_and_then (λ q. option_and_then (quantity_content precision minus q) (scales_beside precision q.pointed scales)) (quantity_in text)
+    option_and_then
+    (λ q. option_and_then (quantity_content precision minus q) (scales_beside precision q.pointed scales))
+    (quantity_in text)
 
 -- a sign or none, a quantity and its scales
 abbrev pub scaled_content : Precision → List ℕ → List (List ℕ) → Option Content

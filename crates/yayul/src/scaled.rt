@@ -5,7 +5,8 @@ ghost use Rattle.agc_text.specs.Fields.{texts, fields};
 ghost use Rattle.yayul.specs.Scales.{count_to, signed_power, power_of_ten_in, power_of_two_in, scales_of, raised};
 ghost use Rattle.yayul.specs.Scales.{quantity_of, whole_digits, pointed_in, quantity_in, nearest, power_or_none};
 ghost use Rattle.yayul.specs.Scales.{magnitude_of, signed_word, one_word, two_words, words_of, quantity_content};
-ghost use Rattle.yayul.specs.Scales.{magnitude_content, scaled_content, no_field, scales_beside, ends_in_star, without_star, decimal_content};
+ghost use Rattle.yayul.specs.Scales.{magnitude_content, scaled_content, no_field, scales_beside, ends_in_star};
+ghost use Rattle.yayul.specs.Scales.{without_star, decimal_content};
 
 use crate::decimal::{before_point, decimal_in};
 use crate::language::{Content, DoubleWord, Precision};
