@@ -70,13 +70,13 @@ either_none : (b : Bool) (o : Option ℕ) → o ≡ None → cond b None o ≡ N
 either_none true o e = refl
 either_none false o e = e
 
-still_entry : (s : State) → IsStill s → entry s ≡ None
+pub still_entry : (s : State) → IsStill s → entry s ≡ None
 unfolding entry
 still_entry s still = either_none (s.inhibit || s.inside || s.extra || is_some s.waiting_sum || is_some s.waiting_word
     || has_overflow (over (accumulator_of s))) (least_request s.requests) still.unasked
 
 -- where no input is due, an instruction is executed
-still_next : (scenario : Scenario) (s : State) → IsStill s → due scenario.inputs s.taken s.cycles ≡ None
+pub still_next : (scenario : Scenario) (s : State) → IsStill s → due scenario.inputs s.taken s.cycles ≡ None
     → next scenario s ≡ execute scenario.rope s
 unfolding next
 still_next scenario s still none =
@@ -84,7 +84,7 @@ still_next scenario s still none =
     ∙ ap (λ (o : Option ℕ). next_by scenario.rope s None o) (still_entry s still)
 
 -- and that is the one at Z
-still_word : (rope : Words) (s : State) → IsStill s → instruction_word rope s ≡ word_at_z rope s
+pub still_word : (rope : Words) (s : State) → IsStill s → instruction_word rope s ≡ word_at_z rope s
 unfolding instruction_word
 still_word rope s still =
     ap (λ (o : Option ℕ). with_sum o (unwrap_or s.waiting_word (word_at_z rope s))) still.sum

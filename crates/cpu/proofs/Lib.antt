@@ -33,3 +33,4 @@ pub mod CellSets
 pub mod Profiling
 mod ReadRows
 mod Bursts
+pub mod Quiet

@@ -33,6 +33,21 @@ impl Machine {
         ensures still { IsStill self.new }
     {
         let word = self.word_at_z(rope).to_u16();
+        self.execute_basic_word(rope, word)
+    }
+
+    /// The same of a word that was read.
+    #[inline(always)]
+    pub(crate) fn execute_basic_word(&mut self, rope: &Rope, word: u16) -> Option<bool>
+        requires still { IsStill self.old }
+        requires few { self.old.cycles ≤ most_cycles }
+        requires basic { self.old.extra ≡ false }
+        requires word { word ≡ word_at_z rope.now self.old }
+        ensures left { result ≡ None → self.new ≡ self.old }
+        ensures made { IfSome result (λ _. (self.new, None) ≡ execute rope.now self.old) }
+        ensures extra { IfSome result (λ extra. self.new.extra ≡ extra) }
+        ensures still { IsStill self.new }
+    {
         match basic_entry(word) {
             Instruction::Tc => self.execute_transfer(rope, word),
             Instruction::Ccs => Some(self.execute_as(rope, Instruction::Ccs, word, false)),
@@ -85,6 +100,21 @@ impl Machine {
         ensures still { IsStill self.new }
     {
         let word = self.word_at_z(rope).to_u16();
+        self.execute_extracode_word(rope, word)
+    }
+
+    /// The same of a word that was read.
+    #[inline(always)]
+    pub(crate) fn execute_extracode_word(&mut self, rope: &Rope, word: u16) -> bool
+        requires still { IsStill self.old }
+        requires few { self.old.cycles ≤ most_cycles }
+        requires extracode { self.old.extra ≡ true }
+        requires word { word ≡ word_at_z rope.now self.old }
+        ensures left { result ≡ false → self.new ≡ self.old }
+        ensures made { result ≡ true → (self.new, None) ≡ execute rope.now self.old }
+        ensures basic { result ≡ true → self.new.extra ≡ false }
+        ensures still { IsStill self.new }
+    {
         match decode(word, true) {
             Instruction::Read => !self.execute_as(rope, Instruction::Read, word, true),
             Instruction::Rand => !self.execute_as(rope, Instruction::Rand, word, true),

@@ -20,6 +20,7 @@ mod machine;
 mod next_step;
 mod operand;
 mod output;
+mod plain;
 mod processor;
 mod reads;
 mod restart;

@@ -38,7 +38,7 @@ use words::Word;
 const MOST_CYCLES: u64 = 1 << 62;
 
 /// No step takes more cycles than this.
-const MOST_STEP_CYCLES: u64 = 8;
+pub(crate) const MOST_STEP_CYCLES: u64 = 8;
 
 /// Fixed memory, the inputs, and a meter of the steps that were made.
 #[derive(Drop)]
@@ -149,9 +149,9 @@ impl Processor {
         (at, None)
     }
 
-    /// Counts some steps.
+    /// Counts some steps on the meter.
     #[inline(always)]
-    fn count(&mut self, steps: u64)
+    pub fn count(&mut self, steps: u64)
         ensures { self.new ≡ record self.old { meter = min (self.old.meter + steps) (2 ^ 128 - 1) } }
     {
         self.meter = self.meter.saturating_add(u128::from(steps));
@@ -341,6 +341,14 @@ impl Processor {
         ensures { result ≡ self.now.meter }
     {
         self.meter
+    }
+
+    /// Before which cycles surely no input is due for a machine.
+    #[inline(always)]
+    pub(crate) fn none_due_before(&self, machine: &Machine) -> u64
+        ensures { (cycles : ℕ) → cycles < result → due self.now.scenario.inputs machine.now.taken cycles ≡ None }
+    {
+        self.feed.none_due_before(machine.taken())
     }
 
     /// Fixed memory.

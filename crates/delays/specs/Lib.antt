@@ -4,4 +4,5 @@ pub mod Spans
 pub mod Routines
 pub mod ShortTests
 pub mod Tallies
+pub mod Plain
 pub mod DelayText

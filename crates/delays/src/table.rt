@@ -1,6 +1,6 @@
 //! A table of stretches.
 
-ghost use Rattle.std.specs.Prelude.{◌≡◌, ◌<◌, ◌≤◌, ◌^◌, IfOk, get_or, length, replicate, set};
+ghost use Rattle.std.specs.Prelude.{◌≡◌, ◌<◌, ◌≤◌, ◌^◌, IfOk, get_or, length, replicate, set, true};
 ghost use Rattle.delays.specs.Stretches.{better, no_best};
 
 use crate::mark::{Best, NO_BEST, Stretch, better};
@@ -38,6 +38,14 @@ impl Table {
         ensures { result ≡ get_or self.now row no_best }
     {
         self.bests[row]
+    }
+
+    /// Whether a row has no stretch.
+    pub(crate) fn is_empty(&self, row: usize) -> bool
+        requires { row < length self.now }
+        ensures { result ≡ true → (get_or self.now row no_best).count ≡ 0 }
+    {
+        self.bests[row].count == 0
     }
 
     /// A stretch more.

@@ -7,7 +7,8 @@ ghost use Rattle.words.specs.Devices.{Writes, failures_after};
 ghost use Rattle.trace.specs.TraceLines.{interrupt_name, symbol_at};
 ghost use Rattle.std.specs.Option.{option_map};
 ghost use Rattle.cover.specs.Tallies.{account_count};
-ghost use Rattle.rope.specs.Places.{bank_words};
+ghost use Rattle.rope.specs.Places.{bank_words, Words};
+ghost use Rattle.symbols.specs.Values.{SymbolTable};
 ghost use Rattle.space.specs.declared.place.Linear.TheVariants.{Fixed};
 ghost use Rattle.yayul.specs.Listing.{place_text};
 ghost use Rattle.delays.specs.DelayText.{call_row, figures_in, best_row, name_after, open_row, open_span};
@@ -98,8 +99,26 @@ fn write_part<W: Write>(
         (part_text names.now rope.now (figures_in delays.now) part) result }
     ensures failures { W.failures out.new ≡ failures_after (W.failures out.old) result }
 {
+    if is_blank(delays, part) {
+        return Ok(());
+    }
     let rows = part_rows(delays, names, rope, part);
     write_all(out, rows.as_slice())
+}
+
+/// Whether a part is surely empty, as that of nearly each place is: no spans begin there, and no routine is called.
+fn is_blank(delays: &Delays, part: usize) -> bool
+    requires { part < parts }
+    ensures { result ≡ true → (symbols : SymbolTable) (words : Words)
+        → part_text symbols words (figures_in delays.now) part ≡ [] }
+{
+    if part < FIRST_SPAN {
+        false
+    } else if part < FIRST_CALL {
+        delays.has_no_span(part - FIRST_SPAN)
+    } else {
+        delays.has_no_call(part - FIRST_CALL)
+    }
 }
 
 /// The rows of a part.

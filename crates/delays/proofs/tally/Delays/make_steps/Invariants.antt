@@ -1,11 +1,16 @@
-use Rattle.std.proofs.Common.{◌≡◌}
+use Rattle.std.proofs.Common.{◌≡◌, ◌-◌, ◌≤◌}
 use Rattle.cpu.specs.Run.{run}
 use Rattle.delays.specs.Tallies.{Measures}
 use Rattle.delays.proofs.tally.Delays.make_steps.Given as goal
 
-abbrev pub invariant-loop : goal.invariant-loop
-invariant-loop l = record {
+abbrev pub invariant-loop-at : goal.invariant-loop-at
+invariant-loop-at l = record {
+  low : l.done ≤ l.at;
+  high : l.at ≤ l.stop;
   scenario : l.processor.scenario ≡ l.initial.processor.scenario;
-  state : l.machine ≡ run l.initial.processor.scenario l.counter;
-  measures : Measures l.initial.processor.scenario l.counter l.self;
+  state : l.machine ≡ run l.initial.processor.scenario l.at;
+  measures : Measures l.initial.processor.scenario l.at l.self;
 }
+
+abbrev pub decreases-loop-at : goal.decreases-loop-at
+decreases-loop-at l = l.stop - l.at
