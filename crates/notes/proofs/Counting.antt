@@ -36,8 +36,10 @@ use Rattle.notes.proofs.Divisions.{basic_never, extracode_never, neither}
 use Rattle.notes.specs.RunNotes.{here, happens_at, kinds_text, step_text, text_after, times, times_from, told, where_of}
 use Rattle.notes.specs.declared.notebook.Told.{Told}
 use Rattle.notes.specs.Counted.{told_of, is_first, rewound, seen_by, some_kind, AreSmall, Book, Counted, counts_of, Left, Notes, Takes}
-use Rattle.notes.specs.Counted.{counted_more, left_after, taken, taken_at}
+use Rattle.notes.specs.Counted.{counted_more, left_after, taken, taken_at, Listed, Lists, first_steps, firsts_by, happens_first, listed_by}
+use Rattle.notes.specs.Counted.{nothing_listed}
 use Rattle.notes.specs.Waits.{Keeps, Waits, waits_after}
+use Rattle.notes.proofs.FirstSteps.{first_more}
 use Rattle.notes.proofs.LongWaits.{keeps_more, keeps_none}
 
 -- what is so of each kind is so of all
@@ -74,9 +76,9 @@ none_held (suc n) (suc k) = none_held n k
 -- before the first step
 pub none_counted : (named : Named) (scenario : Scenario) (book : Book) → book.named ≡ named
     → ((kind : Kind) → counts_of book kind ≡ replicate account_count 0) → book.waits ≡ replicate 11 None → book.past ≡ no_past
-    → book.steps ≡ 0 → book.last ≡ 0 → Counted named scenario 0 book
-unfolding times past
-none_counted named scenario book words e waits before steps last = record {
+    → book.steps ≡ 0 → book.last ≡ 0 → book.firsts ≡ nothing_listed → Counted named scenario 0 book
+unfolding times past first_steps
+none_counted named scenario book words e waits before steps last firsts = record {
   same = words;
   each = λ kind. ap length (e kind) ∙ length-replicate account_count no_count;
   times = λ kind a known. rw (e kind) (none_held account_count (account_number a));
@@ -85,6 +87,7 @@ none_counted named scenario book words e waits before steps last = record {
   steps = steps;
   within = omega (arith, last);
   later = λ t from lt kind hit. absurd (omega (arith, lt));
+  listed = λ complete. ap (λ (f : Listed). f.steps) firsts;
 }
 
 and_nothing : (k : ℕ) → k + 0 ≡ k
@@ -164,13 +167,40 @@ pub some_by : (p : Kind → Bool) (a b c d e f g h i j k : Bool) → p Quotient 
 some_by p a b c d e f g h i j k one two three four five six seven eight nine ten eleven = rw
     (one, two, three, four, five, six, seven, eight, nine, ten, eleven) refl
 
+-- which kinds are first, of what each is
+pub firsts_are : (p : Kind → Bool) (a b c d e f g h i j k : Bool) → p Quotient ≡ a → p Skip ≡ b → p NoWord ≡ c → p InErasable ≡ d
+    → p NoHandler ≡ e → p OtherBank ≡ f → p NotKept ≡ g → p MinusZero ≡ h
+    → p Overwritten ≡ i → p Shared ≡ j → p FixedBank ≡ k
+    → firsts_by p ≡ record {
+      quotient = a;
+      skip = b;
+      no_word = c;
+      in_erasable = d;
+      no_handler = e;
+      other_bank = f;
+      not_kept = g;
+      minus_zero = h;
+      overwritten = i;
+      shared = j;
+      fixed_bank = k;
+    }
+firsts_are p a b c d e f g h i j k one two three four five six seven eight nine ten eleven = rw
+    (one, two, three, four, five, six, seven, eight, nine, ten, eleven) refl
+
+-- where none is nothing is listed
+none_lists : (p : Kind → Bool) (number : ℕ) (listed : Listed) → some_kind p ≡ false → Lists (firsts_by p) number listed listed
+none_lists p number listed none = record {
+  before = λ complete. complete;
+  added = λ complete. rw none (sym (append-nil listed.steps));
+}
+
 none_is : (p : Kind → Bool) → ((kind : Kind) → p kind ≡ false) → some_kind p ≡ false
 none_is p none = some_by p false false false false false false false false false false false (none Quotient) (none Skip) (none NoWord)
     (none InErasable) (none NoHandler) (none OtherBank) (none NotKept) (none MinusZero)
     (none Overwritten) (none Shared) (none FixedBank)
 
 -- what is so of none
-none_of_kinds : (p : Kind → Bool) → some_kind p ≡ false → (kind : Kind) → p kind ≡ false
+pub none_of_kinds : (p : Kind → Bool) → some_kind p ≡ false → (kind : Kind) → p kind ≡ false
 none_of_kinds p e =
     let one = neither (p Quotient) _ e in
     let two = neither (p Skip) _ one.1 in
@@ -194,7 +224,7 @@ past_more : (scenario : Scenario) (n : ℕ) (p : Past) → p ≡ past scenario n
 unfolding past
 past_more scenario n p e = rw (add-one n, e) refl
 
-at_least_one : (held t : ℕ) → held ≡ t → (held == 0) ≡ false → 1 ≤ t
+pub at_least_one : (held t : ℕ) → held ≡ t → (held == 0) ≡ false → 1 ≤ t
 at_least_one zero t e z = absurd (cc)
 at_least_one (suc k) t e z = omega (arith, e)
 
@@ -224,6 +254,43 @@ last_between : (b : Bool) (last more steps : ℕ) → more ≡ (if b then steps 
 last_between true last more steps e h = (omega (arith, e, h), omega (arith, e))
 last_between false last more steps e h = (omega (arith, e), omega (arith, e, h))
 
+-- what is told of a step is what happens in it for the first time
+first_is : (named : Named) (scenario : Scenario) (n : ℕ) (old : Book) → Counted named scenario n old
+    → IsAccount (here scenario (run scenario n)) → (kind : Kind)
+    → is_first (counts_of old kind) (account_number (here scenario (run scenario n)))
+    (happens old.named scenario kind (seen_by (run scenario n) old)) ≡ happens_first named scenario n kind
+first_is named scenario n old before known kind =
+    ap (λ b. is_first (counts_of old kind) (account_number (here scenario (run scenario n))) b)
+    (happens_is named scenario kind n old before.same before.past)
+    ∙ ap (λ k. happens named scenario kind (seen scenario n) && k == 0) (before.times kind (here scenario (run scenario n)) known)
+
+firsts_is : (named : Named) (scenario : Scenario) (n : ℕ) (old : Book) → Counted named scenario n old
+    → IsAccount (here scenario (run scenario n))
+    → firsts_by (λ kind. is_first (counts_of old kind) (account_number (here scenario (run scenario n)))
+    (happens old.named scenario kind (seen_by (run scenario n) old))) ≡ firsts_by (happens_first named scenario n)
+firsts_is named scenario n old before known =
+    let p : Kind → Bool = happens_first named scenario n in
+    let is = first_is named scenario n old before known in
+    firsts_are (λ kind. is_first (counts_of old kind) (account_number (here scenario (run scenario n)))
+    (happens old.named scenario kind (seen_by (run scenario n) old)))
+    (p Quotient) (p Skip) (p NoWord) (p InErasable) (p NoHandler) (p OtherBank) (p NotKept) (p MinusZero) (p Overwritten)
+    (p Shared) (p FixedBank)
+    (is Quotient) (is Skip) (is NoWord) (is InErasable) (is NoHandler) (is OtherBank) (is NotKept) (is MinusZero) (is Overwritten)
+    (is Shared) (is FixedBank)
+
+listed_after : (named : Named) (scenario : Scenario) (n : ℕ) (old new : Book) → Counted named scenario n old
+    → Notes scenario (run scenario n) old new → new.steps ≡ n + 1 → new.firsts.complete ≡ true
+    → new.firsts.steps ≡ first_steps named scenario 0 (n + 1)
+listed_after named scenario n old new before step steps complete =
+    let at : n ≡ 0 + n = omega arith in
+    step.listed.added complete
+    ∙ ap (λ items. items ++ listed_by (firsts_by (λ kind. is_first (counts_of old kind) (account_number (here scenario (run scenario n)))
+    (happens old.named scenario kind (seen_by (run scenario n) old)))) new.steps) (before.listed (step.listed.before complete))
+    ∙ ap (λ kinds. first_steps named scenario 0 n ++ listed_by kinds new.steps) (firsts_is named scenario n old before step.known)
+    ∙ ap (λ k. first_steps named scenario 0 n ++ listed_by (firsts_by (happens_first named scenario n)) k) steps
+    ∙ ap (λ k. first_steps named scenario 0 n ++ listed_by (firsts_by (happens_first named scenario k)) (k + 1)) at
+    ∙ sym (first_more named scenario 0 n)
+
 pub counted_after : (named : Named) (scenario : Scenario) (n : ℕ) (old new : Book) → Counted named scenario n old
     → Notes scenario (run scenario n) old new → Counted named scenario (n + 1) new
 counted_after named scenario n old new before step =
@@ -248,6 +315,7 @@ counted_after named scenario n old new before step =
           (step.waits ∙ ap (λ m. waits_after (run scenario n) (next_step scenario (run scenario n)) (m + 1) old.waits) before.steps);
       past = step.past ∙ past_more scenario n old.past before.past;
       steps = steps;
+      listed = λ complete. listed_after named scenario n old new before step steps complete;
       within = between.1;
       later = λ t from lt kind hit.
           elim (eqb_tells t n) [
@@ -281,9 +349,12 @@ pub noted : (scenario : Scenario) (s : State) (step : NextStep) (a : Account) (n
     → new.named ≡ old.named → new.waits ≡ waits_after s step new.steps old.waits → new.past ≡ past_by s old.past step
     → new.steps ≡ old.steps + 1
     → new.last ≡ (if some_kind (λ kind. is_first (counts_of old kind) number (happens_in old.named scenario.rope s old.past kind step)) then
-    new.steps else old.last) → Notes scenario s old new
+    new.steps else old.last)
+    → Lists (firsts_by (λ kind. is_first (counts_of old kind) number (happens_in old.named scenario.rope s old.past kind step))) new.steps
+    old.firsts new.firsts
+    → Notes scenario s old new
 unfolding happens
-noted scenario s step a number old new at is e known each words waits past steps last = record {
+noted scenario s step a number old new at is e known each words waits past steps last listed = record {
   known = subst (λ x. IsAccount x) (same_here scenario s step a at is) known;
   each = λ kind.
       each kind ∙ ap (λ m. counted_more (counts_of old kind) m (happens_in old.named scenario.rope s old.past kind step))
@@ -300,6 +371,12 @@ noted scenario s step a number old new at is e known each words waits past steps
       (e ∙ ap (λ x. account_number x) (same_here scenario s step a at is))
       ∙ ap (λ t. if some_kind (λ kind. is_first (counts_of old kind) (account_number (here scenario s))
       (happens_in old.named scenario.rope s old.past kind t)) then new.steps else old.last) at;
+  listed =
+      subst (λ (t : NextStep). Lists (firsts_by (λ kind. is_first (counts_of old kind) (account_number (here scenario s))
+      (happens_in old.named scenario.rope s old.past kind t))) new.steps old.firsts new.firsts) at
+      (subst (λ (m : ℕ). Lists (firsts_by (λ kind. is_first (counts_of old kind) m
+      (happens_in old.named scenario.rope s old.past kind step))) new.steps old.firsts new.firsts)
+      (e ∙ ap (λ x. account_number x) (same_here scenario s step a at is)) listed);
 }
 
 pub takes : (scenario : Scenario) (s : State) (step : NextStep) (a : Account) (number : ℕ) (old new : Book) → step ≡ next_step scenario s
@@ -469,7 +546,7 @@ text_is notation symbols named scenario now t n s book same at left known =
     ∙ text_at notation symbols named scenario t n book left there
 
 -- ## After the last step in which something happens for the first time nothing is told
-told_none : (named : Named) (scenario : Scenario) (t n : ℕ) (kind : Kind)
+pub told_none : (named : Named) (scenario : Scenario) (t n : ℕ) (kind : Kind)
     → (happens named scenario kind (seen scenario t) ≡ true → 1 ≤ times named scenario kind (here scenario (run scenario t)) t)
     → told named scenario n t kind ≡ 0
 unfolding told
@@ -489,7 +566,7 @@ unfolding step_text
 none_later notation symbols named scenario t n book counted from lt =
     nothing_told notation _ _ _ (told named scenario n t) (λ kind. told_none named scenario t n kind (counted.later t from lt kind))
 
-front_rest : (f : ℕ → List ℕ) (m k whole : ℕ) → whole ≡ k + m → ((t : ℕ) → k ≤ t → t < whole → f t ≡ []) → front f k ≡ front f whole
+pub front_rest : (f : ℕ → List ℕ) (m k whole : ℕ) → whole ≡ k + m → ((t : ℕ) → k ≤ t → t < whole → f t ≡ []) → front f k ≡ front f whole
 front_rest f zero k whole e none = ap (λ x. front f x) (omega (arith, e))
 front_rest f (suc m) k whole e none =
     let last : f (k + m) ≡ [] = none (k + m) (omega arith) (omega (arith, e)) in
@@ -717,6 +794,8 @@ quiet_noted scenario s step old was plain unreached =
     let none = none_reached old.named scenario.rope s (next_step scenario s) old.past e e2 in
     let number = account_number (here scenario s) in
     let new : Book = record old { steps = old.steps + 1 } in
+    let no_first = none_is (λ kind. is_first (counts_of old kind) number (happens old.named scenario kind (seen_by s old)))
+    (λ kind. ap (λ b. is_first (counts_of old kind) number b) (none kind)) in
     record {
       known = plain_account scenario.rope s old.past (next_step scenario s) e;
       each = λ kind. counts_alike old new refl kind ∙ sym (ap (λ b. counted_more (counts_of old kind) number b) (none kind));
@@ -724,10 +803,9 @@ quiet_noted scenario s step old was plain unreached =
       waits = plain_waits scenario.rope s old.past (next_step scenario s) (old.steps + 1) old.waits e;
       past = plain_past scenario.rope s (next_step scenario s) old.past e;
       steps = refl;
-      last = sym
-          (ap (λ b. if b then old.steps + 1 else old.last)
-          (none_is (λ kind. is_first (counts_of old kind) number (happens old.named scenario kind (seen_by s old)))
-          (λ kind. ap (λ b. is_first (counts_of old kind) number b) (none kind))));
+      last = sym (ap (λ b. if b then old.steps + 1 else old.last) no_first);
+      listed = none_lists (λ kind. is_first (counts_of old kind) number (happens old.named scenario kind (seen_by s old)))
+          (old.steps + 1) old.firsts no_first;
     }
 
 pub quiet_takes : (scenario : Scenario) (s : State) (step : NextStep) (old : Book) → step ≡ next_step scenario s

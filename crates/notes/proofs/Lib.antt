@@ -1,7 +1,10 @@
 mod Appending
+pub mod Calm
 pub mod Counting
 pub mod Divisions
 mod Exact
+mod FirstSteps
+pub mod Listing
 pub mod LongWaits
 pub mod Quietly
 mod OneKind

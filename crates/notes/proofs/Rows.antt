@@ -13,8 +13,9 @@ use Rattle.cpu.specs.Codes.{basic_rows, code_of}
 use Rattle.cpu.specs.Effects.{place_in}
 use Rattle.cpu.specs.State.{Scenario, State}
 use Rattle.yayul.specs.Named.{Named}
+use Rattle.notes.specs.declared.kind.Kind.{Kind}
 use Rattle.notes.specs.declared.kind.Kind.TheVariants.{Quotient, Skip, NotKept}
-use Rattle.notes.specs.Counted.{counted_more, is_first, left_after, taken}
+use Rattle.notes.specs.Counted.{counted_more, first_of, first_steps, firsts_by, is_first, left_after, listed_by, taken}
 use Rattle.rope.specs.Places.{Words, word_at}
 use Rattle.space.specs.Cells.{get}
 use Rattle.cpu.specs.declared.next_step.Fetched.{Fetched}
@@ -409,3 +410,25 @@ not_long_unread = refl
 
 read_there : unread_at Text 873 0o13 (Some 20) true ≡ []
 read_there = refl
+
+-- a step in which Skip alone happens for the first time is listed as that; one in which nothing does is not
+abbrev skip_alone : Kind → Bool
+skip_alone Skip = true
+skip_alone kind = false
+
+listed_skip : listed_by (firsts_by skip_alone) 5 ≡ record { number = 5; kinds = firsts_by skip_alone } ∷ []
+listed_skip = refl
+
+skip_is_first : first_of (firsts_by skip_alone) Skip ≡ true
+skip_is_first = refl
+
+quotient_is_not : first_of (firsts_by skip_alone) Quotient ≡ false
+quotient_is_not = refl
+
+nothing_is_listed : listed_by (firsts_by (λ kind. false)) 5 ≡ []
+nothing_is_listed = refl
+
+-- of no steps none
+none_of_none : (named : Named) (scenario : Scenario) → first_steps named scenario 7 0 ≡ []
+unfolding first_steps
+none_of_none named scenario = refl

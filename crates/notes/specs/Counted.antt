@@ -1,5 +1,6 @@
 -- How often something happens, as a notebook holds it: for each kind a list, with a number for each account; and what waits.
-use Rattle.std.specs.Prelude.{◌≡◌, ℕ, ◌+◌, ◌<◌, ◌≤◌, ◌^◌, ◌==◌, ◌&&◌, ◌||◌, Bool, true, List, [], length, get_or, set, if◌then◌else◌}
+use Rattle.std.specs.Prelude.{◌≡◌, ℕ, zero, suc, ◌+◌, ◌-◌, ◌<◌, ◌≤◌, ◌^◌, ◌==◌, ◌&&◌, ◌||◌, Bool, true, List, [], ◌∷◌, ◌++◌, length, get_or}
+use Rattle.std.specs.Prelude.{set, if◌then◌else◌}
 use Rattle.cpu.specs.declared.account.Account.{Account}
 use Rattle.cpu.specs.NextStep.{next_step}
 use Rattle.cpu.specs.Run.{run}
@@ -9,15 +10,27 @@ use Rattle.cover.specs.Tallies.{account_count, account_number, IsAccount}
 use Rattle.notes.specs.declared.kind.Kind.{Kind}
 use Rattle.notes.specs.declared.kind.Kind.TheVariants.{Quotient, Skip, NoWord, InErasable, NoHandler, OtherBank, NotKept, MinusZero}
 use Rattle.notes.specs.declared.kind.Kind.TheVariants.{Overwritten, Shared, FixedBank}
+use Rattle.notes.specs.declared.first_steps.FirstStep.{FirstStep}
+use Rattle.notes.specs.declared.first_steps.Firsts.{Firsts}
 use Rattle.notes.specs.declared.notebook.Told.{Told}
 use Rattle.notes.specs.declared.past.Past.{Past}
 use Rattle.notes.specs.Past.{no_past, past, past_by, Seen, seen}
 use Rattle.notes.specs.Notes.{happens}
-use Rattle.notes.specs.RunNotes.{here, times, times_from}
+use Rattle.json_text.specs.declared.notation.Notation.{Notation}
+use Rattle.symbols.specs.Values.{SymbolTable}
+use Rattle.notes.specs.RunNotes.{here, text_after, times, times_from}
 use Rattle.notes.specs.Waits.{Keeps, Waits, waits_after}
 
+-- the steps in which some kind has happened for the first time at its place, in order, and whether each is among them
+pub record Listed : Type 0 where
+  pub steps : List FirstStep
+  pub complete : Bool
+
+abbrev pub nothing_listed : Listed
+nothing_listed = record { steps = []; complete = true }
+
 -- the places that words name, the counts of each kind, since when each interrupt is asked for, what the steps before have left,
--- how many steps were noted, and the last of them in which some kind has happened for the first time at its place
+-- how many steps were noted, the last of them in which some kind has happened for the first time at its place, and all of these
 pub record Book : Type 0 where
   pub named : Named
   pub counts : List (List ℕ)
@@ -25,6 +38,7 @@ pub record Book : Type 0 where
   pub past : Past
   pub steps : ℕ
   pub last : ℕ
+  pub firsts : Listed
 
 abbrev pub counts_of : Book → Kind → List ℕ
 counts_of book Quotient = get_or book.counts 0 []
@@ -53,6 +67,52 @@ some_kind p = p Quotient || (p Skip || (p NoWord
     || (p InErasable || (p NoHandler || (p OtherBank || (p NotKept || (p MinusZero || (p Overwritten || (p Shared
     || p FixedBank)))))))))
 
+-- of which kinds something is so, and which kinds are among some
+abbrev pub firsts_by : (Kind → Bool) → Firsts
+firsts_by p = record {
+  quotient = p Quotient;
+  skip = p Skip;
+  no_word = p NoWord;
+  in_erasable = p InErasable;
+  no_handler = p NoHandler;
+  other_bank = p OtherBank;
+  not_kept = p NotKept;
+  minus_zero = p MinusZero;
+  overwritten = p Overwritten;
+  shared = p Shared;
+  fixed_bank = p FixedBank;
+}
+
+abbrev pub first_of : Firsts → Kind → Bool
+first_of f Quotient = f.quotient
+first_of f Skip = f.skip
+first_of f NoWord = f.no_word
+first_of f InErasable = f.in_erasable
+first_of f NoHandler = f.no_handler
+first_of f OtherBank = f.other_bank
+first_of f NotKept = f.not_kept
+first_of f MinusZero = f.minus_zero
+first_of f Overwritten = f.overwritten
+first_of f Shared = f.shared
+first_of f FixedBank = f.fixed_bank
+
+abbrev pub some_first : Firsts → Bool
+some_first f = some_kind (first_of f)
+
+-- a step is listed where something is so of some kind
+abbrev pub listed_by : Firsts → ℕ → List FirstStep
+listed_by kinds number = if some_first kinds then record { number = number; kinds = kinds } ∷ [] else []
+
+-- a step is added behind all others, or not each is among them
+pub record AddsFirst (step : FirstStep) (old new : Listed) : Type 0 where
+  pub before : new.complete ≡ true → old.complete ≡ true
+  pub added : new.complete ≡ true → new.steps ≡ old.steps ++ step ∷ []
+
+-- a step of some kinds is listed, where there are any
+pub record Lists (kinds : Firsts) (number : ℕ) (old new : Listed) : Type 0 where
+  pub before : new.complete ≡ true → old.complete ≡ true
+  pub added : new.complete ≡ true → new.steps ≡ old.steps ++ listed_by kinds number
+
 -- what is held at a number, where something happens, and what is left after it is taken
 abbrev pub taken : List ℕ → ℕ → Bool → ℕ
 taken counts number happens = if happens then get_or counts number 0 else 0
@@ -80,6 +140,8 @@ pub record Notes (scenario : Scenario) (s : State) (old new : Book) : Type 0 whe
   pub steps : new.steps ≡ old.steps + 1
   pub last : new.last ≡ (if some_kind (λ kind. is_first (counts_of old kind) (account_number (here scenario s))
       (happens old.named scenario kind (seen_by s old))) then new.steps else old.last)
+  pub listed : Lists (firsts_by (λ kind. is_first (counts_of old kind) (account_number (here scenario s))
+      (happens old.named scenario kind (seen_by s old)))) new.steps old.firsts new.firsts
 
 -- what is held of each kind that happens in the step that follows a state
 abbrev pub taken_at : Scenario → State → Book → Kind → ℕ
@@ -109,6 +171,17 @@ told_of t Overwritten = t.overwritten
 told_of t Shared = t.shared
 told_of t FixedBank = t.fixed_banks
 
+-- something happens at the step after t others, and in none before at the same place
+abbrev pub happens_first : Named → Scenario → ℕ → Kind → Bool
+happens_first named scenario t kind =
+    happens named scenario kind (seen scenario t) && times named scenario kind (here scenario (run scenario t)) t == 0
+
+-- of m steps after t others those in which something does
+unfoldable pub first_steps : Named → Scenario → ℕ → ℕ → List FirstStep
+first_steps named scenario t zero = []
+first_steps named scenario t (suc m) =
+    listed_by (firsts_by (happens_first named scenario t)) (t + 1) ++ first_steps named scenario (t + 1) m
+
 -- the counts are those of the first n steps of a run
 pub record Counted (named : Named) (scenario : Scenario) (n : ℕ) (book : Book) : Type 0 where
   pub same : book.named ≡ named
@@ -120,6 +193,16 @@ pub record Counted (named : Named) (scenario : Scenario) (n : ℕ) (book : Book)
   pub waits : Keeps scenario n book.waits
   pub past : book.past ≡ past scenario n
   pub steps : book.steps ≡ n
+  pub listed : book.firsts.complete ≡ true → book.firsts.steps ≡ first_steps named scenario 0 n
+
+-- what is told at a listed step, by what is counted
+abbrev pub told_listed : Scenario → Book → FirstStep → Kind → ℕ
+told_listed scenario book f kind =
+    taken (counts_of book kind) (account_number (here scenario (run scenario (f.number - 1)))) (first_of f.kinds kind)
+
+abbrev pub listed_text : Notation → SymbolTable → Scenario → Book → FirstStep → List ℕ
+listed_text notation symbols scenario book f =
+    text_after notation symbols scenario f.number (run scenario (f.number - 1)) (told_listed scenario book f)
 
 -- a book as it stands before the first step, but for what was counted
 abbrev pub rewound : Book → Book

@@ -124,6 +124,10 @@ text_after notation symbols scenario number s count =
 unfoldable pub step_text : Notation → SymbolTable → Named → Scenario → ℕ → ℕ → List ℕ
 step_text notation symbols named scenario n t = text_after notation symbols scenario (t + 1) (run scenario t) (told named scenario n t)
 
+-- what is told of the first n steps, in the order of their first steps
+abbrev pub steps_text : Notation → SymbolTable → Named → Scenario → ℕ → List ℕ
+steps_text notation symbols named scenario n = flat_map (step_text notation symbols named scenario n) (range_with_len 0 n)
+
 -- what is told of the end: that a run ends within an interrupt
 abbrev pub inside_in : Notation → ℕ → List ℕ
 inside_in Text n = codes "NOTE INSIDE STEP " ++ (decimal n ++ codes "\n")
@@ -140,8 +144,7 @@ ending_text notation scenario n =
 
 -- the notes of the first n steps of a run, in the order of their first steps, and of its end
 unfoldable pub notes_text : Notation → SymbolTable → Named → Scenario → ℕ → List ℕ
-notes_text notation symbols named scenario n = flat_map (step_text notation symbols named scenario n) (range_with_len 0 n)
-    ++ ending_text notation scenario n
+notes_text notation symbols named scenario n = steps_text notation symbols named scenario n ++ ending_text notation scenario n
 
 -- ## What a note says
 -- it happens somewhere in some of the first n steps

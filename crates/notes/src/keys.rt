@@ -21,6 +21,7 @@ const WRITE: u16 = 1;
 const NO_CHANNEL: u16 = 0o7000;
 
 /// Whether an instruction reads a channel: READ, RAND, WAND, ROR, WOR or RXOR.
+#[inline(always)]
 pub(crate) fn reads_channel(fetched: &Fetched) -> bool
     ensures { result ≡ reads_channel fetched.now }
 {

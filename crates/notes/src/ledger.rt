@@ -51,6 +51,14 @@ impl Ledger {
         before == 0
     }
 
+    /// What was counted at the number of an account, where that is asked for, else 0.
+    pub(crate) fn held(&self, number: usize, is_asked: bool) -> u64
+        requires { number < account_count }
+        ensures { result ≡ taken self.now number is_asked }
+    {
+        if is_asked { self.counts[number] } else { 0 }
+    }
+
     /// Takes what was counted at the number of an account, where something happens, and leaves 0 there.
     pub(crate) fn take(&mut self, number: usize, happens: bool) -> u64
         requires within { number < account_count }

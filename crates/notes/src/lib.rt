@@ -1,6 +1,7 @@
 //! What happens in a run that is seldom meant.
 #![tactic(auto)]
 
+mod first_steps;
 mod keys;
 mod kind;
 pub mod laws;

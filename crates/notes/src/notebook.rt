@@ -1,16 +1,19 @@
 //! How often each kind has happened, by where.
 
-ghost use Rattle.std.specs.Prelude.{◌≡◌, ◌≤◌, ◌^◌, ◌||◌, IfOk, if◌then◌else◌, true};
+ghost use Rattle.std.specs.Prelude.{◌≡◌, ◌<◌, ◌≤◌, ◌^◌, IfOk, if◌then◌else◌, true};
 ghost use Rattle.cpu.specs.NextStep.{next_step};
 ghost use Rattle.cpu.specs.State.{FitsRun, Scenario};
-ghost use Rattle.notes.specs.Counted.{AreSmall, Counted, Notes, Takes, rewound, taken_at, told_of};
+ghost use Rattle.cover.specs.Tallies.{account_count};
+ghost use Rattle.notes.specs.Counted.{AreSmall, Counted, Notes, Takes, counts_of, first_of, rewound, taken, taken_at};
+ghost use Rattle.notes.specs.Counted.{told_of};
 ghost use Rattle.notes.specs.Notes.{is_plain_step, reaches_in};
 
+use crate::first_steps::{FirstSteps, Firsts, NO_FIRSTS};
 use crate::kind::Kind;
 use crate::ledger::Ledger;
 use crate::other_bank::names_erasable_in;
 use crate::past::Past;
-use crate::quiet::{is_plain_step, reaches_in};
+use crate::quiet::{is_plain_step, plain_step, reaches_in};
 use crate::step::{account_of, happens};
 use crate::waits::Waits;
 use cover::number_of;
@@ -38,6 +41,7 @@ pub struct Notebook {
     past: Past,
     steps: u64,
     last: u64,
+    firsts: FirstSteps,
 }
 
 impl Model for Notebook {
@@ -55,6 +59,7 @@ impl Model for Notebook {
       past = n.past;
       steps = n.steps;
       last = n.last;
+      firsts = n.firsts;
     } };
 }
 
@@ -111,11 +116,26 @@ impl Notebook {
             past: Past::none(),
             steps: 0,
             last: 0,
+            firsts: FirstSteps::new(alloc)?,
         })
     }
 
     /// Notes what happens in the next step.
     pub fn note(&mut self, processor: &Processor, machine: &Machine)
+        requires fits { FitsRun processor.now.scenario machine.now }
+        requires cycles { machine.now.cycles ≤ 2 ^ 62 }
+        requires small { AreSmall self.old }
+        ensures { Notes processor.now.scenario machine.now self.old self.new }
+    {
+        match plain_step(processor, machine, &self.past) {
+            Some(step) => self.note_plain(processor, machine, &step),
+            None => self.note_other(processor, machine),
+        }
+    }
+
+    /// The same, where the short test has not let the step pass.
+    #[inline(never)]
+    fn note_other(&mut self, processor: &Processor, machine: &Machine)
         requires fits { FitsRun processor.now.scenario machine.now }
         requires cycles { machine.now.cycles ≤ 2 ^ 62 }
         requires small { AreSmall self.old }
@@ -138,28 +158,34 @@ impl Notebook {
         ensures { Notes processor.now.scenario machine.now self.old self.new }
     {
         if reaches_in(&self.named, machine, step) {
-            self.note_reach(processor, machine, step);
+            self.note_reach(processor, machine, *step);
         } else {
             self.steps += 1;
         }
     }
 
     /// Notes that the next step reaches another bank, where nothing else happens there.
-    fn note_reach(&mut self, processor: &Processor, machine: &Machine, step: &NextStep)
-        requires step { step.now ≡ next_step processor.now.scenario machine.now }
-        requires plain { is_plain_step processor.now.scenario.rope machine.now self.old.past step.now ≡ true }
-        requires reaches { reaches_in self.old.named machine.now step.now ≡ true }
+    fn note_reach(&mut self, processor: &Processor, machine: &Machine, step: NextStep)
+        requires step { step ≡ next_step processor.now.scenario machine.now }
+        requires plain { is_plain_step processor.now.scenario.rope machine.now self.old.past step ≡ true }
+        requires reaches { reaches_in self.old.named machine.now step ≡ true }
         requires small { AreSmall self.old }
         ensures { Notes processor.now.scenario machine.now self.old self.new }
     {
         let (_processor, _machine) = (processor, machine);
-        let number = number_of(account_of(step));
-        let is_erasable = names_erasable_in(&self.named, step);
+        let number = number_of(account_of(&step));
+        let is_erasable = names_erasable_in(&self.named, &step);
         let first_other_bank = self.other_banks.count(number, is_erasable);
         let first_fixed_bank = self.fixed_banks.count(number, !is_erasable);
+        let kinds = Firsts {
+            other_bank: first_other_bank,
+            fixed_bank: first_fixed_bank,
+            ..NO_FIRSTS
+        };
         self.steps += 1;
-        let is_first = either(first_other_bank, first_fixed_bank);
+        let is_first = kinds.has_some();
         self.last = latest(is_first, self.steps, self.last);
+        self.firsts.list(kinds, self.steps);
     }
 
     /// Notes what happens in the next step, which may be any.
@@ -194,21 +220,23 @@ impl Notebook {
         let first_overwritten = self.overwritten.count(number, overwrites);
         let first_shared = self.shared.count(number, shares);
         let first_fixed_bank = self.fixed_banks.count(number, reaches_fixed);
-        let is_first = is_some(
-            first_quotient,
-            first_skip,
-            first_no_word,
-            first_in_erasable,
-            first_no_handler,
-            first_other_bank,
-            first_not_kept,
-            first_minus_zero,
-            first_overwritten,
-            first_shared,
-            first_fixed_bank,
-        );
+        let kinds = Firsts {
+            quotient: first_quotient,
+            skip: first_skip,
+            no_word: first_no_word,
+            in_erasable: first_in_erasable,
+            no_handler: first_no_handler,
+            other_bank: first_other_bank,
+            not_kept: first_not_kept,
+            minus_zero: first_minus_zero,
+            overwritten: first_overwritten,
+            shared: first_shared,
+            fixed_bank: first_fixed_bank,
+        };
         self.steps += 1;
+        let is_first = kinds.has_some();
         self.last = latest(is_first, self.steps, self.last);
+        self.firsts.list(kinds, self.steps);
         self.waits.note(machine, step, self.steps);
         self.past.note(machine, step);
     }
@@ -234,6 +262,34 @@ impl Notebook {
         self.last
     }
 
+    /// The steps in which some kind has happened for the first time at its place.
+    pub(crate) fn firsts(&self) -> &FirstSteps
+        ensures { result.now ≡ self.now.firsts }
+    {
+        &self.firsts
+    }
+
+    /// How often each of some kinds is counted at the number of an account, and 0 of each other.
+    pub(crate) fn told(&self, number: usize, kinds: &Firsts) -> Told
+        requires { number < account_count }
+        ensures { (kind : Kind) → told_of result kind
+            ≡ taken (counts_of self.now kind) number (first_of kinds.now kind) }
+    {
+        Told {
+            quotients: self.quotients.held(number, kinds.quotient),
+            skips: self.skips.held(number, kinds.skip),
+            no_words: self.no_words.held(number, kinds.no_word),
+            in_erasable: self.in_erasable.held(number, kinds.in_erasable),
+            no_handlers: self.no_handlers.held(number, kinds.no_handler),
+            other_banks: self.other_banks.held(number, kinds.other_bank),
+            not_kept: self.not_kept.held(number, kinds.not_kept),
+            minus_zeros: self.minus_zeros.held(number, kinds.minus_zero),
+            overwritten: self.overwritten.held(number, kinds.overwritten),
+            shared: self.shared.held(number, kinds.shared),
+            fixed_banks: self.fixed_banks.held(number, kinds.fixed_bank),
+        }
+    }
+
     /// Goes back to before the first step, with what was counted.
     pub(crate) fn rewind(&mut self)
         ensures { self.new ≡ rewound self.old }
@@ -243,6 +299,19 @@ impl Notebook {
 
     /// Takes what happens in the next step: how often it does, where that was not taken before.
     pub(crate) fn take(&mut self, processor: &Processor, machine: &Machine) -> Told
+        requires fits { FitsRun processor.now.scenario machine.now }
+        ensures takes { Takes processor.now.scenario machine.now self.old self.new }
+        ensures told { (kind : Kind) → told_of result kind ≡ taken_at processor.now.scenario machine.now self.old kind }
+    {
+        match plain_step(processor, machine, &self.past) {
+            Some(step) => self.take_plain(processor, machine, &step),
+            None => self.take_other(processor, machine),
+        }
+    }
+
+    /// The same, where the short test has not let the step pass.
+    #[inline(never)]
+    fn take_other(&mut self, processor: &Processor, machine: &Machine) -> Told
         requires fits { FitsRun processor.now.scenario machine.now }
         ensures takes { Takes processor.now.scenario machine.now self.old self.new }
         ensures told { (kind : Kind) → told_of result kind ≡ taken_at processor.now.scenario machine.now self.old kind }
@@ -336,44 +405,6 @@ impl Notebook {
             fixed_banks,
         }
     }
-}
-
-/// Whether one of the eleven kinds is so.
-fn is_some(
-    quotient: bool,
-    skip: bool,
-    no_word: bool,
-    in_erasable: bool,
-    no_handler: bool,
-    other_bank: bool,
-    not_kept: bool,
-    minus_zero: bool,
-    overwritten: bool,
-    shared: bool,
-    fixed_bank: bool,
-) -> bool
-    ensures { result ≡ (quotient || (skip ||
-        (no_word || (in_erasable || (no_handler
-        || (other_bank || (not_kept || (minus_zero || (overwritten || (shared || fixed_bank)))))))))) }
-{
-    quotient
-        || skip
-        || no_word
-        || in_erasable
-        || no_handler
-        || other_bank
-        || not_kept
-        || minus_zero
-        || overwritten
-        || shared
-        || fixed_bank
-}
-
-/// Whether one of two is so.
-fn either(one: bool, other: bool) -> bool
-    ensures { result ≡ (one || other) }
-{
-    one || other
 }
 
 /// The later of two steps, where something has happened in it for the first time.

@@ -15,6 +15,7 @@ const BANK_SIZE: u16 = 0o400;
 
 /// Whether an instruction reaches another bank than that of the place that its source names. What INDEX added something
 /// to is passed over, and so is a word that waited.
+#[inline(always)]
 pub(crate) fn reaches_other(named: &NamedPlaces, machine: &Machine, fetched: &Fetched) -> bool
     ensures { result ≡ reaches_other named.now machine.now fetched.now }
 {
@@ -48,6 +49,7 @@ pub(crate) fn names_erasable_in(named: &NamedPlaces, step: &NextStep) -> bool
 }
 
 /// The place that the source of the word at a place names.
+#[inline(always)]
 fn place_named(named: &NamedPlaces, place: &Linear) -> Option<Linear>
     ensures { result ≡ place_named named.now place.now }
 {

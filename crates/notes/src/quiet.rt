@@ -1,6 +1,12 @@
 //! Steps of which no note is made, or none but that another bank is reached: nearly all.
 
-ghost use Rattle.std.specs.Prelude.{◌≡◌};
+ghost use Rattle.std.specs.Prelude.{◌≡◌, IfSome, true};
+ghost use Rattle.words.specs.Numbers.{correct};
+ghost use Rattle.cpu.specs.Effects.{value_at};
+ghost use Rattle.cpu.specs.Next.{instruction_word};
+ghost use Rattle.cpu.specs.NextStep.{next_step};
+ghost use Rattle.cpu.specs.Profiles.{account_of};
+ghost use Rattle.cpu.specs.State.{FitsRun};
 ghost use Rattle.notes.specs.Notes.{is_at_word, is_plain, is_plain_code, is_plain_step, is_quiet_step, reaches_in};
 
 use crate::keys::reads_channel;
@@ -9,10 +15,75 @@ use crate::past::{Past, RESUME};
 use crate::sharing::{comes_by, is_passed};
 use crate::step::{divides, skips};
 use crate::zeros::counts_minus_zero;
-use cpu::{Fetched, Machine, NextStep, Processor};
+use cpu::{Account, Fetched, Machine, NextStep, Processor};
 use rope::Rope;
 use space::Linear;
+use words::Word;
 use yayul::NamedPlaces;
+
+/// The next step, where that surely is an instruction of which no note is made but that it reaches another bank. It is
+/// not asked for by `next_step`, so that it need not be written to memory. Where there is none, the step may still be
+/// such.
+#[inline(always)]
+pub(crate) fn plain_step(processor: &Processor, machine: &Machine, past: &Past) -> Option<NextStep>
+    requires fits { FitsRun processor.now.scenario machine.now }
+    ensures is { IfSome result (λ step. step ≡ next_step processor.now.scenario machine.now) }
+    ensures plain { IfSome result
+        (λ step. is_plain_step processor.now.scenario.rope machine.now past.now step ≡ true) }
+{
+    match processor.account(machine) {
+        Account::Place(place) => {
+            let fetched = fetched_at(processor, machine, place);
+            if is_plain(processor, machine, past, &fetched) {
+                Some(NextStep::Executes(fetched))
+            } else {
+                None
+            }
+        }
+        Account::Input | Account::Entry | Account::Waiting => None,
+    }
+}
+
+/// The instruction at the place to which Z leads, where no word waits.
+#[inline(always)]
+#[tactic(auto, using(crate::proofs::Calm::fetched_is))]
+fn fetched_at(processor: &Processor, machine: &Machine, place: Linear) -> Fetched
+    requires account { account_of processor.now.scenario machine.now ≡ Account.Place place }
+    ensures { NextStep.Executes result ≡ next_step processor.now.scenario machine.now }
+{
+    Fetched {
+        place,
+        word: word_at(processor, machine, &place),
+        extra: machine.extra(),
+        waited: false,
+        added: machine.waiting_sum(),
+    }
+}
+
+/// Its word, with what INDEX has added to it.
+#[inline(always)]
+#[tactic(auto, using(crate::proofs::Calm::word_is))]
+fn word_at(processor: &Processor, machine: &Machine, place: &Linear) -> Word
+    requires account { account_of processor.now.scenario machine.now ≡ Account.Place place.now }
+    ensures { result ≡ instruction_word processor.now.scenario.rope machine.now }
+{
+    match machine.waiting_sum() {
+        None => word_in(processor.rope(), machine, place),
+        Some(_) => processor.next_word(machine).0,
+    }
+}
+
+/// The word that a place holds.
+#[inline(always)]
+#[tactic(auto, unfolding(cpu::specs::Effects::value_at))]
+fn word_in(rope: &Rope, machine: &Machine, place: &Linear) -> Word
+    ensures { result ≡ correct (value_at rope.now machine.now place.now) }
+{
+    match place {
+        Linear::Erasable(place) => machine.word(*place),
+        Linear::Fixed(bank, offset) => rope.word(*bank, *offset),
+    }
+}
 
 /// Whether a step is an instruction of which no note is made.
 pub(crate) fn is_quiet_step(
@@ -54,6 +125,7 @@ pub(crate) fn reaches_in(named: &NamedPlaces, machine: &Machine, step: &NextStep
 
 /// Whether no note is made of an instruction but that it reaches another bank: it stands in fixed memory, reads no
 /// channel, and is none of the few that are told; where an interrupt is entered, the program came by before.
+#[inline(always)]
 fn is_plain(processor: &Processor, machine: &Machine, past: &Past, fetched: &Fetched) -> bool
     ensures { result ≡ is_plain processor.now.scenario.rope machine.now past.now fetched.now }
 {
@@ -64,6 +136,7 @@ fn is_plain(processor: &Processor, machine: &Machine, past: &Past, fetched: &Fet
 }
 
 /// Whether an instruction, wherever it stands, reads no channel and is none of the few that are told.
+#[inline(always)]
 fn is_plain_code(processor: &Processor, machine: &Machine, fetched: &Fetched) -> bool
     ensures { result ≡ is_plain_code processor.now.scenario.rope machine.now fetched.now }
 {
@@ -77,6 +150,7 @@ fn is_plain_code(processor: &Processor, machine: &Machine, fetched: &Fetched) ->
 }
 
 /// Whether a place is one of fixed memory at which a word stands.
+#[inline(always)]
 fn is_at_word(rope: &Rope, place: &Linear) -> bool
     ensures { result ≡ is_at_word rope.now place.now }
 {

@@ -37,6 +37,7 @@ pub(crate) fn executes_shared(machine: &Machine, past: &Past, fetched: &Fetched)
 }
 
 /// The interrupt by whose place an instruction comes that is executed outside of interrupts.
+#[inline(always)]
 pub(crate) fn comes_by(machine: &Machine, fetched: &Fetched) -> Option<Interrupt>
     ensures { result ≡ comes_by machine.now fetched.now }
 {
@@ -50,6 +51,7 @@ pub(crate) fn comes_by(machine: &Machine, fetched: &Fetched) -> Option<Interrupt
 }
 
 /// The interrupt that is entered at a place of fixed memory.
+#[inline(always)]
 fn entered_at(bank: Bank, offset: Offset) -> Option<Interrupt>
     ensures { result ≡ entered_at (Fixed bank offset) }
 {
@@ -78,6 +80,7 @@ pub(crate) fn marked(flags: [bool; FLAGS], interrupt: Option<Interrupt>) -> [boo
 
 /// Whether an instruction at the place of an interrupt, or at none, is known: the program came by there before, and no
 /// interrupt was entered.
+#[inline(always)]
 pub(crate) fn is_passed(past: &Past, interrupt: Option<Interrupt>) -> bool
     ensures { result ≡ is_passed past.now interrupt }
 {
@@ -86,6 +89,7 @@ pub(crate) fn is_passed(past: &Past, interrupt: Option<Interrupt>) -> bool
 }
 
 /// Whether the flag of an interrupt is set.
+#[inline(always)]
 fn is_marked(flags: &[bool; FLAGS], interrupt: Option<Interrupt>) -> bool
     ensures { result ≡ is_marked flags.now interrupt }
 {

@@ -1,6 +1,6 @@
 //! Whether something happens in a step that is seldom meant.
 
-ghost use Rattle.std.specs.Prelude.{◌≡◌, ◌*◌, ◌&&◌, ◌==◌, not};
+ghost use Rattle.std.specs.Prelude.{◌≡◌, ◌*◌, ◌&&◌, ◌==◌, nat_le, not};
 ghost use Rattle.rope.specs.Places.{stands};
 ghost use Rattle.notes.specs.Notes.{divides, happens_in, has_word, is_code_in_erasable, is_too_great, is_way_back};
 ghost use Rattle.notes.specs.Notes.{is_z, names_z, skips};
@@ -17,13 +17,18 @@ use feed::interrupt::Interrupt;
 use rope::Rope;
 use space::{Eras, Linear};
 use trace::{entry_place, quotient_fits};
-use words::Overflow;
+use words::{Overflow, Word};
 use yayul::NamedPlaces;
 
 /// The words of TC to fixed memory, from a first one up to one that is none.
 const FIRST_FIXED: u16 = 0o2000;
 
 const NO_TC: u16 = 0o10000;
+
+/// The first and the last word of DV.
+const FIRST_DIVISION: u16 = 0o10000;
+
+const LAST_DIVISION: u16 = 0o11777;
 
 /// Whether something of a kind happens in a step that a machine is to make, after what was before.
 pub(crate) fn happens(
@@ -117,6 +122,7 @@ fn is_way_back(fetched: &Fetched) -> bool
 }
 
 /// Whether TS skips: A overflows, and Z does not take it.
+#[inline(always)]
 pub(crate) fn skips(machine: &Machine, fetched: &Fetched) -> bool
     ensures { result ≡ skips machine.now fetched.now }
 {
@@ -137,16 +143,27 @@ fn names_z(machine: &Machine, fetched: &Fetched) -> bool
 }
 
 /// Whether the quotient of DV does not fit. A division by Z is none of these.
-#[tactic(auto, using(crate::proofs::Divisions::basic_never))]
+#[inline(always)]
+#[tactic(auto, using(crate::proofs::Divisions::basic_never, crate::proofs::Divisions::never_elsewhere))]
 pub(crate) fn divides(processor: &Processor, machine: &Machine, fetched: &Fetched) -> bool
     ensures { result ≡ divides processor.now.scenario.rope machine.now fetched.now }
 {
+    // (names are compared last)
     fetched.extra
+        && is_division(fetched.word)
         && instruction_name(fetched.word, fetched.extra) == b"DV".as_slice()
         && match named_address(fetched.word, fetched.extra) {
             Some(address) => is_too_great(processor, machine, &place_at(machine, address)),
             None => false,
         }
+}
+
+/// Whether a word may be DV, under extracode.
+fn is_division(word: Word) -> bool
+    ensures { result ≡ (nat_le 0o10000 word && nat_le word 0o11777) }
+{
+    let word = word.to_u16();
+    FIRST_DIVISION <= word && word <= LAST_DIVISION
 }
 
 /// Whether the quotient of A and L by what a place holds does not fit.

@@ -1,33 +1,37 @@
 //! The notes of a run in a notation.
 
-ghost use Rattle.std.specs.Prelude.{◌≡◌, ◌+◌, ◌<◌, ◌≤◌, ◌^◌, ◌++◌, true};
+ghost use Rattle.std.specs.Prelude.{◌≡◌, ◌+◌, ◌-◌, ◌<◌, ◌≤◌, ◌^◌, ◌++◌, true, OnOk};
 ghost use Rattle.words.specs.Devices.{Writes, failures_after};
 ghost use Rattle.cpu.specs.Next.{next};
 ghost use Rattle.cpu.specs.Run.{run};
 ghost use Rattle.cpu.specs.State.{FitsRun};
-ghost use Rattle.notes.specs.Counted.{Counted, Takes, taken_at, told_of};
-ghost use Rattle.notes.specs.RunNotes.{end_text, notes_text, text_after};
+ghost use Rattle.cover.specs.Tallies.{IsAccount};
+ghost use Rattle.notes.specs.Counted.{Counted, Takes, listed_text, taken_at, told_of};
+ghost use Rattle.notes.specs.RunNotes.{end_text, here, notes_text, steps_text, text_after};
 ghost use Rattle.notes.specs.Unread.{unread_text};
-ghost use Rattle.notes.specs.Waits.{kept_text};
+ghost use Rattle.notes.specs.Waits.{Keeps, kept_text};
 
+use crate::first_steps::FirstStep;
 use crate::lines::{Heading, end_lines, lines_of, what_in};
 use crate::notebook::{NOTHING, Notebook, Told};
 use crate::past::Past;
+use crate::step::account_of;
 use crate::unread::write_unread;
 use crate::waits::Waits;
+use cover::number_of;
 use cpu::{Machine, Processor, make_step};
 use json_text::Notation;
 use trace::PlaceNames;
 use words::{Write, WriteFailed, write_all};
 
-/// Writes the notes of the first steps of a run, whose steps are made again: as text as
+/// Writes the notes of the first steps of a run, of which some are made again: as text as
 /// `NOTE QUOTIENT   02,4004  10100  DV D               STEP 5 CYCLES 13 TIMES 1`: the kind, what its first step is,
 /// that step and the cycles after it, and how often; as JSON as an object with the same. They stand in the order of
 /// their first steps.
 ///
 /// What is told is taken from the notebook, and what is told of the run's end from the machine that stands there. After
 /// a failure a beginning of the text was written. Only steps up to the last are made in which something happened for
-/// the first time.
+/// the first time: many at once, where each such step is listed, else one by one.
 pub fn write_notes<W: Write>(
     notation: Notation,
     notebook: &mut Notebook,
@@ -46,6 +50,148 @@ pub fn write_notes<W: Write>(
     ensures meter { processor.new.meter ≤ processor.old.meter + steps }
 {
     let past = notebook.past();
+    write_steps(notation, notebook, names, processor, steps, out)?;
+    write_ending(notation, end, steps, notebook.waits(), &past, out)
+}
+
+/// Writes what is told of the first steps of a run.
+fn write_steps<W: Write>(
+    notation: Notation,
+    notebook: &mut Notebook,
+    names: &PlaceNames,
+    processor: &mut Processor,
+    steps: u64,
+    out: &mut W,
+) -> Result<(), WriteFailed>
+    requires few { steps ≤ 2 ^ 40 }
+    requires counted { Counted notebook.old.named processor.old.scenario steps notebook.old }
+    ensures keeps { OnOk result (Keeps processor.old.scenario steps notebook.new.waits) }
+    ensures written { W.told ≡ true → Writes (W.written out.old) (W.written out.new)
+        (steps_text notation names.now notebook.old.named processor.old.scenario steps) result }
+    ensures failures { W.failures out.new ≡ failures_after (W.failures out.old) result }
+    ensures meter { processor.new.meter ≤ processor.old.meter + steps }
+{
+    if notebook.firsts().is_complete() {
+        write_listed(
+            notation,
+            notebook,
+            notebook.firsts().steps(),
+            names,
+            processor,
+            steps,
+            out,
+        )
+    } else {
+        write_again(notation, notebook, names, processor, steps, out)
+    }
+}
+
+/// Writes what is told at the steps of a list, and makes those between them many at once.
+fn write_listed<W: Write>(
+    notation: Notation,
+    notebook: &Notebook,
+    firsts: &[FirstStep],
+    names: &PlaceNames,
+    processor: &mut Processor,
+    steps: u64,
+    out: &mut W,
+) -> Result<(), WriteFailed>
+    requires few { steps ≤ 2 ^ 40 }
+    requires firsts { firsts.now ≡ notebook.now.firsts.steps }
+    requires complete { notebook.now.firsts.complete ≡ true }
+    requires counted { Counted notebook.now.named processor.old.scenario steps notebook.now }
+    ensures written { W.told ≡ true → Writes (W.written out.old) (W.written out.new)
+        (steps_text notation names.now notebook.now.named processor.old.scenario steps) result }
+    ensures failures { W.failures out.new ≡ failures_after (W.failures out.old) result }
+    ensures meter { processor.new.meter ≤ processor.old.meter + steps }
+{
+    let mut machine = Machine::start();
+    let mut done = 0;
+    for first in firsts {
+        write_first(
+            notation,
+            notebook,
+            names,
+            processor,
+            &mut machine,
+            done,
+            first,
+            out,
+        )?;
+        done = first.number;
+    }
+    Ok(())
+}
+
+/// Makes steps up to a listed one and that, and writes what is told there.
+fn write_first<W: Write>(
+    notation: Notation,
+    notebook: &Notebook,
+    names: &PlaceNames,
+    processor: &mut Processor,
+    machine: &mut Machine,
+    done: u64,
+    first: &FirstStep,
+    out: &mut W,
+) -> Result<(), WriteFailed>
+    requires few { first.now.number ≤ 2 ^ 40 }
+    requires order { done < first.now.number }
+    requires stands { machine.old ≡ run processor.old.scenario done }
+    ensures scenario { processor.new.scenario ≡ processor.old.scenario }
+    ensures stands { machine.new ≡ run processor.old.scenario first.now.number }
+    ensures known { IsAccount (here processor.old.scenario (run processor.old.scenario (first.now.number - 1))) }
+    ensures written { W.told ≡ true → Writes (W.written out.old) (W.written out.new)
+        (listed_text notation names.now processor.old.scenario notebook.now first.now) result }
+    ensures failures { W.failures out.new ≡ failures_after (W.failures out.old) result }
+    ensures meter { processor.new.meter + done ≤ processor.old.meter + first.now.number }
+{
+    run_to(processor, machine, done, first.number - 1);
+    let number = number_of(account_of(&processor.next_step(machine)));
+    let told = notebook.told(number, &first.kinds);
+    write_told(
+        notation,
+        &told,
+        names,
+        processor,
+        machine,
+        first.number,
+        out,
+    )
+}
+
+/// Makes the steps of a run behind step `done` up to step `stop`.
+fn run_to(processor: &mut Processor, machine: &mut Machine, done: u64, stop: u64)
+    requires order { done ≤ stop }
+    requires few { stop ≤ 2 ^ 40 }
+    requires stands { machine.old ≡ run processor.old.scenario done }
+    ensures scenario { processor.new.scenario ≡ processor.old.scenario }
+    ensures stands { machine.new ≡ run processor.old.scenario stop }
+    ensures meter { processor.new.meter + done ≤ processor.old.meter + stop }
+{
+    let mut at = done;
+    while at < stop {
+        (at, _) = processor.run_on(machine, at, stop);
+    }
+}
+
+/// Makes the steps again up to the last in which something happened for the first time, and writes what is told at
+/// each. What is told is taken from the notebook.
+fn write_again<W: Write>(
+    notation: Notation,
+    notebook: &mut Notebook,
+    names: &PlaceNames,
+    processor: &mut Processor,
+    steps: u64,
+    out: &mut W,
+) -> Result<(), WriteFailed>
+    requires few { steps ≤ 2 ^ 40 }
+    requires counted { Counted notebook.old.named processor.old.scenario steps notebook.old }
+    ensures keeps { OnOk result (Keeps processor.old.scenario steps notebook.new.waits) }
+    ensures written { W.told ≡ true → Writes (W.written out.old) (W.written out.new)
+        (steps_text notation names.now notebook.old.named processor.old.scenario steps) result }
+    ensures failures { W.failures out.new ≡ failures_after (W.failures out.old) result }
+    ensures meter { processor.new.meter ≤ processor.old.meter + steps }
+{
     notebook.rewind();
     let last = notebook.last();
     let mut machine = Machine::start();
@@ -62,7 +208,7 @@ pub fn write_notes<W: Write>(
         )?;
         done += 1;
     }
-    write_ending(notation, end, steps, notebook.waits(), &past, out)
+    Ok(())
 }
 
 /// Writes what is told of a run's end.

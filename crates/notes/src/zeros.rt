@@ -40,6 +40,7 @@ pub(crate) fn parts_zeros(processor: &Processor, machine: &Machine, fetched: &Fe
 }
 
 /// Whether CCS reads -0.
+#[inline(always)]
 pub(crate) fn counts_minus_zero(processor: &Processor, machine: &Machine, fetched: &Fetched) -> bool
     ensures { result ≡ counts_minus_zero processor.now.scenario.rope machine.now fetched.now }
 {
@@ -52,6 +53,7 @@ pub(crate) fn counts_minus_zero(processor: &Processor, machine: &Machine, fetche
 }
 
 /// Whether an instruction is CCS.
+#[inline(always)]
 fn is_ccs(fetched: &Fetched) -> bool
     ensures { result ≡ is_ccs fetched.now }
 {

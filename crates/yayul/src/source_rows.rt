@@ -1,11 +1,13 @@
 //! The lines of a source as rows of its listing.
 
 ghost use Rattle.std.specs.Prelude.{◌≡◌, true, map, is_some, IfOk};
+ghost use Rattle.rope.specs.Places.{Words};
 ghost use Rattle.agc_text.specs.Lines.{lines};
 ghost use Rattle.words.specs.Devices.{Writes, failures_after};
 ghost use Rattle.yayul.specs.Layout.{start};
 ghost use Rattle.yayul.specs.Listing.{rows};
 ghost use Rattle.yayul.specs.ListingObjects.{line_in};
+ghost use Rattle.yayul.specs.Named.{named_places};
 ghost use Rattle.yayul.specs.PlaceRows.{line_of, no_source, row_after};
 ghost use Rattle.yayul.specs.Inside.Representation.{lines_show, shown_by_mark};
 
@@ -13,12 +15,14 @@ use crate::language::Language;
 use crate::listing::write_rows;
 use crate::margin::Margin;
 use crate::mark::Marks;
+use crate::named::NamedPlaces;
 use crate::place_rows::{first_to_show, line_after, write_place_row};
 use json_text::Notation;
 use rope::Rope;
 use space::Linear;
-use std::alloc::Global;
+use std::alloc::{AllocError, Global};
 use std::marker::Model;
+use symbols::Symbols;
 use words::{Word, Write, WriteFailed, write_all};
 
 /// The lines of a source, with what a listing shows beside each.
@@ -66,6 +70,28 @@ impl SourceRows {
             source: Vec::new(alloc),
             marks: Marks::new(alloc),
         }
+    }
+
+    /// The places that the words of a program name which has these lines, and some symbols. An `Err` is that memory ran
+    /// out.
+    pub fn named_places(
+        &self,
+        alloc: Global,
+        symbols: &Symbols,
+    ) -> Result<NamedPlaces, AllocError>
+        ensures { (rope : Words) → IfOk result (λ named. named ≡ named_places (record {
+          rope = rope;
+          symbols = symbols.now;
+          source = self.now;
+        })) }
+    {
+        NamedPlaces::of_lines(
+            alloc,
+            self.language,
+            symbols,
+            &self.source,
+            self.marks.as_slice(),
+        )
     }
 
     /// Writes the row of a place after some bytes, where a line shows the place, and answers whether one does. The word

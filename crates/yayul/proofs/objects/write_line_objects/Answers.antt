@@ -1,4 +1,4 @@
-use Rattle.std.proofs.Common.{◌++◌, None, Some, drop}
+use Rattle.std.proofs.Common.{None, Some, drop}
 use Rattle.std.specs.List.{flat_map}
 use Rattle.std.proofs.lemmas.Result.{err_from_is_err_and}
 use Rattle.words.proofs.Texts.{Writes-after, beginning-longer}

@@ -8,4 +8,4 @@ returns c = λ scenario.
     (of_kinds _ c.in_ok-new.ensures c.in_ok-new-2.ensures c.in_ok-new-3.ensures c.in_ok-new-4.ensures c.in_ok-new-5.ensures
     c.in_ok-new-6.ensures c.in_ok-new-7.ensures c.in_ok-new-8.ensures c.in_ok-new-9.ensures c.in_ok-new-10.ensures c.in_ok-new-11.ensures)
     c.none.ensures
-    c.none-2.ensures refl refl
+    c.none-2.ensures refl refl c.in_ok-new-12.ensures

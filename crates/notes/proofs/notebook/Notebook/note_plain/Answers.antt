@@ -16,6 +16,7 @@ returns-else-reaches_in c =
       past = c.self.inside.past;
       steps = c.self.inside.steps;
       last = c.self.inside.last;
+      firsts = c.self.inside.firsts;
     } in
     let new : Book = record old { steps = old.steps + 1 } in
     let held = subst (λ (book : Book). is_plain_step c.args.processor.now.scenario.rope c.args.machine.now book.past c.args.step.now ≡ true)

@@ -2,8 +2,9 @@ use Rattle.std.proofs.Common.{◌∙◌, ap, subst, sym, refl, [], ◌∷◌, �
 use Rattle.notes.specs.declared.kind.Kind.TheVariants.{Quotient, Skip, NoWord, InErasable, NoHandler, OtherBank, NotKept, MinusZero}
 use Rattle.notes.specs.declared.kind.Kind.TheVariants.{Overwritten, Shared, FixedBank}
 use Rattle.notes.specs.Notes.{happens_in}
-use Rattle.notes.specs.Counted.{Book, counts_of, is_first, Notes}
-use Rattle.notes.proofs.Counting.{noted, of_kinds, small_at, some_by}
+use Rattle.notes.specs.declared.first_steps.Firsts.{Firsts}
+use Rattle.notes.specs.Counted.{Book, Lists, counts_of, is_first, some_first, Notes}
+use Rattle.notes.proofs.Counting.{firsts_are, noted, of_kinds, small_at}
 use Rattle.notes.proofs.notebook.Notebook.note_step.Goals as goal
 
 pub count-first_quotient-requires-clause-small : goal.count-first_quotient-requires-clause-small
@@ -73,6 +74,7 @@ returns c =
       past = c.self.inside.past;
       steps = c.self.inside.steps;
       last = c.self.inside.last;
+      firsts = c.self.inside.firsts;
     } in
     let new : Book = record {
       named = c.self.inside.named;
@@ -85,9 +87,10 @@ returns c =
       past = c.note-2.new.self;
       steps = c.self.inside.steps + 1;
       last = c.latest-self-inside.result;
+      firsts = c.list.new.self;
     } in
     let number = c.number_of-number.result in
-    let some = some_by (λ kind. is_first (counts_of old kind) number
+    let firsts = firsts_are (λ kind. is_first (counts_of old kind) number
     (happens_in old.named c.args.processor.now.scenario.rope c.args.machine.now old.past kind c.args.step.now)) _ _ _ _ _ _ _ _ _ _ _
     (ap (λ b. is_first (counts_of old Quotient) number b) (sym c.happens-divides.ensures) ∙ sym c.count-first_quotient.ensures.first)
     (ap (λ b. is_first (counts_of old Skip) number b) (sym c.happens-is_skipping.ensures) ∙ sym c.count-first_skip.ensures.first)
@@ -104,9 +107,10 @@ returns c =
     ∙ sym c.count-first_overwritten.ensures.first)
     (ap (λ b. is_first (counts_of old Shared) number b) (sym c.happens-shares.ensures) ∙ sym c.count-first_shared.ensures.first)
     (ap (λ b. is_first (counts_of old FixedBank) number b) (sym c.happens-reaches_fixed.ensures)
-    ∙ sym c.count-first_fixed_bank.ensures.first)
-    ∙ sym c.is_some-is_first.ensures in
-    let last = c.latest-self-inside.ensures ∙ ap (λ b. if b then new.steps else old.last) (sym some) in
+    ∙ sym c.count-first_fixed_bank.ensures.first) in
+    let last = c.latest-self-inside.ensures
+    ∙ ap (λ b. if b then new.steps else old.last) (sym (ap some_first firsts ∙ sym c.has_some-is_first.ensures)) in
+    let listed = subst (λ (kinds : Firsts). Lists kinds new.steps old.firsts new.firsts) (sym firsts) c.list.ensures in
     subst (λ old. Notes c.args.processor.now.scenario c.args.machine.now old new) c.self.view_is
     (noted c.args.processor.now.scenario c.args.machine.now c.args.step.now c.account_of.result c.number_of-number.result old new
     c.requires.step c.account_of.ensures c.number_of-number.ensures.number c.number_of-number.ensures.known
@@ -121,4 +125,4 @@ returns c =
     (rw c.happens-overwrites.ensures at c.count-first_overwritten.ensures.counted)
     (rw c.happens-shares.ensures at c.count-first_shared.ensures.counted)
     (rw c.happens-reaches_fixed.ensures at c.count-first_fixed_bank.ensures.counted))
-    refl c.note.ensures c.note-2.ensures refl last)
+    refl c.note.ensures c.note-2.ensures refl last listed)

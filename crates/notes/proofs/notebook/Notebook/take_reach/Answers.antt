@@ -20,6 +20,7 @@ returns-clause-takes c =
       past = c.self.inside.past;
       steps = c.self.inside.steps;
       last = c.self.inside.last;
+      firsts = c.self.inside.firsts;
     } in
     let new : Book = record {
       named = c.self.inside.named;
@@ -31,6 +32,7 @@ returns-clause-takes c =
       past = c.self.inside.past;
       steps = c.self.inside.steps;
       last = c.self.inside.last;
+      firsts = c.self.inside.firsts;
     } in
     let number = c.number_of-number.result in
     let held = subst (λ (book : Book). is_plain_step c.args.processor.now.scenario.rope c.args.machine.now book.past c.args.step.now ≡ true)
@@ -71,6 +73,7 @@ returns-clause-told c =
       past = c.self.inside.past;
       steps = c.self.inside.steps;
       last = c.self.inside.last;
+      firsts = c.self.inside.firsts;
     } in
     let out : Told = record {
       quotients = 0;

@@ -17,6 +17,7 @@ returns-clause-takes c =
       past = c.note.new.self;
       steps = c.self.inside.steps;
       last = c.self.inside.last;
+      firsts = c.self.inside.firsts;
     } in
     subst (λ old. Takes c.args.processor.now.scenario c.args.machine.now old new) c.self.view_is
     (takes c.args.processor.now.scenario c.args.machine.now c.args.step.now c.account_of.result c.number_of-number.result _ new
@@ -58,6 +59,7 @@ returns-clause-told c =
       past = c.self.inside.past;
       steps = c.self.inside.steps;
       last = c.self.inside.last;
+      firsts = c.self.inside.firsts;
     })
     (told_of out)
     c.requires.step c.account_of.ensures c.number_of-number.ensures.number

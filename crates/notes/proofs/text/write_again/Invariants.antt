@@ -3,7 +3,7 @@ use Rattle.audit.proofs.PartTexts.{front}
 use Rattle.cpu.specs.Run.{run}
 use Rattle.notes.specs.Counted.{Left}
 use Rattle.notes.specs.RunNotes.{step_text}
-use Rattle.notes.proofs.text.write_notes.Given as goal
+use Rattle.notes.proofs.text.write_again.Given as goal
 
 abbrev pub invariant-loop-done : goal.invariant-loop-done
 invariant-loop-done g l = record {
