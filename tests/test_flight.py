@@ -39,6 +39,15 @@ REFUSED = [
     (" -DNCHAN 1000", 25), ("X CHECK= 5;X OCT 1", 14), (" CHECKS= X", 15),
 ]
 
+# A module with lines of the interpretive language, a semicolon between two, and its holes, by hand: 4001 to 4004 up to
+# EXIT, and in bank 4 from VSUB on those that are no constant, up to CA; and two behind DEC.
+MODULE = (
+    "# A module of the interpretive language;RN EQUALS 1400;VV EQUALS 1406;X EQUALS 1414; BLOCK 02;START TC INTPRET; VLOAD UNIT# two operators; RN;"
+    "# between;KEEP STORE VV +2; EXIT; CA FIVE; TC START;INTPRET RETURN;FIVE OCT 5; SETLOC 20000;VSUB STQ BOFF; X +1; 2D; TAB -6,1;LAB VV;; STODL* 0,1; OCT 7;"
+    " RN -1,2; GOTO; LAB; CADR VSUB; CA RN; SETLOC 20100;TAB DEC 3; DLOAD EXIT; -6D; TS X; NOOP"
+)
+HOLES = ["02,4001", "02,4002", "02,4003", "02,4004"] + [f"04,{address:04o}" for address in (0o2000, 0o2001, 0o2002, 0o2003, 0o2004, 0o2005, 0o2007, 0o2010, 0o2011, 0o2101, 0o2102)]
+
 
 class Flight(Case):
     """Forms of flight programs, and sources that have none."""
@@ -70,6 +79,52 @@ class Flight(Case):
                 self.assertEqual(ran[0].returncode, ran[1].returncode)
                 if ran[0].returncode == 0:
                     self.assertEqual((ran[0].stdout, read(plain)), (ran[1].stdout, read(flight)))
+
+    def test_holes(self):
+        """Each line of the interpretive language is a word, which is not made; and a filling gives it."""
+        status, listing, err = self.asm(MODULE, "--flight", "--holes")
+        self.assertEqual((status, err), (0, ""))
+        told = listing[listing.index("# HOLE "):].splitlines()
+        self.assertEqual(told, [f"# HOLE {place} 00000" for place in HOLES] + [f"# HOLES {len(HOLES)}"])
+        rows = {line[6:13]: line[14:] for line in listing.splitlines() if line[6:7].isdigit()}
+        self.assertEqual(rows["02,4003"], "00000  KEEP OCT 0 # KEEP STORE VV +2")
+        # The words around the holes: TC INTPRET, CA FIVE, TC START; CADR VSUB and CA RN, a constant and TS X.
+        around = {"02,4000": 0o04007, "02,4005": 0o34010, "02,4006": 0o04000, "04,2006": 7, "04,2012": 0o10000, "04,2013": 0o31400, "04,2100": 3, "04,2103": 0o55414}
+        self.assertEqual({place: int(rows[place][:5], 8) for place in around}, around)
+        self.assertEqual(self.asm(MODULE, "--flight")[0], 1)
+
+    def test_filled(self):
+        """A module whose holes are filled from a rope with the same words elsewhere is that rope."""
+        lines, holes = MODULE.split(";"), iter(range(1, 99))
+        listing = self.asm(MODULE, "--flight", "--holes")[1].splitlines()
+        hole_lines = {int(line[:5]) for line in listing if " OCT 0 # " in line and line[:5].strip().isdigit()}
+        words = [f"{'KEEP' if 'KEEP' in line else 'VSUB' if line.startswith('VSUB') else 'LAB' if line.startswith('LAB') else ''} OCT {next(holes)}1" if number in hole_lines else line for number, line in enumerate(lines, 1)]
+        words = [line.replace("81", "71").replace("91", "61") for line in words]
+        status, _, err = self.asm(";".join(words), "--flight")
+        self.assertEqual((status, err), (0, ""))
+        rope = read(f"{self.room}/flight.img")
+        write(f"{self.room}/rope.img", rope)
+        status, listing, err = self.asm(MODULE, "--flight", "--holes", "--fill", f"{self.room}/rope.img")
+        self.assertEqual((status, err, read(f"{self.room}/flight.img")), (0, "", rope))
+        self.assertNotIn("# HOLE 02,4001 00000", listing)
+        status, listing, err = self.asm(MODULE, "--flight", "--holes", "--fill", f"{self.room}/flight.agc")
+        self.assertEqual((status, listing), (1, ""))
+        for options in (("--holes",), ("--flight", "--fill", f"{self.room}/rope.img"), ("--flight", "--holes", "--sums")):
+            self.assertEqual(self.asm(MODULE, *options)[0], 2)
+
+    def test_no_holes(self):
+        """A source without such lines comes to the same image and listing, and has no hole."""
+        for path in sorted(glob.glob(f"{EXAMPLES}/flight/*.agc")):
+            text = read(path).decode().replace(";", ",")
+            plain, image = self.asm(text, "--flight"), read(f"{self.room}/flight.img")
+            with self.subTest(path):
+                self.assertEqual((self.asm(text, "--flight", "--holes"), read(f"{self.room}/flight.img")), ((0, plain[1] + "# HOLES 0\n", ""), image))
+
+    def test_refused_beside_holes(self):
+        """Names that are less sure are refused as without --holes."""
+        for text, line in ((" BOF X;X OCT 5", 1), (" DLOAD; ITA X", 2), (" EXIT; RN", 2), (" DLOAD; TC X; RN;X OCT 5", 3)):
+            with self.subTest(text):
+                self.assertEqual(self.asm(text.join((" SETLOC 4000;", "")), "--flight", "--holes")[2], f"agcws: E15 LINE {line + 1}\n")
 
 
 if __name__ == "__main__":

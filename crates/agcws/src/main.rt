@@ -26,7 +26,7 @@ use ropes::{
     align, carry, compare, compare_only, find, show_damages, show_mended, show_parity, show_sums,
     show_sums_of_both_forms, show_words, upgrade,
 };
-use sources::{assemble, assemble_with_sums, check};
+use sources::{assemble, assemble_holed, assemble_with_sums, check};
 use std::alloc::AllocError;
 use std::process::ExitCode;
 use std::{env, fs, io};
@@ -130,6 +130,7 @@ fn follow(rt: &HostRuntime, plan: &Plan<'_>) -> Result<u8, WorkshopFault> {
     match plan {
         Plan::Assemble(assembly) => assemble(rt, assembly),
         Plan::AssembleWithSums(assembly) => assemble_with_sums(rt, assembly),
+        Plan::AssembleWithHoles(assembly, filling) => assemble_holed(rt, assembly, *filling),
         Plan::Run(it) => run(rt, it),
         Plan::Trace(tracing) => trace(rt, tracing),
         Plan::Cover(profile) => cover(rt, profile),

@@ -1,17 +1,18 @@
 //! The subcommands that assemble or check a source.
 
+use crate::dumps::{AS_WRITTEN, opened_bytes};
 use crate::files::{ended, not_opened, opened, refused_file, with_stdout};
 use crate::target::wrong_target;
 use crate::{DONE, REFUSED, refuse_arguments};
 use image_file::ImageFile;
 use json_text::Notation;
-use plans::{Assembly, Check};
+use plans::{Assembly, Check, Image};
 use std::cell::Cell;
 use std::fs;
 use words::{MOST_BYTES, Read, Std, Write, read_text};
 use workshop::{
-    Tally, WorkshopFault, asm_engine, asm_with_check_words, check_feed, check_source,
-    report_no_room, write_tally, xref_engine,
+    Form, Rope, Tally, Version, WorkshopFault, asm_engine, asm_with_check_words, asm_with_holes,
+    check_feed, check_source, report_no_room, write_tally, xref_engine,
 };
 
 /// `agcws asm [--flight] [--rope VERSION] SRC ROPE`. The file ROPE is made at the first write, so that a refused source
@@ -85,6 +86,64 @@ pub fn assemble_with_sums(rt: &HostRuntime, assembly: &Assembly<'_>) -> Result<u
         Some(bank) => report_no_room(bank, &mut Std::new(rt.stderr())),
         None => Ok(DONE),
     }
+}
+
+/// `agcws asm --flight --holes [--fill FILE] [--rope VERSION] SRC ROPE`: files as without `--holes`. A fault of the
+/// image of which holes have their words is told by its name.
+pub fn assemble_holed(
+    rt: &HostRuntime,
+    assembly: &Assembly<'_>,
+    filling: Option<&str>,
+) -> Result<u8, WorkshopFault> {
+    let source = assembly.source;
+    if let Some(wrong) = wrong_target(rt, source.path, assembly.rope) {
+        return refuse_arguments(rt, wrong.of_an_assembly());
+    }
+    let mut file = Std::new(fs::open(rt, source.path).map_err(not_opened)?);
+    let text = read_text(rt.alloc(), &mut file, MOST_BYTES)?;
+    let Some(name) = filling else {
+        return write_holed(rt, assembly, &text, None);
+    };
+    match filling_of(rt, name, assembly.version) {
+        Ok(words) => write_holed(rt, assembly, &text, Some(&words)),
+        Err(fault) => refused_file(rt, name, fault),
+    }
+}
+
+/// The words of an image, or of a text of octal words.
+fn filling_of(rt: &HostRuntime, path: &str, version: Version) -> Result<Rope, WorkshopFault> {
+    let image = Image {
+        path,
+        form: Form::AsWritten,
+        layout: AS_WRITTEN,
+        version,
+    };
+    let mut file = Std::new(opened_bytes(rt, &image)?);
+    Ok(Rope::read(rt.alloc(), &mut file, version)?)
+}
+
+/// Assembles a source with holes, and writes what comes of it.
+fn write_holed(
+    rt: &HostRuntime,
+    assembly: &Assembly<'_>,
+    text: &[u8],
+    filling: Option<&Rope>,
+) -> Result<u8, WorkshopFault> {
+    let refused = Cell::new(false);
+    let mut image = Std::new(ImageFile::new(rt, assembly.rope, &refused));
+    with_stdout(rt, |listing| {
+        let outcome = asm_with_holes(
+            rt.alloc(),
+            text,
+            filling,
+            &mut image,
+            listing,
+            assembly.version,
+        );
+        ended(outcome, &refused)?;
+        tell_uses(rt, assembly, text, listing)
+    })?;
+    Ok(DONE)
 }
 
 /// `agcws check [--flight] [--unused] [--json] SRC [FEED ..]`. All files are opened before anything is read. A file

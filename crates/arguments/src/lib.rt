@@ -102,7 +102,7 @@ pub struct ProgramArguments<'a> {
     pub feed: &'a str,
 }
 
-/// `agcws asm [--flight] [--sums] [--xref] [--rope VERSION] SRC ROPE`.
+/// `agcws asm [--flight [--holes [--fill FILE]]] [--sums] [--xref] [--rope VERSION] SRC ROPE`.
 #[derive(Clone, Copy)]
 pub struct AsmArguments<'a> {
     /// The file of the source.
@@ -117,6 +117,10 @@ pub struct AsmArguments<'a> {
     pub has_sums: bool,
     /// `--xref`: whether it is told what lines do with each name.
     pub has_xref: bool,
+    /// `--holes`: whether lines of the interpretive language are holes.
+    pub has_holes: bool,
+    /// `--fill`: the file of the image of which the holes take their words.
+    pub filling: Option<&'a str>,
 }
 
 /// `agcws run [--end] [--progress] [--until-idle | --notes [--json]] .. SRC FEED N`.

@@ -24,6 +24,7 @@ use crate::names::EXTENDED;
 use crate::names::FEED;
 use crate::names::FEEDS;
 use crate::names::FILES;
+use crate::names::FILLING;
 use crate::names::FIND;
 use crate::names::FLIGHT;
 use crate::names::FORM;
@@ -73,6 +74,7 @@ use crate::names::WHATIF;
 use crate::names::WHERE;
 use crate::names::WHY;
 use crate::names::WITH;
+use crate::names::WITH_HOLES;
 use crate::names::WITH_SUMS;
 use crate::names::WITH_XREF;
 use crate::names::WORDS;
@@ -149,6 +151,8 @@ fn asm<'a>(matches: &ArgMatches<'a>) -> Option<AsmArguments<'a>> {
         is_flight: matches.get_flag(FLIGHT),
         has_sums: matches.get_flag(WITH_SUMS),
         has_xref: matches.get_flag(WITH_XREF),
+        has_holes: matches.get_flag(WITH_HOLES),
+        filling: matches.get_str(FILLING),
     })
 }
 

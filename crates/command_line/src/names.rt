@@ -167,6 +167,12 @@ pub const WITH_SUMS: &str = "WITH_SUMS";
 /// That it is told what lines do with each name.
 pub const WITH_XREF: &str = "WITH_XREF";
 
+/// That lines of the interpretive language are holes.
+pub const WITH_HOLES: &str = "WITH_HOLES";
+
+/// The image of which holes take their words.
+pub const FILLING: &str = "FILLING";
+
 /// That a run ends where the program idles.
 pub const UNTIL_IDLE: &str = "UNTIL_IDLE";
 

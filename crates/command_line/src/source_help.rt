@@ -19,6 +19,9 @@ pub const ASM_HELP: &str = "Files:
         one, as flight ropes have them: two TC to themselves, and the word that
         makes the bank's sum its number, or the complement of its number where
         the sum before it is negative.
+  FILE  an image of the version of ROPE, or a text of octal words.
+        With --holes each line of the interpretive language is a hole: a word
+        that is not made, but is 00000, or the word of FILE at its place.
 
 Output: the listing, a row for each line of the source with its number, its
 place and its word in octal, and then the symbols. With --xref after them, as
@@ -27,7 +30,9 @@ for each line that mentions it, as
   #     3 SUM      DEFINED
 with the line's number, the name, and DEFINED, or what the line does with it:
 READ, WRITE or CHANGE, which reads and writes; JUMP; ADDRESS, which a constant
-is; CHANNEL; or DIRECTIVE, which makes no word.
+is; CHANNEL; or DIRECTIVE, which makes no word. With --holes the rows of holes
+show OCT 0 and the line, and after the symbols each stands with the word of the
+image, as # HOLE 02,4001 00000, and how many they are, as # HOLES 3.
 
 Exit status:
   0  done

@@ -1,8 +1,8 @@
 //! The subcommands of sources and tests, and their arguments.
 
 use crate::names::{
-    ASM, CHECK, EXPECT, EXPLAIN, FEED, FEEDS, FILES, JSON, JUNIT, NUMBER, ROPE, TAP, UNUSED,
-    WITH_SUMS, WITH_XREF,
+    ASM, CHECK, EXPECT, EXPLAIN, FEED, FEEDS, FILES, FILLING, FLIGHT, JSON, JUNIT, NUMBER, ROPE,
+    TAP, UNUSED, WITH_HOLES, WITH_SUMS, WITH_XREF,
 };
 use crate::row::{Row, Subcommand, Value};
 use crate::rows::{FLAG, FLIGHT_OPTION, NEEDED, PLAIN, SOURCE_ARGUMENT, VERSION_OPTION};
@@ -18,7 +18,7 @@ pub fn asm() -> Subcommand {
     }
 }
 
-static ASM_ROWS: [Row; 6] = [
+static ASM_ROWS: [Row; 8] = [
     FLIGHT_OPTION,
     SOURCE_ARGUMENT,
     Row {
@@ -37,6 +37,22 @@ static ASM_ROWS: [Row; 6] = [
         long: Some("xref"),
         help: "Tells which lines define and use each symbol",
         ..FLAG
+    },
+    Row {
+        name: WITH_HOLES,
+        long: Some("holes"),
+        needs: &[FLIGHT],
+        conflicts: &[WITH_SUMS],
+        help: "Lines of the interpretive language are holes",
+        ..FLAG
+    },
+    Row {
+        name: FILLING,
+        long: Some("fill"),
+        value_names: &["FILE"],
+        needs: &[WITH_HOLES],
+        help: "The rope image of which holes have their words",
+        ..PLAIN
     },
     VERSION_OPTION,
 ];

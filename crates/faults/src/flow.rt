@@ -262,7 +262,7 @@ pub(crate) fn gives_word(parts: &Reading<'_>) -> bool
 }
 
 /// Instructions.
-pub(crate) fn is_instruction(parts: &Reading<'_>) -> bool
+pub fn is_instruction(parts: &Reading<'_>) -> bool
     ensures { result ≡ is_instruction (parts_in parts.now) }
 {
     gives_word(parts) && !is_constant(parts.role)

@@ -9,6 +9,7 @@ ghost use Rattle.faults.specs.Interpretive.{is_of_operator, is_operand_alone, ne
 ghost use Rattle.faults.specs.Interpretive.{is_of_interpreter, others, first_and_others, count_before_first};
 ghost use Rattle.faults.specs.Interpretive.{interpretive_cause};
 ghost use Rattle.faults.specs.Views.{cause_in};
+ghost use Rattle.faults.specs.Warnings.{has_operator};
 
 use crate::causes::{Cause, text_of};
 use crate::findings::text_at;
@@ -90,6 +91,13 @@ fn push_others(
     Ok(())
 }
 
+/// Whether the operator is one of the interpretive language.
+pub fn has_interpretive_operator(parts: &Reading<'_>) -> bool
+    ensures { result ≡ has_operator interpretive_operators (parts_in parts.now) }
+{
+    has_operator(interpretive_operators(), parts)
+}
+
 // Whether a fault is of an operator of the interpretive language, which is none of a flight source.
 fn is_interpretive(language: Language, texts: &[&[u8]], fault: &Finding) -> bool
     ensures { result ≡ is_interpretive language (map (λ t. t.now) texts.now) fault.now }
@@ -143,8 +151,8 @@ fn operand_line(texts: &[&[u8]], line: u32) -> u64
     }
 }
 
-// EXIT, after which lines of the machine's own language stand.
-fn is_exit(parts: &Reading<'_>) -> bool
+/// EXIT, after which lines of the machine's own language stand.
+pub fn is_exit(parts: &Reading<'_>) -> bool
     ensures { result ≡ is_exit (parts_in parts.now) }
 {
     text_of(parts.operator) == b"EXIT".as_slice()

@@ -36,6 +36,8 @@ pub use cautions::warning_of;
 pub use explaining::{all_headings, explanation, warning_explanation};
 pub use feeds::feed_report;
 pub use findings::{counts, refused_file, report};
+pub use flow::is_instruction;
+pub use interpretive::{has_interpretive_operator, is_exit};
 pub use joining::joined;
 pub use mistakes::warnings;
 pub use nearness::near_in;

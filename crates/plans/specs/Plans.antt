@@ -39,7 +39,7 @@ use Rattle.plans.specs.declared.plan.Plan.TheVariants.{Assemble, AssembleWithSum
 use Rattle.plans.specs.declared.plan.Plan.TheVariants.{Check, Explain, Upgrade, Show, Compare, CompareOnly, Sum, SumBothForms, ShowParity}
 use Rattle.plans.specs.declared.plan.Plan.TheVariants.{ShowDamages, ShowMended, NoSteps, TooManySteps, Access, Bound}
 use Rattle.plans.specs.declared.plan.Plan.TheVariants.{Delays, Differ, Align, Carry}
-use Rattle.plans.specs.declared.plan.Plan.TheVariants.{Find, Expect, WhatIf}
+use Rattle.plans.specs.declared.plan.Plan.TheVariants.{AssembleWithHoles, Find, Expect, WhatIf}
 use Rattle.arguments.specs.declared.AlignArguments.{AlignArguments}
 use Rattle.arguments.specs.declared.FindArguments.{FindArguments}
 use Rattle.plans.specs.declared.plan.Assembly.{Assembly}
@@ -235,9 +235,12 @@ assembly_of a = record {
   tells_uses = a.has_xref;
 }
 
--- an assembly: with --sums with check words
+-- an assembly: with --holes with holes, which take their words of the image of --fill, and with --sums with check words
 abbrev pub asm_of : AsmArguments → Plan
-asm_of a = if a.has_sums then AssembleWithSums (assembly_of a) else Assemble (assembly_of a)
+asm_of a =
+    if a.has_holes then AssembleWithHoles (assembly_of a) a.filling
+    else if a.has_sums then AssembleWithSums (assembly_of a)
+    else Assemble (assembly_of a)
 
 -- a check
 abbrev pub check_of : CheckArguments → Plan

@@ -117,7 +117,9 @@ fn asm<'a>(asked: AsmArguments<'a>) -> Plan<'a>
         version: version_named(asked.version),
         tells_uses: asked.has_xref,
     };
-    if asked.has_sums {
+    if asked.has_holes {
+        Plan::AssembleWithHoles(assembly, asked.filling)
+    } else if asked.has_sums {
         Plan::AssembleWithSums(assembly)
     } else {
         Plan::Assemble(assembly)

@@ -14,6 +14,9 @@ pub enum Plan<'a> {
     Assemble(Assembly<'a>),
     /// A source is assembled to an image with check words.
     AssembleWithSums(Assembly<'a>),
+    /// A source with lines of the interpretive language is assembled, which have their words of an image, where its
+    /// file is given.
+    AssembleWithHoles(Assembly<'a>, Option<&'a str>),
     /// A program is run.
     Run(Run<'a>),
     /// A run is traced.

@@ -10,6 +10,7 @@ mod WordsAsShown
 mod Profiles
 pub mod Telling
 mod CheckWordsMade
+mod HolesMade
 mod ProfileWritten
 mod RunReached
 mod NotedSteps

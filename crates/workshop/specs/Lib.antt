@@ -7,6 +7,7 @@ pub mod DelayRuns
 pub mod DifferRuns
 pub mod Checks
 pub mod Crossing
+pub mod Holed
 pub mod Debugging
 pub mod Executed
 pub mod Expectations

@@ -17,6 +17,7 @@ mod engine;
 mod executed;
 mod expecting;
 mod fault;
+mod holed;
 mod idling;
 mod inputs;
 pub mod laws;
@@ -59,6 +60,7 @@ pub use faults::{
     NoteKind, Refusal, all_headings, explanation, near_in, note_explanation, note_kind, refusal_of,
     warning_explanation, warning_of,
 };
+pub use holed::asm_with_holes;
 pub use idling::run_until_idle;
 pub use naming::{named_source_engine, read_names};
 pub use noting::run_with_notes;
@@ -66,7 +68,7 @@ pub use origin::Origin;
 pub use progress::Unheard;
 pub use reaching::reach_program;
 pub use refused::report_where;
-pub use rope::{Form, InForm, Version};
+pub use rope::{Form, InForm, Rope, Version};
 pub use ropes::{
     Compared, compare_engine, compare_only_engine, damages_engine, form_sums_engine, mended_engine,
     named_words_engine, octals_engine, parity_engine, source_engine, sums_engine, upgrade_engine,

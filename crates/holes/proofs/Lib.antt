@@ -1,0 +1,4 @@
+pub mod FilledPlaces
+pub mod Listed
+pub mod Passed
+pub mod HoleRows

@@ -1,0 +1,3 @@
+pub mod HoleLines
+pub mod Holes
+pub mod HoleLaws

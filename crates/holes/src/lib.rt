@@ -1,0 +1,15 @@
+//! Lines of the interpretive language in a flight source: each is a word at a place, which is not made. The source is
+//! assembled with a word of its own in place of each, and the places of these words, the holes, may take their words
+//! from another fixed memory.
+#![tactic(auto)]
+
+mod filling;
+mod hole_lines;
+mod hole_rows;
+pub mod laws;
+mod program;
+mod source;
+
+pub use filling::filled;
+pub use hole_rows::write_holes;
+pub use program::assemble_with_holes;

@@ -1,0 +1,92 @@
+//! The engine that assembles a source with lines of the interpretive language, which are holes.
+
+ghost use Rattle.std.specs.Prelude.{◌≡◌};
+ghost use Rattle.std.specs.Option.{option_map};
+ghost use Rattle.workshop.specs.Failures.{writer};
+ghost use Rattle.workshop.specs.Holed.{AssemblesWithHoles, FillsAndPrints, PrintsFilled, listing_with, printing};
+ghost use Rattle.workshop.specs.Ropes.{WritesText};
+
+use crate::fault::WorkshopFault;
+use holes::{assemble_with_holes, filled, write_holes};
+use rope::{Rope, Version};
+use std::alloc::Global;
+use words::Write;
+use yayul::Program;
+
+/// Assembles a source of the language of flight programs, in which each line of the interpretive language is a hole: a
+/// word at a place that is not made, and is 0. With a filling the holes have its words. Writes the rope image, of a
+/// version, to one writer, and then the listing and the holes to the other.
+///
+/// The first fault of the source is answered, and then nothing is written. Nothing of the listing is written before the
+/// whole image.
+pub fn asm_with_holes<I: Write, L: Write>(
+    alloc: Global,
+    source: &[u8],
+    filling: Option<&Rope>,
+    image: &mut I,
+    listing: &mut L,
+    version: Version,
+) -> Result<(), WorkshopFault>
+    ensures { AssemblesWithHoles version (option_map (λ r. r.now) filling.entry) source.now
+        (printing (writer I.told I.written I.failures image.old) (writer L.told L.written L.failures listing.old))
+        (printing (writer I.told I.written I.failures image.new) (writer L.told L.written L.failures listing.new))
+        result }
+{
+    let (program, other) = assemble_with_holes(alloc, source)?;
+    match filling {
+        Some(from) => fill_and_print(alloc, &program, &other, from, image, listing, version),
+        None => print_filled(program.rope(), &program, &other, image, listing, version),
+    }
+}
+
+/// Writes the image of a program whose holes have their words of a filling, of a version, and then the listing with its
+/// holes. Memory may be refused, and then nothing is written.
+fn fill_and_print<I: Write, L: Write>(
+    alloc: Global,
+    program: &Program,
+    other: &Rope,
+    from: &Rope,
+    image: &mut I,
+    listing: &mut L,
+    version: Version,
+) -> Result<(), WorkshopFault>
+    ensures { FillsAndPrints version program.now other.now from.now
+        (printing (writer I.told I.written I.failures image.old) (writer L.told L.written L.failures listing.old))
+        (printing (writer I.told I.written I.failures image.new) (writer L.told L.written L.failures listing.new))
+        result }
+{
+    let words = filled(alloc, program.rope(), other, from)?;
+    print_filled(&words, program, other, image, listing, version)
+}
+
+/// Writes the image of some words, of a version, and then the listing of a program with its holes.
+fn print_filled<I: Write, L: Write>(
+    words: &Rope,
+    program: &Program,
+    other: &Rope,
+    image: &mut I,
+    listing: &mut L,
+    version: Version,
+) -> Result<(), WorkshopFault>
+    ensures { PrintsFilled version program.now other.now words.now
+        (printing (writer I.told I.written I.failures image.old) (writer L.told L.written L.failures listing.old))
+        (printing (writer I.told I.written I.failures image.new) (writer L.told L.written L.failures listing.new))
+        result }
+{
+    words.write(image, version)?;
+    list_holes(words, program, other, listing)
+}
+
+/// Writes the listing of a program, and then its holes.
+fn list_holes<L: Write>(
+    words: &Rope,
+    program: &Program,
+    other: &Rope,
+    listing: &mut L,
+) -> Result<(), WorkshopFault>
+    ensures { WritesText (listing_with program.now other.now words.now)
+        (writer L.told L.written L.failures listing.old) (writer L.told L.written L.failures listing.new) result }
+{
+    program.list(listing)?;
+    Ok(write_holes(program.rope(), other, words, listing)?)
+}
