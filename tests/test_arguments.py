@@ -83,6 +83,8 @@ words --octal OPTIONS IMAGE
 words --octal OPTIONS IMAGE 2
 words --symbols five.lst OPTIONS IMAGE
 words --symbols five.lst OPTIONS IMAGE 2
+words --symbols five.lst --xref OPTIONS IMAGE
+words --xref --symbols five.lst OPTIONS IMAGE 2
 sums OPTIONS IMAGE
 compare OLD IMAGE six.rope
 compare NEW six.rope IMAGE

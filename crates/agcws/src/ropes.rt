@@ -11,7 +11,7 @@ use std::fs;
 use words::Std;
 use workshop::{
     Compared, Form, Symbols, Version, WorkshopFault, align_engine, carry_engine, compare_engine,
-    compare_only_engine, damages_engine, find_engine, form_sums_engine, mended_engine,
+    compare_only_engine, crossed_words_engine, damages_engine, find_engine, form_sums_engine, mended_engine,
     named_source_engine, named_words_engine, octals_engine, parity_engine, read_names, report,
     report_where, source_engine, sums_engine, upgrade_engine, words_engine,
 };
@@ -37,7 +37,7 @@ pub fn upgrade(rt: &HostRuntime, old: &str, new: &str) -> Result<u8, WorkshopFau
     Ok(DONE)
 }
 
-/// `agcws words [--source | --octal | --symbols FILE] [--where] .. ROPE [BANK]`.
+/// `agcws words [--source | --octal | --symbols FILE [--xref]] [--where] .. ROPE [BANK]`.
 pub fn show_words(rt: &HostRuntime, words: &Words<'_>) -> Result<u8, WorkshopFault> {
     match write_words(rt, words) {
         Ok(()) => Ok(DONE),
@@ -49,7 +49,7 @@ pub fn show_words(rt: &HostRuntime, words: &Words<'_>) -> Result<u8, WorkshopFau
 /// Writes the words of an image as they are to be shown.
 fn write_words(rt: &HostRuntime, words: &Words<'_>) -> Result<(), WorkshopFault> {
     let (image, bank) = (&words.image, words.bank);
-    if let Shown::Named(table) | Shown::NamedSource(table) = words.shown {
+    if let Shown::Named(table) | Shown::NamedSource(table) | Shown::Crossed(table) = words.shown {
         return write_named_words(rt, table, words);
     }
     let mut file = opened_image(rt, image)?;
@@ -60,7 +60,7 @@ fn write_words(rt: &HostRuntime, words: &Words<'_>) -> Result<(), WorkshopFault>
     })
 }
 
-/// Writes the words of an image with the names of a table, as a source or not. Both files are opened before anything is
+/// Writes the words of an image with the names of a table, as a source or not, or which words use them. Both files are opened before anything is
 /// read, and the table is read first.
 fn write_named_words(
     rt: &HostRuntime,
@@ -74,6 +74,9 @@ fn write_named_words(
     with_stdout(rt, |out| match words.shown {
         Shown::NamedSource(_) => {
             named_source_engine(rt.alloc(), &names, &mut file, version, bank, out)
+        }
+        Shown::Crossed(_) => {
+            crossed_words_engine(rt.alloc(), &names, &mut file, version, bank, out)
         }
         _ => named_words_engine(rt.alloc(), names, &mut file, version, bank, out),
     })

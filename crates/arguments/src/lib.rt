@@ -303,7 +303,7 @@ pub struct UpgradeArguments<'a> {
     pub new: &'a str,
 }
 
-/// `agcws words [--source | --octal | --symbols FILE] [--where] .. ROPE [BANK]`.
+/// `agcws words [--source | --octal | --symbols FILE [--xref]] [--where] .. ROPE [BANK]`.
 #[derive(Clone, Copy)]
 pub struct WordsArguments<'a> {
     /// The image.
@@ -316,6 +316,8 @@ pub struct WordsArguments<'a> {
     pub is_octal: bool,
     /// `--symbols`: the file of a table of names.
     pub symbols: Option<&'a str>,
+    /// `--xref`: whether it is told what words do with each name.
+    pub has_xref: bool,
     /// `--where`: whether it is told where the image is refused.
     pub tells_where: bool,
 }

@@ -313,6 +313,7 @@ fn words<'a>(matches: &ArgMatches<'a>) -> Option<WordsArguments<'a>> {
         is_source: matches.get_flag(AS_SOURCE),
         is_octal: matches.get_flag(AS_OCTAL),
         symbols: matches.get_str(SYMBOLS),
+        has_xref: matches.get_flag(WITH_XREF),
         tells_where: matches.get_flag(WHERE),
     })
 }

@@ -58,6 +58,12 @@ which is tried first: where asm gives other words of it, the one of OCT is
 written. A name that is no label of the language stands in a comment.
 With --octal the words alone, eight a line, and before those of each bank a line
 as BANK=02. In such a text a semicolon begins a comment.
+With --xref, as a comment of such a table, a row for the place of each name, and
+below it one for each word of the bank, or of all, whose address leads there, as
+# 02,4001 FIVE     READ
+with what it does: READ, WRITE (TS), CHANGE, which reads and writes, or JUMP. An
+address that depends on EB, or in bank 2 or 3 on FB, and a word 00000 count for
+none; a number among the instructions may be taken for one.
 
 Exit status:
   0  done

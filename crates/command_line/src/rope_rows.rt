@@ -3,7 +3,7 @@
 use crate::names::{
     ALIGN, AS_OCTAL, AS_SOURCE, BANK, BANKS, BOTH_FORMS, COMPARE, DAMAGES, FIND, FORM,
     IGNORED_PARITY, NEW, NEW_FORM, NEW_VERSION, OLD, OLD_FORM, OLD_VERSION, ONLY, PARITY, PASSAGE,
-    SUMS, UPGRADE, WHERE, WORDS,
+    SUMS, SYMBOLS, UPGRADE, WHERE, WITH_XREF, WORDS,
 };
 use crate::rope_help::{
     ALIGN_HELP, COMPARE_HELP, DAMAGES_HELP, FIND_HELP, PARITY_HELP, SUMS_HELP, UPGRADE_HELP,
@@ -48,7 +48,7 @@ pub fn words() -> Subcommand {
     }
 }
 
-static WORDS_ROWS: [Row; 9] = [
+static WORDS_ROWS: [Row; 10] = [
     IMAGE_ARGUMENT,
     Row {
         name: BANK,
@@ -72,6 +72,14 @@ static WORDS_ROWS: [Row; 9] = [
     Row {
         conflicts: &[AS_OCTAL],
         ..SYMBOLS_OPTION
+    },
+    Row {
+        name: WITH_XREF,
+        long: Some("xref"),
+        needs: &[SYMBOLS],
+        conflicts: &[AS_SOURCE, AS_OCTAL],
+        help: "Tells which words use each name",
+        ..FLAG
     },
     Row {
         name: WHERE,

@@ -170,7 +170,9 @@ after a column, as
   START  a way leads to the word from 4000, where a run starts, or from the
          entry of an interrupt, 4000 + 4 K
   DATA   no way, but an instruction to which one leads reads the word
-  -      neither
+  NAMED  a way leads to it only from a place that the source names by ADRES,
+         CADR, 2CADR, their complements, GENADR or REMADR; an image names none
+  -      none of these
 A row without a word has blanks. A way goes from an instruction to those that
 may follow it, as far as its word tells: to the next word; of CCS to the next
 four and of TS to the next two; to the target of TC, TCF, BZF and BZMF; after TC
@@ -181,6 +183,7 @@ With --feed and --steps the words that N steps of a run execute are roots too:
   RUN    a way leads to the word from what the run executes, and from no vector
 and a second column has IDLE where a way leads to a word that the run has not
 executed. So - is then a constant, or what nothing that is known leads to.
+What an instruction reads that only a named place leads to has DATA too.
 
 Exit status:
   0  done

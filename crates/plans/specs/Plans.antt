@@ -49,7 +49,7 @@ use Rattle.plans.specs.declared.plan.Listed.{Listed}
 use Rattle.plans.specs.declared.plan.Kind.{Kind}
 use Rattle.plans.specs.declared.plan.Kind.TheVariants as kind
 use Rattle.plans.specs.declared.plan.Shown.{Shown}
-use Rattle.plans.specs.declared.plan.Shown.TheVariants.{Instructions, Named, NamedSource, Source, Octals}
+use Rattle.plans.specs.declared.plan.Shown.TheVariants.{Crossed, Instructions, Named, NamedSource, Source, Octals}
 use Rattle.plans.specs.declared.plan.Words.{Words}
 
 -- how the bytes of an image are taken, by --form hardware and --parity ignore
@@ -251,13 +251,15 @@ check_of a = Check (record {
   notation = notation_of a.is_json;
 })
 
--- how words are shown: with the names of a table where one is given, as a source with --source, or as octal words with --octal
-abbrev pub shown_of : Option (Bor (List ℕ)) → Bool → Bool → Shown
-shown_of (Some table) true _ = NamedSource table
-shown_of (Some table) false _ = Named table
-shown_of None true _ = Source
-shown_of None false true = Octals
-shown_of None false false = Instructions
+-- how words are shown: with the names of a table where one is given, and with --xref as a cross-reference of these; as a source with
+-- --source, or as octal words with --octal
+abbrev pub shown_of : Option (Bor (List ℕ)) → Bool → Bool → Bool → Shown
+shown_of (Some table) true _ _ = NamedSource table
+shown_of (Some table) false _ true = Crossed table
+shown_of (Some table) false _ false = Named table
+shown_of None true _ _ = Source
+shown_of None false true _ = Octals
+shown_of None false false _ = Instructions
 
 -- the bank of a number
 abbrev pub bank_of : Option ℕ → Option ℕ
@@ -269,7 +271,7 @@ abbrev pub words_of : WordsArguments → Words
 words_of a = record {
   image = image_of a.image;
   bank = bank_of a.bank;
-  shown = shown_of a.symbols a.is_source a.is_octal;
+  shown = shown_of a.symbols a.is_source a.is_octal a.has_xref;
   tells_where = a.tells_where;
 }
 

@@ -314,17 +314,23 @@ fn words<'a>(asked: WordsArguments<'a>) -> Words<'a>
     Words {
         image: image(asked.image),
         bank: asked.bank.and_then(Bank::try_new),
-        shown: shown(asked.symbols, asked.is_source, asked.is_octal),
+        shown: shown(
+            asked.symbols,
+            asked.is_source,
+            asked.is_octal,
+            asked.has_xref,
+        ),
         tells_where: asked.tells_where,
     }
 }
 
 /// How the words of an image are shown.
-fn shown<'a>(symbols: Option<&'a str>, is_source: bool, is_octal: bool) -> Shown<'a>
-    ensures { result ≡ shown_of symbols.entry is_source is_octal }
+fn shown<'a>(symbols: Option<&'a str>, is_source: bool, is_octal: bool, has_xref: bool) -> Shown<'a>
+    ensures { result ≡ shown_of symbols.entry is_source is_octal has_xref }
 {
     match symbols {
         Some(table) if is_source => Shown::NamedSource(table),
+        Some(table) if has_xref => Shown::Crossed(table),
         Some(table) => Shown::Named(table),
         None if is_source => Shown::Source,
         None if is_octal => Shown::Octals,

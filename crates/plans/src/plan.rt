@@ -318,6 +318,8 @@ pub enum Shown<'a> {
     NamedSource(&'a str),
     /// As a text of octal words.
     Octals,
+    /// As a cross-reference of the names of the table of a file.
+    Crossed(&'a str),
 }
 
 /// In which form verdicts are told.

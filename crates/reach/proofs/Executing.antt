@@ -63,28 +63,41 @@ reached_from : (words : Words) (roots more : List Spot) → ((q : Spot) → Amon
 reached_from words roots more has q (Root r root) = Root r (has r root)
 reached_from words roots more has q (Way p r before way) = Way p r (reached_from words roots more has p before) way
 
-pub reached_run : (words : Words) (scenario : Scenario) (n : ℕ) (c : Came) (roots : List Spot) (marks : List Bool)
-    → roots ≡ vectors ++ c.order → AreReached words roots marks
-    → HasExecuted scenario n c → AreReached words (run_roots scenario n) marks
-reached_run words scenario n c roots marks e reached h =
+pub reached_run : (words : Words) (scenario : Scenario) (n : ℕ) (c : Came) (more roots : List Spot) (marks : List Bool)
+    → roots ≡ more ++ (vectors ++ c.order) → AreReached words roots marks
+    → HasExecuted scenario n c → AreReached words (more ++ run_roots scenario n) marks
+reached_run words scenario n c more roots marks e reached h =
     record {
       each = λ q i. (
-        λ g. reached_from words roots (run_roots scenario n) (λ r root. to r (subst (λ ps. Among r ps) e root)) q ((reached.each q i).0 g),
-        λ g. (reached.each q i).1 (reached_from words (run_roots scenario n) roots
+        λ g. reached_from words roots (more ++ run_roots scenario n) (λ r root. to r (subst (λ ps. Among r ps) e root)) q
+            ((reached.each q i).0 g),
+        λ g. (reached.each q i).1 (reached_from words (more ++ run_roots scenario n) roots
             (λ r root. subst (λ ps. Among r ps) (sym e) (back r root)) q g),
       );
     }
   where
-    to : (r : Spot) → Among r (vectors ++ c.order) → Among r (run_roots scenario n)
-    to r g = elim (among_either r vectors c.order g) [
+    on : (r : Spot) → Among r (vectors ++ c.order) → Among r (run_roots scenario n)
+    on r g = elim (among_either r vectors c.order g) [
       | inl first ↦ among_left r vectors (executed scenario n) first
       | inr later ↦ among_right r vectors (executed scenario n) (h.only r later)
     ]
 
-    back : (r : Spot) → Among r (run_roots scenario n) → Among r (vectors ++ c.order)
-    back r g = elim (among_either r vectors (executed scenario n) g) [
+    to : (r : Spot) → Among r (more ++ (vectors ++ c.order)) → Among r (more ++ run_roots scenario n)
+    to r g = elim (among_either r more (vectors ++ c.order) g) [
+      | inl first ↦ among_left r more (run_roots scenario n) first
+      | inr later ↦ among_right r more (run_roots scenario n) (on r later)
+    ]
+
+    off : (r : Spot) → Among r (run_roots scenario n) → Among r (vectors ++ c.order)
+    off r g = elim (among_either r vectors (executed scenario n) g) [
       | inl first ↦ among_left r vectors c.order first
       | inr later ↦ among_right r vectors c.order (h.all r later)
+    ]
+
+    back : (r : Spot) → Among r (more ++ run_roots scenario n) → Among r (more ++ (vectors ++ c.order))
+    back r g = elim (among_either r more (run_roots scenario n) g) [
+      | inl first ↦ among_left r more (vectors ++ c.order) first
+      | inr later ↦ among_right r more (vectors ++ c.order) (off r later)
     ]
 
 -- what is so of an answer is so by what follows from it

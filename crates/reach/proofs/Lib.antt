@@ -7,3 +7,4 @@ pub mod Executing
 pub mod Landing
 pub mod Running
 mod WayRows
+mod NamedRows

@@ -27,17 +27,31 @@ is_read marks bank address = has marks (spot bank address Reads)
 abbrev pub at_place : (ℕ → ℕ → Bool) → ℕ → ℕ → Bool
 at_place test bank offset = test bank (0o2000 + offset) || ((bank == 2 || bank == 3) && test bank (0o2000 * bank + offset))
 
--- the column before a word: START where a way leads to it, DATA where an instruction that is reached reads it, else a sign
-unfoldable pub column : List Bool → ℕ → ℕ → List ℕ
-column marks bank offset =
-    if at_place (is_executed marks) bank offset then codes "START "
-    else (if at_place (is_read marks) bank offset then codes "DATA  "
+-- the marks of what is reached from the vectors, and of what is reached from these and the places that a program names
+pub record Led : Type 0 where
+  pub start : List Bool
+  pub named : List Bool
+
+-- the column of a word to which a way leads from a named place at most: NAMED where one does, DATA where an instruction reads it that is
+-- reached so, else a sign
+unfoldable pub column_beyond : List Bool → ℕ → ℕ → List ℕ
+column_beyond named bank offset =
+    if at_place (is_executed named) bank offset then codes "NAMED "
+    else (if at_place (is_read named) bank offset then codes "DATA  "
     else codes "-     ")
 
+-- the column before a word: START where a way leads to it from the vectors, DATA where an instruction that is reached from there reads it,
+-- else that of named places
+unfoldable pub column : Led → ℕ → ℕ → List ℕ
+column led bank offset =
+    if at_place (is_executed led.start) bank offset then codes "START "
+    else (if at_place (is_read led.start) bank offset then codes "DATA  "
+    else column_beyond led.named bank offset)
+
 -- what stands before a row, by the place of its word
-abbrev pub margin_of : List Bool → Margin
-margin_of marks None = blanks 6
-margin_of marks (Some p) = column marks p.0 p.1
+abbrev pub margin_of : Led → Margin
+margin_of led None = blanks 6
+margin_of led (Some p) = column led p.0 p.1
 
 -- the words of an image, each after what stands before it
 abbrev pub image_row : Margin → Option SymbolTable → Words → ℕ → ℕ → List ℕ
@@ -55,5 +69,5 @@ shown_text margin words (shown.Source source names) = rows (line_rows margin) 1 
 shown_text margin words (shown.Image names) = image_rows margin names words
 
 -- the same after whether a way leads to the word
-abbrev pub reach_text : List Bool → Words → Shown → List ℕ
-reach_text marks words lines = shown_text (margin_of marks) words lines
+abbrev pub reach_text : Led → Words → Shown → List ℕ
+reach_text led words lines = shown_text (margin_of led) words lines

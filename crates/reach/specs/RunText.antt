@@ -1,24 +1,26 @@
--- What is reached, beside a run: of each word the root from which a way leads to it, and whether the run has executed it.
+-- What is reached, beside a run: of each word the kind of root from which a way leads to it, and whether the run has executed it.
 use Rattle.std.specs.Prelude.{ℕ, ◌&&◌, not, Bool, List, ◌++◌, codes, Option, None, Some, if◌then◌else◌}
 use Rattle.yayul.specs.Listing.{Margin, blanks}
-use Rattle.reach.specs.ReachText.{at_place, is_executed, is_read}
+use Rattle.reach.specs.ReachText.{at_place, column_beyond, is_executed, is_read}
 
--- the marks of what is reached from the vectors, of what is reached from these and all that a run executes, and of what it executes
+-- the marks of what is reached from the vectors, of what is reached from these and all that a run executes, of what is reached from all of
+-- these and the places that a program names, and of what the run executes
 pub record Found : Type 0 where
   pub start : List Bool
   pub run : List Bool
+  pub named : List Bool
   pub done : List Bool
 
 -- the column of the root: START where a way leads to the word from 4000 or an entry, RUN where one leads only from what the run executes,
--- DATA where an instruction that is reached reads it, else a sign
+-- DATA where an instruction that is reached so reads it, else that of named places
 unfoldable pub root_column : Found → ℕ → ℕ → List ℕ
 root_column f bank offset =
     if at_place (is_executed f.start) bank offset then codes "START "
     else (if at_place (is_executed f.run) bank offset then codes "RUN   "
     else (if at_place (is_read f.run) bank offset then codes "DATA  "
-    else codes "-     "))
+    else column_beyond f.named bank offset))
 
--- the column of what a way leads to that the run has not executed
+-- the column of what a way leads to that the run has not executed; no run executes what only a named place leads to
 abbrev pub is_idle : Found → ℕ → ℕ → Bool
 is_idle f bank offset = at_place (is_executed f.run) bank offset && not (at_place (is_executed f.done) bank offset)
 

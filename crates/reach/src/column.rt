@@ -2,47 +2,25 @@
 
 ghost use Rattle.std.specs.Prelude.{◌≡◌, ◌+◌, ◌*◌, ◌≤◌, ◌==◌, ◌||◌};
 ghost use Rattle.reach.specs.Marks.{has};
-ghost use Rattle.reach.specs.ReachText.{at_place, column, is_executed, is_read};
+ghost use Rattle.reach.specs.ReachText.{at_place, column_beyond, is_executed, is_read};
 ghost use Rattle.reach.specs.Ways.{spot};
 ghost use Rattle.reach.specs.declared.spot.How.TheVariants.{Executes};
 
 use crate::marks::Marks;
 use crate::spot::{How, Spot};
 use space::{Addr12, Bank, Offset};
-use words::{Write, WriteFailed, write_all};
-use yayul::Margin;
-
-/// The column where a row has no word.
-const NO_COLUMN: &[u8] = b"      ";
 
 /// The first address of fixed memory, and how many words a bank holds.
 const BANK_WORDS: u16 = 0o2000;
 
-impl Margin for Marks {
-    ghost use Rattle.reach.specs.ReachText.{margin_of};
-
-    ghost text = { margin_of };
-
-    fn write<W: Write>(
-        &self,
-        word: Option<(Bank, Offset)>,
-        writer: &mut W,
-    ) -> Result<(), WriteFailed> {
-        match word {
-            Some((bank, offset)) => write_all(writer, column(self, bank, offset)),
-            None => write_all(writer, NO_COLUMN),
-        }
-    }
-}
-
-/// The column before a word: START where a way leads to it, DATA where an instruction reads it, else a sign.
-#[tactic(auto, unfolding(crate::specs::ReachText::column))]
-pub(crate) fn column(marks: &Marks, bank: Bank, offset: Offset) -> &'static [u8]
-    ensures { result.now ≡ column marks.now bank offset }
+/// The column of a word to which a way leads from a named place at most.
+#[tactic(auto, unfolding(crate::specs::ReachText::column_beyond))]
+pub(crate) fn column_beyond(named: &Marks, bank: Bank, offset: Offset) -> &'static [u8]
+    ensures { result.now ≡ column_beyond named.now bank offset }
 {
-    if executes(marks, bank, offset) {
-        b"START "
-    } else if reads(marks, bank, offset) {
+    if executes(named, bank, offset) {
+        b"NAMED "
+    } else if reads(named, bank, offset) {
         b"DATA  "
     } else {
         b"-     "

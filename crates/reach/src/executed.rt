@@ -52,6 +52,13 @@ impl Executed {
         &self.marks
     }
 
+    /// Each once, in the order in which they came.
+    pub(crate) fn in_order(&self) -> &[Spot]
+        ensures { result.now ≡ self.now.order }
+    {
+        &self.order
+    }
+
     /// Makes more steps of a run of which some are done, and keeps what they execute. What they put out is passed over.
     pub fn make_steps(
         &mut self,

@@ -4,7 +4,7 @@ ghost use Rattle.std.specs.Prelude.{◌≡◌, true};
 ghost use Rattle.words.specs.Devices.{Writes, failures_after};
 ghost use Rattle.reach.specs.RunText.{found_columns, idle_column, root_column};
 
-use crate::column::{executes, reads};
+use crate::column::{column_beyond, executes, reads};
 use crate::executed::Executed;
 use crate::marks::Marks;
 use space::{Bank, Offset};
@@ -13,11 +13,13 @@ use words::{Write, WriteFailed, write_all};
 use yayul::Margin;
 
 /// What is reached from where a run starts and from the entries of interrupts; what is reached from there and from all
-/// that the run executes; and what it executes.
+/// that the run executes; what is reached from all of these and from the places that a program names; and what the run
+/// executes.
 #[derive(Drop)]
 pub struct Found {
     start: Marks,
     run: Marks,
+    named: Marks,
     done: Executed,
 }
 
@@ -26,7 +28,7 @@ impl Model for Found {
 
     ghost Value = { OfRun };
 
-    ghost view = { λ f. record { start = f.start; run = f.run; done = f.done.marks } };
+    ghost view = { λ f. record { start = f.start; run = f.run; named = f.named; done = f.done.marks } };
 }
 
 /// The columns where a row has no word.
@@ -51,11 +53,17 @@ impl Margin for Found {
 
 impl Found {
     /// What is reached from where a run starts and from the entries of interrupts; what is reached from there and from
-    /// all that the run executes; and what it executes.
-    pub fn new(start: Marks, run: Marks, done: Executed) -> Found
-        ensures { result ≡ record { start = start; run = run; done = done.marks } }
+    /// all that the run executes; what is reached from all of these and from the places that a program names; and what
+    /// the run executes.
+    pub fn new(start: Marks, run: Marks, named: Marks, done: Executed) -> Found
+        ensures { result ≡ record { start = start; run = run; named = named; done = done.marks } }
     {
-        Found { start, run, done }
+        Found {
+            start,
+            run,
+            named,
+            done,
+        }
     }
 
     /// Writes the columns of a word.
@@ -73,7 +81,7 @@ impl Found {
         write_all(writer, self.idle_column(bank, offset))
     }
 
-    /// The root from which a way leads to a word.
+    /// The kind of root from which a way leads to a word.
     #[tactic(auto, unfolding(crate::specs::RunText::root_column))]
     fn root_column(&self, bank: Bank, offset: Offset) -> &'static [u8]
         ensures { result.now ≡ root_column self.now bank offset }
@@ -85,7 +93,7 @@ impl Found {
         } else if reads(&self.run, bank, offset) {
             b"DATA  "
         } else {
-            b"-     "
+            column_beyond(&self.named, bank, offset)
         }
     }
 

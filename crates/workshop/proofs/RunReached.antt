@@ -2,25 +2,25 @@
 use Rattle.std.proofs.Common.{◌≡◌, ℕ, List, Result, Ok, Err, refl, subst}
 use Rattle.cpu.specs.State.{Scenario}
 use Rattle.feed.specs.declared.entry.Entry.{Entry}
-use Rattle.json_text.specs.declared.notation.Notation.TheVariants.{Text}
 use Rattle.reach.specs.Executed.{Came, HasExecuted}
 use Rattle.workshop.specs.declared.fault.WorkshopFault.{WorkshopFault}
 use Rattle.workshop.specs.declared.origin.Origin.{Origin}
-use Rattle.workshop.specs.Covers.{ReadsSubject, Subject}
+use Rattle.workshop.specs.declared.addressing.Addressing.{Addressing}
+use Rattle.workshop.specs.Addressings.{ReadsAddressing}
 use Rattle.workshop.specs.Loading.{Reads, ReadsInputs}
 use Rattle.workshop.specs.RunReaches.{AreExecuted, Finds, FindsRun}
 use Rattle.workshop.specs.Runs.{Running}
 
-pub finds_by : (origin : Origin) (steps : ℕ) (before after : Running) (subject : Subject) (inputs : List Entry)
-    (r : Result Subject WorkshopFault) (i : Result (List Entry) WorkshopFault)
-    (result : Result (Unit {0}) WorkshopFault) → r ≡ Ok subject → i ≡ Ok inputs
-    → Reads (ReadsSubject Text origin) before.files.program after.files.program r
+pub finds_by : (origin : Origin) (steps : ℕ) (before after : Running) (program : Addressing) (inputs : List Entry)
+    (r : Result Addressing WorkshopFault) (i : Result (List Entry) WorkshopFault)
+    (result : Result (Unit {0}) WorkshopFault) → r ≡ Ok program → i ≡ Ok inputs
+    → Reads (ReadsAddressing origin) before.files.program after.files.program r
     → Reads ReadsInputs before.files.feed after.files.feed i
-    → FindsRun subject.1 (record { rope = subject.0; inputs = inputs }) steps before.out after.out result
+    → FindsRun program.rows program.places (record { rope = program.rope; inputs = inputs }) steps before.out after.out result
     → Finds origin steps before after result
-finds_by origin steps before after subject inputs r i result e f reads more run = record {
-  subject = Ok subject;
-  reads = subst (λ x. Reads (ReadsSubject Text origin) before.files.program after.files.program x) e reads;
+finds_by origin steps before after program inputs r i result e f reads more run = record {
+  program = Ok program;
+  reads = subst (λ x. Reads (ReadsAddressing origin) before.files.program after.files.program x) e reads;
   next = record { inputs = Ok inputs; reads = subst (λ x. Reads ReadsInputs before.files.feed after.files.feed x) f more; next = run };
 }
 

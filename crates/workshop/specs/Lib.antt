@@ -1,3 +1,4 @@
+pub mod Addressings
 pub mod Aligning
 pub mod Assemblies
 pub mod Covers

@@ -2,6 +2,7 @@
 #![tactic(auto)]
 
 mod accessing;
+mod addressing;
 mod aligning;
 mod assembly;
 mod bounding;
@@ -41,7 +42,7 @@ pub use bounding::{Bounded, bound_program};
 pub use checking::{Tally, check_feed, check_source, unread_text, write_tally};
 pub use commands_end::{Counted, tell_commands_end};
 pub use covering::cover_program;
-pub use crossing::xref_engine;
+pub use crossing::{crossed_words_engine, xref_engine};
 pub use debugger::{debug_session, extended_session};
 pub use debugging::{
     Opened, debug_engine, debug_extended, debug_image_engine, debug_program, follow_source,

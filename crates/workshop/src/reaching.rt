@@ -1,21 +1,22 @@
 //! The engine that shows what is reached.
 
 ghost use Rattle.workshop.specs.Failures.{reader, writer};
+ghost use Rattle.std.specs.Prelude.{IfOk};
+ghost use Rattle.reach.specs.Marks.{AreReached};
+ghost use Rattle.reach.specs.Named.{with_named};
+ghost use Rattle.reach.specs.Ways.{vectors};
 ghost use Rattle.workshop.specs.Reaches.{Reaches, ReachesText};
 
-use crate::covering::read_subject;
+use crate::addressing::{Addressing, read_addressing};
 use crate::fault::WorkshopFault;
 use crate::origin::Origin;
-use cover::Shown;
-use json_text::Notation;
-use reach::{reached_from_vectors, write_reach};
-use rope::Rope;
-use std::alloc::Global;
+use reach::{Led, reached_from_vectors, reached_with_named, write_reach};
+use std::alloc::{AllocError, Global};
 use words::{Read, Write};
 
 /// Reads a program, and writes the rows of its source's listing, or the words of its image, each after whether a way
 /// leads to its word from where a run starts and from the entries of interrupts, or an instruction reads it to which
-/// one leads.
+/// one leads; or a way leads to it from a place that the source names as an address.
 ///
 /// The first fault of the program is answered, else that memory ran out, and then nothing is written. Memory is taken
 /// for a mark of each word and each way to come to it, and for those that are come to. After a write that failed a
@@ -38,23 +39,32 @@ pub fn reach_program<P: Read, W: Write>(
               out.new;
         }) result }
 {
-    let (rope, rows) = read_subject(alloc, Notation::Text, origin, program)?;
-    write_reached(alloc, &rope, &rows, out)
+    let addressing = read_addressing(alloc, origin, program)?;
+    write_reached(alloc, &addressing, out)
 }
 
 /// Writes what is reached of a program.
 fn write_reached<W: Write>(
     alloc: Global,
-    rope: &Rope,
-    rows: &Shown,
+    program: &Addressing,
     out: &mut W,
 ) -> Result<(), WorkshopFault>
-    ensures { ReachesText (rope.now, rows.now) (writer W.told W.written W.failures out.old)
+    ensures { ReachesText program.now (writer W.told W.written W.failures out.old)
         (writer W.told W.written W.failures out.new) result }
 {
-    let Ok(marks) = reached_from_vectors(alloc, rope) else {
+    let Ok(led) = led(alloc, program) else {
         return Err(WorkshopFault::NoMemory);
     };
-    write_reach(&marks, rope, rows, out)?;
+    write_reach(&led, &program.rope, &program.rows, out)?;
     Ok(())
+}
+
+/// What is reached from the vectors, and from these and the places that a program names.
+fn led(alloc: Global, program: &Addressing) -> Result<Led, AllocError>
+    ensures start { IfOk result (λ led. AreReached program.now.rope vectors led.start) }
+    ensures named { IfOk result (λ led. AreReached program.now.rope (with_named program.now.places vectors) led.named) }
+{
+    let start = reached_from_vectors(alloc, &program.rope)?;
+    let named = reached_with_named(alloc, &program.rope, program.places.as_slice())?;
+    Ok(Led::new(start, named))
 }

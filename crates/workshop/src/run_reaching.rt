@@ -3,24 +3,28 @@
 ghost use Rattle.std.specs.Prelude.{◌≡◌, ◌-◌, ◌≤◌, ◌^◌, IfOk};
 ghost use Rattle.reach.specs.Executed.{run_roots};
 ghost use Rattle.reach.specs.Marks.{AreReached};
+ghost use Rattle.reach.specs.Named.{with_named};
 ghost use Rattle.reach.specs.Ways.{vectors};
 ghost use Rattle.workshop.specs.Failures.{reader, writer};
 ghost use Rattle.workshop.specs.RunReaches.{AreExecuted, Finds, FindsRun};
 ghost use Rattle.workshop.specs.Runs.{running};
 
-use crate::covering::read_subject;
+use crate::addressing::read_addressing;
 use crate::fault::WorkshopFault;
 use crate::inputs::read_feed;
 use crate::origin::Origin;
+use addressed::AddressedPlaces;
 use cover::Shown;
 use cpu::{Machine, Processor};
-use json_text::Notation;
-use reach::{Executed, Found, reached_from_vectors, reached_with_run, write_reach};
+use reach::{
+    Executed, Found, reached_from_vectors, reached_with_run, reached_with_run_and_named,
+    write_reach,
+};
 use std::alloc::{AllocError, Global};
 use words::{Read, Write};
 
 /// Reads a program and then a feed, makes some steps, and writes the rows of its source's listing, or the words of its
-/// image, each after the root from which a way leads to it, and whether the run has not executed it.
+/// image, each after the kind of root from which a way leads to it, and whether the run has not executed it.
 ///
 /// The first fault of the program is answered, else that of the feed, else that memory ran out, and then nothing is
 /// written. After a write that failed a beginning of the text was written.
@@ -39,38 +43,54 @@ pub fn reach_run<P: Read, F: Read, W: Write>(
         (running (reader P.told P.left P.failures program.new) (reader F.told F.left F.failures feed.new)
         (writer W.told W.written W.failures out.new)) result }
 {
-    let (rope, rows) = read_subject(alloc, Notation::Text, origin, program)?;
-    let processor = Processor::new(rope, read_feed(alloc, feed)?);
-    write_run_reached(alloc, &rows, processor, steps, out)
+    let addressing = read_addressing(alloc, origin, program)?;
+    let processor = Processor::new(addressing.rope, read_feed(alloc, feed)?);
+    write_run_reached(
+        alloc,
+        &addressing.rows,
+        &addressing.places,
+        processor,
+        steps,
+        out,
+    )
 }
 
 /// Makes some steps from the start, and writes what is found.
 fn write_run_reached<W: Write>(
     alloc: Global,
     rows: &Shown,
+    places: &AddressedPlaces,
     processor: Processor,
     steps: u64,
     out: &mut W,
 ) -> Result<(), WorkshopFault>
     requires { steps ≤ 2 ^ 40 - 2 }
-    ensures { FindsRun rows.now processor.scenario steps (writer W.told W.written W.failures out.old)
+    ensures { FindsRun rows.now places.now processor.scenario steps (writer W.told W.written W.failures out.old)
         (writer W.told W.written W.failures out.new) result }
 {
     let mut processor = processor;
-    let Ok(found) = found(alloc, &mut processor, steps) else {
+    let Ok(found) = found(alloc, &mut processor, places, steps) else {
         return Err(WorkshopFault::NoMemory);
     };
     write_reach(&found, processor.rope(), rows, out)?;
     Ok(())
 }
 
-/// What is reached from the vectors, and from these and all that some steps execute; and what these execute.
-fn found(alloc: Global, processor: &mut Processor, steps: u64) -> Result<Found, AllocError>
+/// What is reached from the vectors, from these and all that some steps execute, and from all of these and some places;
+/// and what the steps execute.
+fn found(
+    alloc: Global,
+    processor: &mut Processor,
+    places: &AddressedPlaces,
+    steps: u64,
+) -> Result<Found, AllocError>
     requires { steps ≤ 2 ^ 40 - 2 }
     ensures scenario { processor.new.scenario ≡ processor.old.scenario }
     ensures start { IfOk result (λ found. AreReached processor.old.scenario.rope vectors found.start) }
     ensures run { IfOk result (λ found. AreReached processor.old.scenario.rope (run_roots processor.old.scenario steps)
         found.run) }
+    ensures named { IfOk result (λ found. AreReached processor.old.scenario.rope
+        (with_named places.now (run_roots processor.old.scenario steps)) found.named) }
     ensures done { IfOk result (λ found. AreExecuted processor.old.scenario steps found.done) }
 {
     let mut done = Executed::new(alloc)?;
@@ -78,5 +98,6 @@ fn found(alloc: Global, processor: &mut Processor, steps: u64) -> Result<Found, 
     done.make_steps(processor, &mut machine, 0, steps)?;
     let start = reached_from_vectors(alloc, processor.rope())?;
     let run = reached_with_run(alloc, processor.rope(), &done)?;
-    Ok(Found::new(start, run, done))
+    let named = reached_with_run_and_named(alloc, processor.rope(), &done, places.as_slice())?;
+    Ok(Found::new(start, run, named, done))
 }

@@ -107,8 +107,8 @@ fn number_column(number: u64) -> ArrayVec<u8, PART>
     column
 }
 
-// What stands after a name: blanks, what a line does with it, and a line feed.
-fn use_column(name: &[u8], used: Use) -> ArrayVec<u8, PART>
+/// What stands after a name: blanks, what a line does with it, and a line feed.
+pub fn use_column(name: &[u8], used: Use) -> ArrayVec<u8, PART>
     ensures { result.items ≡ use_column name.now used }
 {
     let mut column = ArrayVec::new();

@@ -1,4 +1,4 @@
-use Rattle.std.proofs.Common.{◌≡◌, ◌++◌, List, refl}
+use Rattle.std.proofs.Common.{◌≡◌, ◌++◌, List, [], refl}
 use Rattle.reach.specs.declared.spot.Spot.{Spot}
 use Rattle.reach.specs.Ways.{vectors}
 use Rattle.reach.proofs.Executing.{mapped, reached_run}
@@ -16,5 +16,5 @@ returns c =
       c.vectors.ensures,
       ← c.executed.view_is,
     ) refl in
-    mapped _ _ (λ marks h scenario n x. reached_run c.args.rope.now scenario n c.args.executed.now c.as_slice-2.result.now marks roots h x)
+    mapped _ _ (λ marks h scenario n x. reached_run c.args.rope.now scenario n c.args.executed.now [] c.as_slice-2.result.now marks roots h x)
     c.reached.result c.reached.ensures

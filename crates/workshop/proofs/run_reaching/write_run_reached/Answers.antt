@@ -10,6 +10,7 @@ returns-in_err-write_reach g c =
       found = c.in-Ok.found;
       start = c.in-Ok.ensures.start;
       run = c.in-Ok.ensures.run;
+      named = c.in-Ok.ensures.named;
       done = c.in-Ok.ensures.done;
       writes = ((λ told. rw same at (c.in_err-write_reach.ensures.written told)), c.in_err-write_reach.ensures.failures);
     }))

@@ -1,0 +1,3 @@
+pub mod UseNames
+pub mod Steps
+mod UseRows
