@@ -1,4 +1,5 @@
 """Tests of `agcws whatif --notes`: which notes come and go with an input more."""
+import os
 import re
 import unittest
 
@@ -101,6 +102,20 @@ class WhatIfNotes(Case):
                 wanted = {"MORE": [it for it in now if it not in usual], "LESS": [it for it in usual if it not in now]}
                 with self.subTest(f"{name}: {text} at {cycle}"):
                     self.assertEqual(trial, wanted)
+
+    def test_session(self):
+        """In a session the trials at each of some steps, with the notes since the start, are told as those at their cycles."""
+        for name, text in (("lost_sum", "TIME3 PINC"), ("key_echo", "CHAN 15 21"), ("audited", "RUPT 5"), ("division", "CHAN 33 1"), ("bank_sum", "CHAN 16 1")):
+            source, feed = f"{EXAMPLES}/{name}.agc", f"{EXAMPLES}/{name}.feed"
+            feed = feed if os.path.exists(feed) else EMPTY
+            cycles = [0] + [it.cycles for it in pipe.steps(source, feed, "90")]
+            with pipe.Session(source, feed) as session:
+                session.ask("run 90")
+                for first, last, more in ((0, 0, 500), (0, 90, 400), (20, 60, 0), (31, 47, 12)):
+                    with self.subTest(f"{name}: {text} at {first} to {last}"):
+                        told = session.ask(f"whatif notes since 0 {text} {more} from {first} to {last}")
+                        wanted = self.told(source, feed, last + more, [f"{it} {text}" for it in cycles[first : last + 1]])
+                        self.assertEqual(told, wanted.splitlines())
 
     def test_refused(self):
         with self.subTest("cycles that fall"):

@@ -11,9 +11,9 @@ use std::fs;
 use words::Std;
 use workshop::{
     Compared, Form, Symbols, Version, WorkshopFault, align_engine, carry_engine, compare_engine,
-    compare_only_engine, crossed_words_engine, damages_engine, find_engine, form_sums_engine, mended_engine,
-    named_source_engine, named_words_engine, octals_engine, parity_engine, read_names, report,
-    report_where, source_engine, sums_engine, upgrade_engine, words_engine,
+    compare_only_engine, crossed_words_engine, damages_engine, find_engine, form_sums_engine,
+    mended_engine, named_source_engine, named_words_engine, octals_engine, parity_engine,
+    read_names, report, report_where, source_engine, sums_engine, upgrade_engine, words_engine,
 };
 
 /// `agcws upgrade OLD NEW`. The file NEW is made at the first write, so that a refused image leaves none. A path of the

@@ -529,6 +529,9 @@ With --extended there are these besides, and after E50 COMMAND stands why:
                        of the other words the first. Nothing changes
   .. K from A to B     the same at each of the steps A to B, up to K after B
   whatif RESTART, ..   the same of a restart; of one alone all other words
+  whatif notes ..      with INPUT: which notes come and go, as by agcws whatif
+                       --notes, those of the steps from the first trial on;
+  .. notes since T ..  those from step T on, as if none came before
   find TEXT            the symbols whose names begin so, as FIND; COUNT
   breaks               the breakpoints, one a line, as BREAK I at PLACE; COUNT
   clear I              breakpoint I is taken away: CLEAR I, or NONE

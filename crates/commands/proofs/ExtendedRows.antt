@@ -1,5 +1,5 @@
 -- Lines of extended sessions, read by the definitions alone.
-use Rattle.std.proofs.Common.{◌≡◌, ℕ, true, false, List, [], ◌∷◌, ◌++◌, map, refl}
+use Rattle.std.proofs.Common.{◌≡◌, ℕ, Some, None, true, false, List, [], ◌∷◌, ◌++◌, map, refl}
 use Rattle.std.specs.Prelude.{codes, replicate}
 use Rattle.agc_text.specs.Fields.{runs}
 use Rattle.feed.specs.Names.{counters, sequences}
@@ -25,7 +25,7 @@ use Rattle.commands.specs.declared.extended.ExtendedLine.TheVariants.{Plain, Com
 use Rattle.commands.specs.declared.extended.ExtendedLine.TheVariants.{WhyStep, Why, Words, Where, Find, Trace, Inputs, Over, Out, Listed}
 use Rattle.commands.specs.declared.extended.ExtendedLine.TheVariants.{Values, Channels, Differs, WhySince, TailSteps, Survey, Say, WhatIf}
 use Rattle.commands.specs.declared.whatif.Extent.TheVariants.{Here, Each}
-use Rattle.commands.specs.declared.whatif.Trial.TheVariants.{Given, Restart}
+use Rattle.commands.specs.declared.whatif.Trial.TheVariants.{Given, Restart, Noted}
 use Rattle.commands.specs.declared.extended.ExtendedLine.TheVariants.{Calls, WhyWay, WhyControl, WhyInputs, WhyInterrupts, Never}
 use Rattle.commands.specs.declared.extended.LinkLines.{LinkLines}
 
@@ -464,7 +464,7 @@ trials : asked (codes "whatif TIME3 PINC" ∷ codes "whatif RUPT 4 20 # soon" �
     ∷ WhatIf (Given (Count Time3 Pinc)) (Each 5 6 0)
     ∷ WhatIf (Given (Word 0o15 0o21)) (Each 5 0 1099511627776)
     ∷ Plain WrongCounter
-    ∷ Says (codes "HELP whatif takes an input of a feed or RESTART, [k [from A to B]]: what it would change\n") ∷ []
+    ∷ Says (codes "HELP whatif takes RESTART|[notes] INPUT, [k [from A to B]]: what it would change\n") ∷ []
 unfolding extended_line extended_forms usages forms runs parsed counters sequences registers window
 trials = refl
 
@@ -474,7 +474,7 @@ not_tried : asked (codes "whatif" ∷ codes "whatif RUPT" ∷ codes "whatif RUPT
     ∷ codes "whatif CHAN 15 21 1234567890123456" ∷ codes "whatif RUPT 4 5 from 7 to 6" ∷ codes "whatif RUPT 4 from 6 to 7"
     ∷ codes "whatif RUPT 4 5 at 6 to 7" ∷ codes "whatif RUPT 4 5 from 6 on 7" ∷ codes "whatif RUPT 4 5 from 6 to"
     ∷ codes "whatif RUPT 4 5 from 6 to 7 8" ∷ codes "whatif RUPT 4 5 from x to 7" ∷ [])
-    ≡ replicate 17 (Says (codes "E50 COMMAND whatif takes an input of a feed or RESTART, [k [from A to B]]\n"))
+    ≡ replicate 17 (Says (codes "E50 COMMAND whatif takes RESTART|[notes] INPUT, [k [from A to B]]\n"))
 unfolding extended_line extended_forms usages forms runs parsed counters sequences registers window
 not_tried = refl
 
@@ -482,9 +482,28 @@ not_tried = refl
 restarts : asked (codes "whatif RESTART" ∷ codes "whatif RESTART 20 # soon" ∷ codes "whatif RESTART 5 from 6 to 9"
     ∷ codes "whatif RESTART 5 from 9 to 6" ∷ codes "whatif RESTART x" ∷ codes "whatif restart 5" ∷ [])
     ≡ WhatIf Restart (Here 1000) ∷ WhatIf Restart (Here 20) ∷ WhatIf Restart (Each 5 6 3)
-    ∷ replicate 3 (Says (codes "E50 COMMAND whatif takes an input of a feed or RESTART, [k [from A to B]]\n"))
+    ∷ replicate 3 (Says (codes "E50 COMMAND whatif takes RESTART|[notes] INPUT, [k [from A to B]]\n"))
 unfolding extended_line extended_forms usages forms runs parsed counters sequences registers window
 restarts = refl
+
+-- or the notes of an input, since a step or since it comes
+notes_tried : asked (codes "whatif notes TIME3 PINC" ∷ codes "whatif notes RUPT 4 20 # soon"
+    ∷ codes "whatif notes since 0 CHAN 15 21 5 from 6 to 9" ∷ codes "whatif notes since 12 TIME3 PINC" ∷ codes "whatif notes TIME3 MINC" ∷ [])
+    ≡ WhatIf (Noted None (Count Time3 Pinc)) (Here 1000)
+    ∷ WhatIf (Noted None (Interrupt 4)) (Here 20)
+    ∷ WhatIf (Noted (Some 0) (Word 0o15 0o21)) (Each 5 6 3)
+    ∷ WhatIf (Noted (Some 12) (Count Time3 Pinc)) (Here 1000)
+    ∷ Plain WrongCounter ∷ []
+unfolding extended_line extended_forms usages forms runs parsed counters sequences registers window
+notes_tried = refl
+
+-- none of a restart, nor of nothing; and the step since which stands first
+not_noted : asked (codes "whatif notes" ∷ codes "whatif notes RESTART 5" ∷ codes "whatif notes since" ∷ codes "whatif notes since x RUPT 4"
+    ∷ codes "whatif notes since 5" ∷ codes "whatif notes notes RUPT 4" ∷ codes "whatif since 5 RUPT 4" ∷ codes "whatif notes RUPT 4 since 5"
+    ∷ codes "whatif NOTES RUPT 4" ∷ [])
+    ≡ replicate 9 (Says (codes "E50 COMMAND whatif takes RESTART|[notes] INPUT, [k [from A to B]]\n"))
+unfolding extended_line extended_forms usages forms runs parsed counters sequences registers window
+not_noted = refl
 
 -- what is surveyed: two steps, a number of buckets, and erasable places and channels
 surveys : asked (codes "survey 1 60 6" ∷ codes "survey 3 3 4096 SUM +1 CH013 A Q # four" ∷ codes "survey 1 9 1 A A A A A A A A"

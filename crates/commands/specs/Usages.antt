@@ -44,7 +44,7 @@ usages =
     ∷ (codes "changed", usage (codes "a step") (codes "the erasable places that differ since then"))
     ∷ (codes "differs", usage (codes "a step") (codes "the words that differ from those at the step"))
     ∷ (codes "survey", usage (codes "FROM TO, 1 to 4096 buckets, at most 8 places") (codes "a run by buckets"))
-    ∷ (codes "whatif", usage (codes "an input of a feed or RESTART, [k [from A to B]]") (codes "what it would change"))
+    ∷ (codes "whatif", usage (codes "RESTART|[notes] INPUT, [k [from A to B]]") (codes "what it would change"))
     ∷ (codes "tail", usage (codes "nothing, or [a count] steps") (codes "the last channel lines [and steps]"))
     ∷ (codes "add", usage (codes "a line of a feed") (codes "one input more"))
     ∷ (codes "inputs", usage (codes "nothing") (codes "the inputs that were added, as lines of a feed"))

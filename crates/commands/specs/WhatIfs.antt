@@ -1,6 +1,7 @@
 -- What `whatif` takes: an input, as a line of a feed has it after its cycle, or a restart; a number of steps or none; and the steps at
--- which it is tried.
+-- which it is tried. Before an input the word `notes`, and since which step they count.
 use Rattle.std.specs.Prelude.{ℕ, ◌-◌, nat_le, ◌&&◌, List, [], ◌∷◌, Option, None, Some, Result, Ok, Err, codes, if◌then◌else◌}
+use Rattle.std.specs.Prelude.{option_and_then}
 use Rattle.agc_text.specs.Tables.{same_name}
 use Rattle.feed.specs.Statements.{short_input, long_input}
 use Rattle.feed.specs.declared.fault.LineFault.{LineFault}
@@ -12,7 +13,7 @@ use Rattle.commands.specs.declared.extended.ExtendedLine.{ExtendedLine}
 use Rattle.commands.specs.declared.extended.ExtendedLine.TheVariants.{Plain, WhatIf}
 use Rattle.commands.specs.declared.whatif.Extent.{Extent}
 use Rattle.commands.specs.declared.whatif.Extent.TheVariants.{Here, Each}
-use Rattle.commands.specs.declared.whatif.Trial.TheVariants.{Given, Restart}
+use Rattle.commands.specs.declared.whatif.Trial.TheVariants.{Given, Restart, Noted}
 
 -- how many steps it goes on where no number is named
 abbrev pub usual_steps : ℕ
@@ -57,7 +58,31 @@ abbrev pub restart_tried : Option Extent → Option ExtendedLine
 restart_tried None = None
 restart_tried (Some extent) = Some (WhatIf Restart extent)
 
+-- what is tried
+abbrev pub trial_form : List (List ℕ) → Option ExtendedLine
+trial_form [] = None
+trial_form (name ∷ more) =
+    if same_name name (codes "RESTART") then restart_tried (extent_in more) else input_tried name more
+
+-- an input of which the notes are told: those since a step, or since it comes; of a restart none are
+abbrev pub noted_of : Option ℕ → ExtendedLine → Option ExtendedLine
+noted_of since (WhatIf (Given input) extent) = Some (WhatIf (Noted since input) extent)
+noted_of since (WhatIf trial extent) = None
+noted_of since request = Some request
+
+abbrev pub noted_tried : Option ℕ → List (List ℕ) → Option ExtendedLine
+noted_tried since fields = option_and_then (noted_of since) (trial_form fields)
+
+-- a step since which, and what is tried
+abbrev pub noted_since : List (List ℕ) → Option ExtendedLine
+noted_since [] = None
+noted_since (step ∷ more) = option_and_then (λ t. noted_tried (Some t) more) (count_in step)
+
+-- the word `since` and a step, if any, and what is tried
+abbrev pub notes_form : List (List ℕ) → Option ExtendedLine
+notes_form [] = None
+notes_form (word ∷ more) = if same_name word (codes "since") then noted_since more else noted_tried None (word ∷ more)
+
 abbrev pub whatif_form : List (List ℕ) → Option ExtendedLine
 whatif_form [] = None
-whatif_form (name ∷ more) =
-    if same_name name (codes "RESTART") then restart_tried (extent_in more) else input_tried name more
+whatif_form (word ∷ more) = if same_name word (codes "notes") then notes_form more else trial_form (word ∷ more)

@@ -141,7 +141,7 @@ const ROWS: [Row; 37] = [
     ),
     (
         "whatif",
-        "an input of a feed or RESTART, [k [from A to B]]",
+        "RESTART|[notes] INPUT, [k [from A to B]]",
         "what it would change",
     ),
     (

@@ -1,8 +1,9 @@
 //! What `whatif` takes.
 
-ghost use Rattle.std.specs.Prelude.{◌≡◌};
+ghost use Rattle.std.specs.Prelude.{◌≡◌, option_and_then};
 ghost use Rattle.agc_text.specs.Fields.{runs, texts};
 ghost use Rattle.commands.specs.WhatIfs.{each_in, extent_in, here_in, input_tried, restart_tried, tried_in};
+ghost use Rattle.commands.specs.WhatIfs.{noted_of, noted_since, noted_tried, notes_form, trial_form};
 ghost use Rattle.commands.specs.WhatIfs.{usual_steps, whatif_form, word_tried};
 
 use crate::command::ParsedLine;
@@ -21,6 +22,8 @@ pub enum Trial {
     Given(Input),
     /// A restart.
     Restart,
+    /// An input more, of which the notes are told that come and go: those since a step, or since it comes.
+    Noted(Option<u64>, Input),
 }
 
 /// Where it is tried, and how many steps on.
@@ -35,6 +38,60 @@ pub enum Extent {
 // What `whatif` takes.
 pub(crate) fn whatif_form(rest: &[u8]) -> Option<ExtendedLine>
     ensures { result ≡ whatif_form (texts (runs rest.now)) }
+{
+    let (word, more) = split_field(rest)?;
+    if is_word(word, "notes") {
+        notes_form(more)
+    } else {
+        trial_form(rest)
+    }
+}
+
+// What stands after `notes`: since which step they count, if that is said, and what is tried.
+fn notes_form(rest: &[u8]) -> Option<ExtendedLine>
+    ensures { result ≡ notes_form (texts (runs rest.now)) }
+{
+    let (word, more) = split_field(rest)?;
+    if is_word(word, "since") {
+        noted_since(more)
+    } else {
+        noted_tried(None, rest)
+    }
+}
+
+// A step since which notes count, and what is tried.
+fn noted_since(rest: &[u8]) -> Option<ExtendedLine>
+    ensures { result ≡ noted_since (texts (runs rest.now)) }
+{
+    let (step, more) = split_field(rest)?;
+    let since = count_in(step)?;
+    noted_tried(Some(since), more)
+}
+
+// What is tried, of which the notes are told.
+fn noted_tried(since: Option<u64>, rest: &[u8]) -> Option<ExtendedLine>
+    ensures { result ≡ noted_tried since (texts (runs rest.now)) }
+{
+    let request = trial_form(rest)?;
+    noted_of(since, request)
+}
+
+// An input that is tried, of which the notes are told; of a restart none are.
+fn noted_of(since: Option<u64>, request: ExtendedLine) -> Option<ExtendedLine>
+    ensures { result ≡ noted_of since request }
+{
+    match request {
+        ExtendedLine::WhatIf(Trial::Given(input), extent) => {
+            Some(ExtendedLine::WhatIf(Trial::Noted(since, input), extent))
+        }
+        ExtendedLine::WhatIf(_, _) => None,
+        request => Some(request),
+    }
+}
+
+// What is tried.
+fn trial_form(rest: &[u8]) -> Option<ExtendedLine>
+    ensures { result ≡ trial_form (texts (runs rest.now)) }
 {
     let (name, rest) = split_field(rest)?;
     if is_word(name, "RESTART") {

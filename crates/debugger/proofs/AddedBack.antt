@@ -39,6 +39,7 @@ use Rattle.debugger.specs.Transcript.{first_desk}
 use Rattle.debugger.proofs.AddedLines.{ParsedGivable, AskedGivable, line_adds}
 use Rattle.debugger.specs.Whys.{subject_spots}
 use Rattle.debugger.specs.OriginsTold.{inputs_told, interrupts_told}
+use Rattle.debugger.specs.WhatIfs.{program_of}
 use Rattle.debugger.proofs.TriedReplies.{keeps_scenario, tried_keeps}
 use Rattle.debugger.proofs.InputsRead.{IsGivable, told_first, reads_back}
 use Rattle.debugger.proofs.Scripts.{keeps}
@@ -219,7 +220,8 @@ after_asked terms h d (On k) given good = after_stop terms.first (further h) d k
 after_asked terms h d (Until cycles) given good = after_until terms.first (further h) d cycles (first_at h d.steps cycles) good
 after_asked terms h d (Over k) given good = after_going terms.first (further h) d _ k _ good
 after_asked terms h d (Out k) given good = after_out terms.first (further h) d k _ good
-after_asked terms h d (WhatIf trial extent) given good = subst (AreGood terms.first) (sym (keeps_scenario trial extent d)) good
+after_asked terms h d (WhatIf trial extent) given good =
+    subst (AreGood terms.first) (sym (keeps_scenario (program_of terms.symbols terms.source d.scenario) trial extent d)) good
 after_asked terms h d (WhyInputs subject) given good =
     let text = inputs_told terms.symbols d.scenario d.position (subject_spots subject) in
     subst (AreGood terms.first) (sym (tried_keeps (addition_to_come d.additions) d text)) good

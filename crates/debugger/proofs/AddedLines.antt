@@ -35,8 +35,10 @@ use Rattle.commands.specs.declared.command.ParsedLine.TheVariants.{Nothing, TooL
 use Rattle.commands.specs.declared.subject.Subject.{Subject}
 use Rattle.commands.specs.declared.survey.Surveyed.{Surveyed}
 use Rattle.commands.specs.Surveys.{survey_in}
-use Rattle.commands.specs.WhatIfs.{extent_in, input_tried, restart_tried, tried_in, whatif_form, word_tried}
+use Rattle.commands.specs.WhatIfs.{extent_in, input_tried, noted_of, noted_since, noted_tried, notes_form, restart_tried, trial_form}
+use Rattle.commands.specs.WhatIfs.{tried_in, whatif_form, word_tried}
 use Rattle.commands.specs.declared.whatif.Extent.{Extent}
+use Rattle.commands.specs.declared.whatif.Trial.TheVariants.{Given, Restart, Noted}
 use Rattle.commands.specs.declared.extended.LinkLines.{LinkLines}
 use Rattle.commands.specs.declared.extended.ExtendedLine.{ExtendedLine}
 use Rattle.commands.specs.declared.extended.ExtendedLine.TheVariants.{Plain, Common, Says, Help, Breaks, ClearOne, On, AllRegisters, Until}
@@ -300,10 +302,40 @@ input_adds name (first ∷ more) =
     chosen AskedGivable (same_name name (codes "CHAN")) _ _ (word_adds name first more)
     (tried_adds (short_input name first) (extent_in more))
 
+trial_adds : (fs : List (List ℕ)) → IfSome (trial_form fs) AskedGivable
+trial_adds [] = tt
+trial_adds (name ∷ more) =
+    chosen AskedGivable (same_name name (codes "RESTART")) _ _ (restart_adds (extent_in more)) (input_adds name more)
+
+noted_of_adds : (since : Option ℕ) (request : ExtendedLine) → AskedGivable request → IfSome (noted_of since request) AskedGivable
+noted_of_adds since (WhatIf (Given input) extent) given = tt
+noted_of_adds since (WhatIf Restart extent) given = tt
+noted_of_adds since (WhatIf (Noted t input) extent) given = tt
+noted_of_adds since request given = given
+
+noted_adds : (since : Option ℕ) (request : Option ExtendedLine) → IfSome request AskedGivable
+    → IfSome (option_and_then (noted_of since) request) AskedGivable
+noted_adds since None given = tt
+noted_adds since (Some request) given = noted_of_adds since request given
+
+since_adds : (t : Option ℕ) (fs : List (List ℕ)) → IfSome (option_and_then (λ t. noted_tried (Some t) fs) t) AskedGivable
+since_adds None fs = tt
+since_adds (Some t) fs = noted_adds (Some t) (trial_form fs) (trial_adds fs)
+
+noted_since_adds : (fs : List (List ℕ)) → IfSome (noted_since fs) AskedGivable
+noted_since_adds [] = tt
+noted_since_adds (step ∷ more) = since_adds (count_in step) more
+
+notes_adds : (fs : List (List ℕ)) → IfSome (notes_form fs) AskedGivable
+notes_adds [] = tt
+notes_adds (word ∷ more) =
+    chosen AskedGivable (same_name word (codes "since")) _ _ (noted_since_adds more)
+    (noted_adds None (trial_form (word ∷ more)) (trial_adds (word ∷ more)))
+
 whatif_adds : (fs : List (List ℕ)) → IfSome (whatif_form fs) AskedGivable
 whatif_adds [] = tt
-whatif_adds (name ∷ more) =
-    chosen AskedGivable (same_name name (codes "RESTART")) _ _ (restart_adds (extent_in more)) (input_adds name more)
+whatif_adds (word ∷ more) =
+    chosen AskedGivable (same_name word (codes "notes")) _ _ (notes_adds more) (trial_adds (word ∷ more))
 
 abbrev AskedAdds : ExtendedForm → Type 0
 AskedAdds form = (fs : List (List ℕ)) → IfSome (form fs) AskedGivable

@@ -42,6 +42,7 @@ use Rattle.yayul.specs.Program.{Source}
 use Rattle.yayul.specs.declared.language.Language.TheVariants.{Standard}
 use Rattle.trace.specs.TraceLines.{symbol_at}
 use Rattle.debugger.specs.Standing.{nearest_text, place_line, where_line, found_text, words_text, rows_text}
+use Rattle.debugger.specs.WhatIfs.{noted_from}
 use Rattle.names.specs.NamedLines.{nearest_name}
 use Rattle.debugger.specs.Rows.{based_text, list_row, plain_row, numbers_text as numbers_row, row_text}
 use Rattle.debugger.specs.declared.rows.RowKind.TheVariants.{Instruction, Number}
@@ -408,3 +409,7 @@ line_of_memory c is = rw is refl
 line_of_channel : (c : Cells) → channel_word c 0o12 ≡ 0o75 → channel_line c 0o12 ≡ codes "CHAN 012 00075\n"
 unfolding octal_text
 line_of_channel c is = rw is refl
+
+-- since which step notes count beside an input at step 5: since there, or an earlier step
+notes_since : noted_from None 5 ∷ noted_from (Some 3) 5 ∷ noted_from (Some 9) 5 ∷ [] ≡ 5 ∷ 3 ∷ 5 ∷ []
+notes_since = refl

@@ -56,7 +56,7 @@ use Rattle.std.specs.Option.{option_map_or}
 use Rattle.debugger.specs.OutputsOnce.{OutputsAreToldOnce, Part, outs_after, part_of, part_text, parts, silent}
 use Rattle.debugger.specs.Whys.{subject_spots}
 use Rattle.debugger.specs.OriginsTold.{inputs_told, interrupts_told, tells_inputs, tells_interrupts}
-use Rattle.debugger.specs.WhatIfs.{tries}
+use Rattle.debugger.specs.WhatIfs.{program_of, tries}
 use Rattle.debugger.proofs.TriedReplies.{keeps_scenario, keeps_steps, tried_keeps, tried_stays}
 use Rattle.debugger.specs.Replies.{Desk, Reply, added_on, addition_to_come, adds, after_growth, after_text, answer, ending_line, here}
 use Rattle.debugger.specs.Replies.{last_stop, line, memory_word, refuses, reply, says, sought, stands}
@@ -355,7 +355,8 @@ after_asked terms h d s o (Values place k) =
     (rows_text Number terms.symbols terms.source d.scenario.rope (silent h) (here h d) place k)
     (same_rows Number terms.symbols terms.source d.scenario.rope h (here h d) place k)
 after_asked terms h d s o (WhatIf trial extent) =
-    quiet d (tries trial extent d) (keeps_scenario trial extent d) (keeps_steps trial extent d)
+    let program = program_of terms.symbols terms.source d.scenario in
+    quiet d (tries program trial extent d) (keeps_scenario program trial extent d) (keeps_steps program trial extent d)
 after_asked terms h d s o (WhyInputs subject) =
     let text = inputs_told terms.symbols d.scenario d.position (subject_spots subject) in
     quiet d (tells_inputs terms.symbols subject d) (tried_keeps (addition_to_come d.additions) d text)

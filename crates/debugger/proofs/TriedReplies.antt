@@ -12,6 +12,8 @@ use Rattle.feed.specs.declared.entry.Plain.{Plain}
 use Rattle.commands.specs.declared.whatif.Extent.{Extent}
 use Rattle.commands.specs.declared.whatif.Extent.TheVariants.{Here, Each}
 use Rattle.commands.specs.declared.whatif.Trial.{Trial}
+use Rattle.commands.specs.declared.whatif.Trial.TheVariants.{Given, Restart, Noted}
+use Rattle.yayul.specs.Program.{Program}
 use Rattle.commands.specs.declared.command.Breakpoint.{Breakpoint}
 use Rattle.cpu.specs.Additions.{plain_inputs}
 use Rattle.cpu.specs.State.{Scenario}
@@ -19,7 +21,7 @@ use Rattle.replay.specs.Memory.{step_limit}
 use Rattle.replay.specs.View.{HasShown, SessionView}
 use Rattle.debugger.specs.Executions.{Replies, awaiting, desk}
 use Rattle.debugger.specs.Replies.{Desk, Reply, addition_to_come, line, refuses, says}
-use Rattle.debugger.specs.WhatIfs.{is_full, tried_by, tries, tries_from, whatif_text}
+use Rattle.debugger.specs.WhatIfs.{begins_at, is_full, tried_by, tries, tries_from, whatif_text}
 use Rattle.debugger.proofs.WholeReplies.{replies-text}
 
 -- a reply of one call that takes memory was written, or a beginning of it
@@ -39,56 +41,63 @@ pub still_there : (old new : SessionView) (t position : ℕ) (breakpoints : List
     → desk new position breakpoints ≡ desk old position breakpoints
 still_there old new t position breakpoints shown = rw shown.same refl
 
-pub not_yet : (may_refuse : Bool) (d : Desk) (trial : Trial) (k first more : ℕ) (old new bytes : List ℕ)
+pub not_yet : (may_refuse : Bool) (d : Desk) (program : Program) (trial : Trial) (k first more : ℕ) (old new bytes : List ℕ)
     (result : Result (Unit {0}) WriteFailed) → d.steps < first + more
     → bytes ≡ line (codes "E41 NOT YET") → Writes old new bytes result
-    → Replies may_refuse (tries_from trial k first more) d d old new result
-not_yet may_refuse d trial k first more old new bytes result late e w =
+    → Replies may_refuse (tries_from program trial k first more) d d old new result
+not_yet may_refuse d program trial k first more old new bytes result late e w =
     let is : ltb d.steps (first + more) ≡ true = grind (arith, nat_tests, late) in
-    replies-text may_refuse (tries_from trial k first more) d d old new (line (codes "E41 NOT YET")) bytes result
+    replies-text may_refuse (tries_from program trial k first more) d d old new (line (codes "E41 NOT YET")) bytes result
     (λ answers additions. rw is refl) e w
 
-pub limited : (may_refuse : Bool) (d : Desk) (trial : Trial) (k first more : ℕ) (old new bytes : List ℕ)
+pub limited : (may_refuse : Bool) (d : Desk) (program : Program) (trial : Trial) (k first more : ℕ) (old new bytes : List ℕ)
     (result : Result (Unit {0}) WriteFailed) → first + more ≤ d.steps → step_limit < first + more + k
-    → bytes ≡ line (codes "E40 LIMIT") → Writes old new bytes result → Replies may_refuse (tries_from trial k first more) d d old new result
-limited may_refuse d trial k first more old new bytes result made past e w =
+    → bytes ≡ line (codes "E40 LIMIT") → Writes old new bytes result → Replies may_refuse (tries_from program trial k first more) d d old new result
+limited may_refuse d program trial k first more old new bytes result made past e w =
     let stands : ltb d.steps (first + more) ≡ false = grind (arith, nat_tests, made) in
     let is : ltb step_limit (first + more + k) ≡ true = grind (arith, nat_tests, past) in
-    replies-text may_refuse (tries_from trial k first more) d d old new (line (codes "E40 LIMIT")) bytes result
+    replies-text may_refuse (tries_from program trial k first more) d d old new (line (codes "E40 LIMIT")) bytes result
     (λ answers additions. rw (stands, is) refl) e w
 
-pub crowded : (may_refuse : Bool) (d : Desk) (trial : Trial) (k first more : ℕ) (old new bytes : List ℕ)
+pub crowded : (may_refuse : Bool) (d : Desk) (program : Program) (trial : Trial) (k first more : ℕ) (old new bytes : List ℕ)
     (result : Result (Unit {0}) WriteFailed) → first + more ≤ d.steps
     → first + more + k ≤ step_limit → is_full trial d.scenario ≡ true
     → bytes ≡ line (codes "E32 TOO MANY") → Writes old new bytes result
-    → Replies may_refuse (tries_from trial k first more) d d old new result
-crowded may_refuse d trial k first more old new bytes result made within many e w =
+    → Replies may_refuse (tries_from program trial k first more) d d old new result
+crowded may_refuse d program trial k first more old new bytes result made within many e w =
     let stands : ltb d.steps (first + more) ≡ false = grind (arith, nat_tests, made) in
     let is : ltb step_limit (first + more + k) ≡ false = grind (arith, nat_tests, within) in
-    replies-text may_refuse (tries_from trial k first more) d d old new (line (codes "E32 TOO MANY")) bytes result
+    replies-text may_refuse (tries_from program trial k first more) d d old new (line (codes "E32 TOO MANY")) bytes result
     (λ answers additions. rw (stands, is, many) refl) e w
 
-pub forgotten : (may_refuse : Bool) (d to : Desk) (trial : Trial) (k first more : ℕ) (old new bytes : List ℕ)
+pub forgotten : (may_refuse : Bool) (d to : Desk) (program : Program) (trial : Trial) (k first more : ℕ) (old new bytes : List ℕ)
     (result : Result (Unit {0}) WriteFailed) → to ≡ d → first + more ≤ d.steps
     → first + more + k ≤ step_limit → is_full trial d.scenario ≡ false
     → bytes ≡ line (codes "E2 MEMORY") → Writes old new bytes result
-    → Replies may_refuse (tries_from trial k first more) d to old new result
-forgotten may_refuse d to trial k first more old new bytes result still made within few e w =
+    → Replies may_refuse (tries_from program trial k first more) d to old new result
+forgotten may_refuse d to program trial k first more old new bytes result still made within few e w =
     let stands : ltb d.steps (first + more) ≡ false = grind (arith, nat_tests, made) in
     let is : ltb step_limit (first + more + k) ≡ false = grind (arith, nat_tests, within) in
-    rw still (replies_trying may_refuse (tries_from trial k first more) d d None old new (line (codes "E2 MEMORY")) bytes result
+    rw still (replies_trying may_refuse (tries_from program trial k first more) d d None old new (line (codes "E2 MEMORY")) bytes result
     (λ answers additions. rw (stands, is, few) refl) e w)
 
-pub told_whole : (may_refuse : Bool) (d to : Desk) (trial : Trial) (k first more : ℕ) (old new bytes : List ℕ)
+pub told_whole : (may_refuse : Bool) (d to : Desk) (program : Program) (trial : Trial) (k first more : ℕ) (old new bytes : List ℕ)
     (result : Result (Unit {0}) WriteFailed) → to ≡ d → first + more ≤ d.steps
     → first + more + k ≤ step_limit → is_full trial d.scenario ≡ false
-    → bytes ≡ whatif_text d.scenario first more trial k → Writes old new bytes result
-    → Replies may_refuse (tries_from trial k first more) d to old new result
-told_whole may_refuse d to trial k first more old new bytes result still made within few e w =
+    → bytes ≡ whatif_text program d.scenario first more trial k → Writes old new bytes result
+    → Replies may_refuse (tries_from program trial k first more) d to old new result
+told_whole may_refuse d to program trial k first more old new bytes result still made within few e w =
     let stands : ltb d.steps (first + more) ≡ false = grind (arith, nat_tests, made) in
     let is : ltb step_limit (first + more + k) ≡ false = grind (arith, nat_tests, within) in
-    rw still (replies_trying may_refuse (tries_from trial k first more) d d (Some 0) old new (whatif_text d.scenario first more trial k)
+    rw still (replies_trying may_refuse (tries_from program trial k first more) d d (Some 0) old new (whatif_text program d.scenario first more trial k)
     bytes result (λ answers additions. rw (stands, is, few) refl) e w)
+
+-- what is looked at begins no later than the trials
+pub begins_early : (trial : Trial) (first : ℕ) → begins_at trial first ≤ first
+begins_early (Given input) first = omega arith
+begins_early Restart first = omega arith
+begins_early (Noted None input) first = omega arith
+begins_early (Noted (Some since) input) first = omega arith
 
 -- how many inputs are plain
 pub counted_plain : (scenario : Scenario) (plain : List Plain) → map plain_entry plain ≡ filter (is_from None) scenario.inputs
@@ -108,12 +117,12 @@ either_keeps : {X : Type 0} (of : Reply → X) (x : X) (b : Bool) (r s : Reply) 
 either_keeps of x true r s p q = p
 either_keeps of x false r s p q = q
 
-from_keeps : {X : Type 0} (of : Reply → X) (x : X) (trial : Trial) (k first more : ℕ) (d : Desk)
+from_keeps : {X : Type 0} (of : Reply → X) (x : X) (program : Program) (trial : Trial) (k first more : ℕ) (d : Desk)
     → ((text : List ℕ) → of (refuses d text) ≡ x)
-    → of (tried_by (addition_to_come d.additions) d (whatif_text d.scenario first more trial k)) ≡ x
-    → of (tries_from trial k first more d) ≡ x
-from_keeps of x trial k first more d refused tried =
-    let told = tried_by (addition_to_come d.additions) d (whatif_text d.scenario first more trial k) in
+    → of (tried_by (addition_to_come d.additions) d (whatif_text program d.scenario first more trial k)) ≡ x
+    → of (tries_from program trial k first more d) ≡ x
+from_keeps of x program trial k first more d refused tried =
+    let told = tried_by (addition_to_come d.additions) d (whatif_text program d.scenario first more trial k) in
     let room = is_full trial d.scenario in
     let limit = ltb step_limit (first + more + k) in
     either_keeps of x (ltb d.steps (first + more)) (refuses d (codes "E41 NOT YET"))
@@ -122,20 +131,20 @@ from_keeps of x trial k first more d refused tried =
     (refused (codes "E40 LIMIT"))
     (either_keeps of x room (refuses d (codes "E32 TOO MANY")) told (refused (codes "E32 TOO MANY")) tried))
 
-from_keeps_scenario : (trial : Trial) (k first more : ℕ) (d : Desk) → (tries_from trial k first more d).desk.scenario ≡ d.scenario
-from_keeps_scenario trial k first more d =
-    from_keeps (λ (r : Reply). r.desk.scenario) d.scenario trial k first more d (λ text. refl)
-    (tried_keeps (addition_to_come d.additions) d (whatif_text d.scenario first more trial k))
+from_keeps_scenario : (program : Program) (trial : Trial) (k first more : ℕ) (d : Desk) → (tries_from program trial k first more d).desk.scenario ≡ d.scenario
+from_keeps_scenario program trial k first more d =
+    from_keeps (λ (r : Reply). r.desk.scenario) d.scenario program trial k first more d (λ text. refl)
+    (tried_keeps (addition_to_come d.additions) d (whatif_text program d.scenario first more trial k))
 
-from_keeps_steps : (trial : Trial) (k first more : ℕ) (d : Desk) → (tries_from trial k first more d).desk.steps ≡ d.steps
-from_keeps_steps trial k first more d =
-    from_keeps (λ (r : Reply). r.desk.steps) d.steps trial k first more d (λ text. refl)
-    (tried_stays (addition_to_come d.additions) d (whatif_text d.scenario first more trial k))
+from_keeps_steps : (program : Program) (trial : Trial) (k first more : ℕ) (d : Desk) → (tries_from program trial k first more d).desk.steps ≡ d.steps
+from_keeps_steps program trial k first more d =
+    from_keeps (λ (r : Reply). r.desk.steps) d.steps program trial k first more d (λ text. refl)
+    (tried_stays (addition_to_come d.additions) d (whatif_text program d.scenario first more trial k))
 
-pub keeps_scenario : (trial : Trial) (extent : Extent) (d : Desk) → (tries trial extent d).desk.scenario ≡ d.scenario
-keeps_scenario trial (Here k) d = from_keeps_scenario trial k d.position 0 d
-keeps_scenario trial (Each k first more) d = from_keeps_scenario trial k first more d
+pub keeps_scenario : (program : Program) (trial : Trial) (extent : Extent) (d : Desk) → (tries program trial extent d).desk.scenario ≡ d.scenario
+keeps_scenario program trial (Here k) d = from_keeps_scenario program trial k d.position 0 d
+keeps_scenario program trial (Each k first more) d = from_keeps_scenario program trial k first more d
 
-pub keeps_steps : (trial : Trial) (extent : Extent) (d : Desk) → (tries trial extent d).desk.steps ≡ d.steps
-keeps_steps trial (Here k) d = from_keeps_steps trial k d.position 0 d
-keeps_steps trial (Each k first more) d = from_keeps_steps trial k first more d
+pub keeps_steps : (program : Program) (trial : Trial) (extent : Extent) (d : Desk) → (tries program trial extent d).desk.steps ≡ d.steps
+keeps_steps program trial (Here k) d = from_keeps_steps program trial k d.position 0 d
+keeps_steps program trial (Each k first more) d = from_keeps_steps program trial k first more d

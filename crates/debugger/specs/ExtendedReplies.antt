@@ -33,7 +33,7 @@ use Rattle.say.specs.declared.form.LineForm.TheVariants.{Steps, Sentences}
 use Rattle.debugger.specs.SteppedTail.{stepped_tail}
 use Rattle.debugger.specs.Surveys.{survey_text}
 use Rattle.debugger.specs.OriginsTold.{tells_inputs, tells_interrupts}
-use Rattle.debugger.specs.WhatIfs.{tries}
+use Rattle.debugger.specs.WhatIfs.{program_of, tries}
 use Rattle.debugger.specs.Terms.{Terms}
 use Rattle.debugger.specs.Inputs.{inputs_text}
 use Rattle.debugger.specs.Routines.{goes_over, goes_out}
@@ -141,7 +141,7 @@ extended_reply terms h d Channels = says (channels_text (run d.scenario d.positi
 extended_reply terms h d (Differs t) = says (differs_text d.scenario d.steps d.position t) d
 extended_reply terms h d (Survey asked) = says (survey_text d.scenario d.steps asked) d
 extended_reply terms h d (Say k) = says (traced_text Sentences terms.symbols d.scenario d.position k) d
-extended_reply terms h d (WhatIf trial extent) = tries trial extent d
+extended_reply terms h d (WhatIf trial extent) = tries (program_of terms.symbols terms.source d.scenario) trial extent d
 extended_reply terms h d WhyWay = says (way_text terms.symbols d.scenario d.position) d
 extended_reply terms h d (WhyControl subject) = says (control_text terms.symbols d.scenario d.position (subject_spots subject)) d
 extended_reply terms h d (WhyInputs subject) = tells_inputs terms.symbols subject d

@@ -126,7 +126,7 @@ impl Desk {
                 self.trace(session, symbols, LineForm::Sentences, *steps, out)
             }
             ExtendedLine::WhatIf(trial, extent) => {
-                self.what_if(alloc, session, *trial, *extent, out)
+                self.what_if(alloc, session, symbols, rows, *trial, *extent, out)
             }
             ExtendedLine::Never(place) => self.never(session, symbols, place, out),
             ExtendedLine::Calls => write_all(out, self.calls(session, symbols).as_slice()),

@@ -1,21 +1,30 @@
-//! `whatif`: what an input, or a restart, would change that came at the position, or at each of some steps.
+//! `whatif`: what an input, or a restart, would change that came at the position, or at each of some steps, or an input in
+//! the notes.
 
-ghost use Rattle.std.specs.Prelude.{◌≡◌, ◌+◌, ◌-◌, ◌^◌, ◌≤◌, true, IfOk, IfSome};
+ghost use Rattle.std.specs.Prelude.{◌≡◌, ◌+◌, ◌-◌, ◌^◌, ◌≤◌, nat_le, true, IfOk, IfSome};
+ghost use Rattle.cpu.specs.Additions.{most_plain_inputs, plain_inputs};
 ghost use Rattle.cpu.specs.Run.{run};
 ghost use Rattle.words.specs.Devices.{failures_after};
 ghost use Rattle.replay.specs.Memory.{step_limit};
 ghost use Rattle.replay.specs.View.{HasShown};
 ghost use Rattle.debugger.specs.Executions.{HasLooked, Replies, desk};
-ghost use Rattle.debugger.specs.WhatIfs.{is_full, tried_text, tries, tries_from, whatif_text};
+ghost use Rattle.debugger.specs.WhatIfs.{begins_at, is_full, noted_from, program_of, tried_text, tries, tries_from};
+ghost use Rattle.debugger.specs.WhatIfs.{whatif_text};
+ghost use Rattle.note_trials.specs.Here.{noted_here};
+ghost use Rattle.yayul.specs.Named.{named_places};
 
 use crate::desk::Desk;
 use crate::texts::text_line;
 use commands::{Extent, Trial};
 use cpu::{Machine, Processor};
+use feed::Input;
+use note_trials::note_steps;
 use replay::{Keeper, STEP_LIMIT, Session};
 use std::alloc::Global;
+use symbols::Symbols;
 use whatif::{TrialFault, TrialsTold, try_restarts, try_steps};
 use words::{Buffer, Write, WriteFailed, write_all};
+use yayul::SourceRows;
 
 /// The most inputs of a run that are from no series.
 const MOST_INPUTS: usize = 65_536;
@@ -29,12 +38,15 @@ impl Desk {
         &self,
         alloc: Global,
         session: &mut Session<K>,
+        symbols: &Symbols,
+        rows: &SourceRows,
         trial: Trial,
         extent: Extent,
         out: &mut W,
     ) -> Result<(), WriteFailed>
         requires within { self.now.position ≤ session.old.n }
-        ensures executes { W.told ≡ true → Replies K.may_refuse (tries trial extent)
+        ensures executes { W.told ≡ true → Replies K.may_refuse
+            (tries (program_of symbols.now rows.now session.old.scenario) trial extent)
             (desk session.old self.now.position self.now.breakpoints)
             (desk session.new self.now.position self.now.breakpoints) (W.written out.old) (W.written out.new) result }
         ensures same { session.new ≡ record session.old { shown = session.new.shown; meter = session.new.meter } }
@@ -43,10 +55,22 @@ impl Desk {
     {
         match extent {
             Extent::Here(steps) => {
-                self.what_if_from(alloc, session, trial, steps, self.position, 0, out)
+                self.what_if_from(
+                    alloc,
+                    session,
+                    symbols,
+                    rows,
+                    trial,
+                    steps,
+                    self.position,
+                    0,
+                    out,
+                )
             }
             Extent::Each(steps, first, more) => {
-                self.what_if_from(alloc, session, trial, steps, first, more, out)
+                self.what_if_from(
+                    alloc, session, symbols, rows, trial, steps, first, more, out,
+                )
             }
         }
     }
@@ -56,13 +80,16 @@ impl Desk {
         &self,
         alloc: Global,
         session: &mut Session<K>,
+        symbols: &Symbols,
+        rows: &SourceRows,
         trial: Trial,
         steps: u64,
         first: u64,
         more: u64,
         out: &mut W,
     ) -> Result<(), WriteFailed>
-        ensures executes { W.told ≡ true → Replies K.may_refuse (tries_from trial steps first more)
+        ensures executes { W.told ≡ true → Replies K.may_refuse
+            (tries_from (program_of symbols.now rows.now session.old.scenario) trial steps first more)
             (desk session.old self.now.position self.now.breakpoints)
             (desk session.new self.now.position self.now.breakpoints) (W.written out.old) (W.written out.new) result }
         ensures same { session.new ≡ record session.old { shown = session.new.shown; meter = session.new.meter } }
@@ -84,7 +111,7 @@ impl Desk {
         if is_full(session, &trial) {
             return write_all(out, text_line(b"E32 TOO MANY").as_slice());
         }
-        match tried(alloc, session, &trial, steps, first, more) {
+        match tried(alloc, session, symbols, rows, &trial, steps, first, more) {
             Some(text) => write_all(out, text.as_slice()),
             None => write_all(out, text_line(b"E2 MEMORY").as_slice()),
         }
@@ -95,6 +122,8 @@ impl Desk {
 fn tried<K: Keeper>(
     alloc: Global,
     session: &mut Session<K>,
+    symbols: &Symbols,
+    rows: &SourceRows,
     trial: &Trial,
     steps: u64,
     first: u64,
@@ -102,13 +131,17 @@ fn tried<K: Keeper>(
 ) -> Option<Buffer>
     requires within { first ≤ session.old.n }
     requires limit { first + more + steps ≤ step_limit }
-    ensures text { IfSome result (λ text. text.written ≡ whatif_text session.old.scenario first more trial.now steps) }
-    ensures shown { HasShown session.old first session.new }
+    ensures text { IfSome result (λ text. text.written
+        ≡ whatif_text (program_of symbols.now rows.now session.old.scenario) session.old.scenario first more trial.now
+        steps) }
+    ensures shown { HasShown session.old (begins_at trial.now first) session.new }
 {
-    match session.with_present(first) {
+    match session.with_present(begins_at(trial, first)) {
         Ok((machine, _, processor)) => {
             let steps = first + more + steps;
-            match told_of(alloc, processor, machine, trial, first, more, steps) {
+            match told_of(
+                alloc, symbols, rows, processor, machine, trial, first, more, steps,
+            ) {
                 Ok(told) => Some(told.text),
                 Err(_) => None,
             }
@@ -117,9 +150,35 @@ fn tried<K: Keeper>(
     }
 }
 
-/// What is told of a trial where a run stands, and after each of so many steps more, of so many in all.
+/// The step from which on a trial is looked at.
+fn begins_at(trial: &Trial, first: u64) -> u64
+    ensures at { result ≡ begins_at trial.now first }
+    ensures early { result ≤ first }
+{
+    match trial {
+        Trial::Given(_) => first,
+        Trial::Restart => first,
+        Trial::Noted(since, _) => noted_from(*since, first),
+    }
+}
+
+/// The step since which notes count.
+fn noted_from(since: Option<u64>, first: u64) -> u64
+    ensures at { result ≡ noted_from since first }
+    ensures early { result ≤ first }
+{
+    match since {
+        None => first,
+        Some(since) => since.min(first),
+    }
+}
+
+/// What is told of a trial, of a run that stands where this begins, and after each of so many steps more, of so many in
+/// all.
 fn told_of(
     alloc: Global,
+    symbols: &Symbols,
+    rows: &SourceRows,
     processor: &Processor,
     machine: &Machine,
     trial: &Trial,
@@ -129,14 +188,50 @@ fn told_of(
 ) -> Result<TrialsTold, TrialFault>
     requires few { steps ≤ 2 ^ 40 - 2 }
     requires within { first + more ≤ steps }
-    requires stands { machine.now ≡ run processor.now.scenario first }
-    ensures text { IfOk result
-        (λ told. told.text.written ≡ tried_text processor.now.scenario first more trial.now steps) }
+    requires stands { machine.now ≡ run processor.now.scenario (begins_at trial.now first) }
+    ensures text { IfOk result (λ told. told.text.written
+        ≡ tried_text (program_of symbols.now rows.now processor.now.scenario) processor.now.scenario first more
+        trial.now steps) }
 {
     match trial {
         Trial::Given(input) => try_steps(alloc, processor, machine, first, more, *input, steps),
         Trial::Restart => try_restarts(alloc, processor, machine, first, more, steps),
+        Trial::Noted(since, input) => {
+            let since = noted_from(*since, first);
+            tell_notes(
+                alloc, symbols, rows, processor, machine, since, first, more, *input, steps,
+            )
+        }
     }
+}
+
+/// The notes of the steps after one, at which a run stands, and those that come and go with an input.
+fn tell_notes(
+    alloc: Global,
+    symbols: &Symbols,
+    rows: &SourceRows,
+    processor: &Processor,
+    machine: &Machine,
+    since: u64,
+    first: u64,
+    more: u64,
+    input: Input,
+    steps: u64,
+) -> Result<TrialsTold, TrialFault>
+    requires few { steps ≤ 2 ^ 40 - 2 }
+    requires order { since ≤ first }
+    requires within { first + more ≤ steps }
+    requires stands { machine.now ≡ run processor.now.scenario since }
+    ensures text { IfOk result (λ told. told.text.written
+        ≡ noted_here (named_places (program_of symbols.now rows.now processor.now.scenario)) since
+        processor.now.scenario first more input steps) }
+{
+    let Ok(named) = rows.named_places(alloc, symbols) else {
+        return Err(TrialFault::NoMemory);
+    };
+    note_steps(
+        alloc, &named, processor, machine, since, first, more, input, steps,
+    )
 }
 
 /// Whether an input is tried, and as many stand in the feed as may.
@@ -144,7 +239,15 @@ fn is_full<K: Keeper>(session: &Session<K>, trial: &Trial) -> bool
     ensures { result ≡ is_full trial.now session.now.scenario }
 {
     match trial {
-        Trial::Given(_) => session.processor().plain_inputs().len() >= MOST_INPUTS,
+        Trial::Given(_) => has_most(session),
         Trial::Restart => false,
+        Trial::Noted(_, _) => has_most(session),
     }
+}
+
+/// Whether as many inputs stand as may.
+fn has_most<K: Keeper>(session: &Session<K>) -> bool
+    ensures { result ≡ nat_le most_plain_inputs (plain_inputs session.now.scenario) }
+{
+    session.processor().plain_inputs().len() >= MOST_INPUTS
 }

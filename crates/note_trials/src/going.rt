@@ -5,12 +5,13 @@ ghost use Rattle.cpu.specs.Next.{next};
 ghost use Rattle.cpu.specs.Run.{run};
 ghost use Rattle.cpu.specs.State.{FitsRun, start};
 ghost use Rattle.notes.specs.Noted.{noted, noted_more, nothing_noted};
+ghost use Rattle.whatif.specs.Images.{most_images, with_image};
 ghost use Rattle.whatif.specs.Trials.{IsBefore};
 
 use cpu::{Machine, Processor, make_step};
 use notes::NotedSteps;
 use std::alloc::Global;
-use whatif::TrialFault;
+use whatif::{Images, TrialFault};
 use yayul::NamedPlaces;
 
 /// A run after some steps: the machine there, and the notes of those after so many.
@@ -24,12 +25,15 @@ pub(crate) struct Going {
 
 impl Going {
     /// A run of no step.
-    pub(crate) fn at_start(alloc: Global) -> Going
+    pub(crate) fn at_start(alloc: Global, images: &mut Images) -> Going
+        requires room { images.old.held < most_images }
+        ensures images { images.new ≡ with_image images.old }
         ensures machine { result.machine ≡ start }
         ensures noted { result.noted ≡ nothing_noted }
         ensures from { result.from ≡ 0 }
         ensures done { result.done ≡ 0 }
     {
+        images.take();
         Going {
             machine: Machine::start(),
             noted: NotedSteps::nothing(alloc),
@@ -38,8 +42,30 @@ impl Going {
         }
     }
 
+    /// A run after some steps, of which none is looked at.
+    pub(crate) fn after(alloc: Global, images: &mut Images, machine: &Machine, done: u64) -> Going
+        requires room { images.old.held < most_images }
+        ensures images { images.new ≡ with_image images.old }
+        ensures machine { result.machine ≡ machine.now }
+        ensures noted { result.noted ≡ nothing_noted }
+        ensures from { result.from ≡ done }
+        ensures done { result.done ≡ done }
+    {
+        images.take();
+        let mut copy = Machine::start();
+        machine.copy_to(&mut copy);
+        Going {
+            machine: copy,
+            noted: NotedSteps::nothing(alloc),
+            from: done,
+            done,
+        }
+    }
+
     /// The same again.
-    pub(crate) fn copied(&self, alloc: Global) -> Result<Going, TrialFault>
+    pub(crate) fn copied(&self, alloc: Global, images: &mut Images) -> Result<Going, TrialFault>
+        requires room { images.old.held < most_images }
+        ensures images { OnOk result (images.new ≡ with_image images.old) }
         ensures machine { IfOk result (λ going. going.machine ≡ self.now.machine) }
         ensures noted { IfOk result (λ going. going.noted ≡ self.now.noted) }
         ensures from { IfOk result (λ going. going.from ≡ self.now.from) }
@@ -48,6 +74,7 @@ impl Going {
         let Ok(noted) = self.noted.copied(alloc) else {
             return Err(TrialFault::NoMemory);
         };
+        images.take();
         let mut machine = Machine::start();
         self.machine.copy_to(&mut machine);
         Ok(Going {

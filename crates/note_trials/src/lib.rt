@@ -4,7 +4,9 @@
 mod branch;
 mod change;
 mod going;
+mod here;
 mod span;
 mod trying;
 
+pub use here::note_steps;
 pub use trying::note_trials;

@@ -1,9 +1,10 @@
 //! Trying some inputs, each of them alone.
 
-ghost use Rattle.std.specs.Prelude.{◌≡◌, ◌+◌, ◌-◌, ◌*◌, ◌^◌, ◌≤◌, ◌++◌, None, true, IfOk, OnOk};
+ghost use Rattle.std.specs.Prelude.{◌≡◌, ◌+◌, ◌-◌, ◌*◌, ◌^◌, ◌<◌, ◌≤◌, ◌++◌, None, true, IfOk, OnOk};
 ghost use Rattle.cpu.specs.Run.{run};
 ghost use Rattle.notes.specs.Noted.{noted, nothing_noted};
 ghost use Rattle.note_trials.specs.Changes.{changes, note_trials_text, notes_of, spans_text, trials_text, without_text};
+ghost use Rattle.whatif.specs.Images.{most_images, with_image};
 ghost use Rattle.whatif.specs.Trials.{IsBefore, are_rising};
 
 use crate::branch::try_one;
@@ -14,7 +15,7 @@ use cpu::Processor;
 use feed::Plain;
 use notes::Note;
 use std::alloc::Global;
-use whatif::TrialFault;
+use whatif::{Images, TrialFault};
 use yayul::NamedPlaces;
 
 /// Tries some inputs, each of them alone, in a program whose words name some places: tells the notes of the run of so
@@ -35,13 +36,24 @@ pub fn note_trials(
         ≡ note_trials_text named.now processor.old.scenario trials.now steps) }
     ensures twice { OnOk result (processor.new.meter ≤ processor.old.meter + 2 * steps) }
 {
-    let start = Going::at_start(alloc);
-    try_after(alloc, named, processor, &start, 0, trials, steps)
+    let mut images = Images::none();
+    let start = Going::at_start(alloc, &mut images);
+    try_after(
+        alloc,
+        &mut images,
+        named,
+        processor,
+        &start,
+        0,
+        trials,
+        steps,
+    )
 }
 
 /// Tries some inputs, none below a cycle, from where a run stands of which no step is looked at yet.
 fn try_after(
     alloc: Global,
+    images: &mut Images,
     named: &NamedPlaces,
     processor: &mut Processor,
     start: &Going,
@@ -49,6 +61,7 @@ fn try_after(
     trials: &[Plain],
     steps: u64,
 ) -> Result<Vec<u8>, TrialFault>
+    requires room { images.old.held ≡ 1 }
     requires few { steps ≤ 2 ^ 40 - 2 }
     requires within { start.now.done ≤ steps }
     requires begun { start.now.noted ≡ nothing_noted }
@@ -62,10 +75,11 @@ fn try_after(
     if !are_rising(first, trials) {
         return Err(TrialFault::OutOfOrder);
     }
-    let without = run_without(alloc, named, processor, start, steps)?;
+    let without = run_without(alloc, images, named, processor, start, steps)?;
     let mut text = without_text(alloc, without.noted.notes())?;
     push_trials(
         alloc,
+        images,
         named,
         processor,
         start,
@@ -79,7 +93,7 @@ fn try_after(
 }
 
 /// The notes of the run without a trial.
-fn without_text(alloc: Global, without: &[Note]) -> Result<Vec<u8>, TrialFault>
+pub(crate) fn without_text(alloc: Global, without: &[Note]) -> Result<Vec<u8>, TrialFault>
     ensures { IfOk result (λ text. text.items ≡ without_text without.now) }
 {
     let mut text = Vec::new(alloc);
@@ -90,13 +104,15 @@ fn without_text(alloc: Global, without: &[Note]) -> Result<Vec<u8>, TrialFault>
 }
 
 /// The run without a trial, to its end.
-fn run_without(
+pub(crate) fn run_without(
     alloc: Global,
+    images: &mut Images,
     named: &NamedPlaces,
     processor: &mut Processor,
     start: &Going,
     steps: u64,
 ) -> Result<Going, TrialFault>
+    requires room { images.old.held < most_images }
     requires few { steps ≤ 2 ^ 40 - 2 }
     requires within { start.now.done ≤ steps }
     requires begun { start.now.noted ≡ nothing_noted }
@@ -106,8 +122,9 @@ fn run_without(
         ≡ notes_of named.now start.now.from processor.old.scenario steps) }
     ensures scenario { processor.new.scenario ≡ processor.old.scenario }
     ensures once { processor.new.meter + start.now.done ≤ processor.old.meter + steps }
+    ensures images { OnOk result (images.new ≡ with_image images.old) }
 {
-    let mut whole = start.copied(alloc)?;
+    let mut whole = start.copied(alloc, images)?;
     whole.go_on(named, processor, steps)?;
     Ok(whole)
 }
@@ -129,6 +146,7 @@ fn are_rising(first: u64, trials: &[Plain]) -> bool
 /// Tells what each of some inputs changes, beside the notes of the run without them.
 fn push_trials(
     alloc: Global,
+    images: &mut Images,
     named: &NamedPlaces,
     processor: &mut Processor,
     start: &Going,
@@ -138,6 +156,7 @@ fn push_trials(
     steps: u64,
     text: &mut Vec<u8>,
 ) -> Result<(), TrialFault>
+    requires room { images.old.held ≡ 2 }
     requires few { steps ≤ 2 ^ 40 - 2 }
     requires within { start.now.done ≤ steps }
     requires begun { start.now.noted ≡ nothing_noted }
@@ -149,10 +168,12 @@ fn push_trials(
         (changes named.now without.now start.now.from processor.old.scenario steps trials.now)) }
     ensures once { OnOk result (processor.new.meter + start.now.done ≤ processor.old.meter + steps) }
 {
-    let mut trunk = start.copied(alloc)?;
+    let mut trunk = start.copied(alloc, images)?;
     let mut pending = None;
     for trial in trials {
-        let change = try_one(alloc, named, processor, &mut trunk, trial, without, steps)?;
+        let change = try_one(
+            alloc, images, named, processor, &mut trunk, trial, without, steps,
+        )?;
         pending = Some(with_trial(pending, trial.cycle, change, text)?);
     }
     push_open(text, &pending)

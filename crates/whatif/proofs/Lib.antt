@@ -10,6 +10,6 @@ pub mod Rising
 mod Told
 mod Words
 mod Rows
-mod Stepwise
-mod Holding
+pub mod Stepwise
+pub mod Holding
 mod Restarting

@@ -5,21 +5,23 @@ ghost use Rattle.whatif.specs.Images.{less_image, most_images, no_images, with_i
 
 /// How many machines are held, and the most that were at once.
 #[derive(Clone, Copy, PartialEq, Eq, Debug)]
-pub(crate) struct Images {
-    pub(crate) held: u64,
-    pub(crate) most: u64,
+pub struct Images {
+    /// How many are held.
+    pub held: u64,
+    /// The most that were at once.
+    pub most: u64,
 }
 
 impl Images {
     /// None.
-    pub(crate) fn none() -> Images
+    pub fn none() -> Images
         ensures { result ≡ no_images }
     {
         Images { held: 0, most: 0 }
     }
 
     /// One more is held.
-    pub(crate) fn take(&mut self)
+    pub fn take(&mut self)
         requires { self.old.held < most_images }
         ensures { self.new ≡ with_image self.old }
     {
@@ -28,7 +30,7 @@ impl Images {
     }
 
     /// One is let go.
-    pub(crate) fn give(&mut self)
+    pub fn give(&mut self)
         requires { 0 < self.old.held }
         ensures { self.new ≡ less_image self.old }
     {

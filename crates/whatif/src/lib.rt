@@ -18,6 +18,7 @@ mod trying;
 
 pub use fault::TrialFault;
 pub use here::{TrialsTold, try_steps};
+pub use images::Images;
 pub use restart::try_restarts;
 pub use sent::Sent;
 pub use text_reader::TextReader;

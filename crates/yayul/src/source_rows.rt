@@ -74,11 +74,7 @@ impl SourceRows {
 
     /// The places that the words of a program name which has these lines, and some symbols. An `Err` is that memory ran
     /// out.
-    pub fn named_places(
-        &self,
-        alloc: Global,
-        symbols: &Symbols,
-    ) -> Result<NamedPlaces, AllocError>
+    pub fn named_places(&self, alloc: Global, symbols: &Symbols) -> Result<NamedPlaces, AllocError>
         ensures { (rope : Words) → IfOk result (λ named. named ≡ named_places (record {
           rope = rope;
           symbols = symbols.now;

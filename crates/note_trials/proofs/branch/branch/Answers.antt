@@ -1,6 +1,8 @@
 use Rattle.std.proofs.Common.{◌≡◌, ◌∙◌, ap}
 use Rattle.notes.specs.Noted.{Noted, noted}
 use Rattle.note_trials.specs.Changes.{change_text}
+use Rattle.whatif.specs.Images.{less_image}
+use Rattle.whatif.proofs.Holding.{let_go}
 use Rattle.whatif.proofs.OneMore.{state_at}
 use Rattle.note_trials.proofs.Parts.{noted_at, noted_of_trial}
 use Rattle.note_trials.proofs.branch.branch.Goals as goal
@@ -18,13 +20,14 @@ go_on-requires-clause-noted c =
     c.requires.before c.requires.noted
     c.in_ok-going.ensures.noted c.in_ok-going.ensures.from c.in_ok-going.ensures.done
 
-pub returns : goal.returns
-returns c =
+pub returns-clause-change : goal.returns-clause-change
+returns-clause-change c =
     let scenario = c.args.processor.now.scenario in
     let now : c.go_on.new.self.noted ≡ noted c.args.named.now c.args.trunk.now.from c.in_ok-fork.fork.scenario c.args.steps = rw
     c.in_ok-going.ensures.from at c.in_ok-go_on.ensures.noted in
-    record {
-      change = c.in_ok-change.ensures ∙ ap (λ (a : Noted). change_text c.args.without.now a.notes)
-          (now ∙ noted_of_trial c.args.named.now c.args.trunk.now.from scenario _ c.args.trial.now c.args.steps c.in_ok-fork.ensures.rope
-          c.in_ok-fork.ensures.inputs);
-    }
+    c.in_ok-change.ensures ∙ ap (λ (a : Noted). change_text c.args.without.now a.notes)
+    (now ∙ noted_of_trial c.args.named.now c.args.trunk.now.from scenario _ c.args.trial.now c.args.steps c.in_ok-fork.ensures.rope
+    c.in_ok-fork.ensures.inputs)
+
+pub returns-clause-images : goal.returns-clause-images
+returns-clause-images c = c.give.ensures ∙ ap less_image c.in_ok-going.ensures.images ∙ let_go c.args.images.now

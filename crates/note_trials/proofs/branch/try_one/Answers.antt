@@ -10,4 +10,4 @@ pub branch-alloc-requires-clause-before : goal.branch-alloc-requires-clause-befo
 branch-alloc-requires-clause-before c = rw c.in_ok-go_to.ensures.scenario c.in_ok-go_to.ensures.before
 
 pub returns-clause-change : goal.returns-clause-change
-returns-clause-change c = rw (c.in_ok-go_to.ensures.scenario, c.in_ok-go_to.ensures.from) at c.in_ok-change.ensures.change
+returns-clause-change c = rw (c.in_ok-go_to.ensures.scenario, c.in_ok-go_to.ensures.from) at c.in_ok-tried.ensures.change

@@ -1,6 +1,7 @@
 use Rattle.std.proofs.Common.{◌≡◌, ◌∙◌, ◌+◌, ◌<◌, ◌∷◌, drop, length, refl, sym, ap, arith}
 use Rattle.std.proofs.lemmas.List.{drop_all, drop_more}
 use Rattle.std.proofs.lemmas.Result.{on_ok_weaker}
+use Rattle.whatif.specs.declared.images.Images.{Images}
 use Rattle.whatif.proofs.Rising.{first_way, next_before, next_way}
 use Rattle.note_trials.proofs.Steps.{noted_begins}
 use Rattle.note_trials.proofs.Told.{few_span, told_all, told_more}
@@ -20,6 +21,7 @@ loop-trial-init c = record {
       c.requires.before c.requires.rising;
   few = omega arith;
   once = omega (arith, c.in_ok-trunk.ensures.done);
+  held = ap (λ (i : Images). i.held) c.in_ok-trunk.ensures.images ∙ omega (arith, c.requires.room);
 }
 
 pub try_one-requires-clause-machine : goal.try_one-requires-clause-machine
@@ -59,6 +61,7 @@ loop-trial-preserved c =
       few = few_span c.loop-trial.pending c.trial-item.result.cycle _ _ c.loop-trial.trial-index c.loop-trial.invariant.few
           c.in_ok-with_trial.ensures.span;
       once = omega (arith, c.loop-trial.invariant.once, c.in_ok-change.ensures.once);
+      held = ap (λ (i : Images). i.held) c.in_ok-change.ensures.images ∙ c.loop-trial.invariant.held;
     }
 
 pub returns-clause-told : goal.returns-clause-told

@@ -19,4 +19,5 @@ invariant-loop-trial l = record {
   way : IsOnTheWay l.fn.processor.scenario l.trunk.done (drop l.trial-index l.trials);
   few : number_of l.pending ≤ l.trial-index;
   once : l.processor.meter + l.start.done ≤ l.fn.processor.meter + l.trunk.done;
+  held : l.images.held ≡ 3;
 }

@@ -20,7 +20,7 @@ use Rattle.say.specs.declared.form.LineForm.TheVariants.{Steps, Sentences}
 use Rattle.debugger.specs.SteppedTail.{stepped_tail}
 use Rattle.debugger.specs.Surveys.{survey_text}
 use Rattle.debugger.specs.OriginsTold.{tells_inputs, tells_interrupts}
-use Rattle.debugger.specs.WhatIfs.{tries}
+use Rattle.debugger.specs.WhatIfs.{program_of, tries}
 use Rattle.debugger.specs.Whys.{why_text, last_text, subject_spots}
 use Rattle.debugger.specs.WhysSince.{since_text}
 use Rattle.debugger.specs.Ways.{control_text, way_text}
@@ -277,7 +277,8 @@ unfolding extended_reply
 returns-in-WhatIf-clause-executes g c = λ told.
     rw c.in-WhatIf.is (replies-same g.K.Keeper.may_refuse
     (to_asked (terms c.args.symbols.now c.args.rows.now c.args.first_added) (WhatIf c.in-WhatIf.trial c.in-WhatIf.extent))
-    (tries c.in-WhatIf.trial c.in-WhatIf.extent) _ _ _ _ _ (λ answers additions. refl) (c.what_if.ensures.executes told))
+    (tries (program_of c.args.symbols.now c.args.rows.now c.args.session.now.scenario) c.in-WhatIf.trial c.in-WhatIf.extent) _ _ _ _ _
+    (λ answers additions. refl) (c.what_if.ensures.executes told))
 
 pub returns-in-WhyInputs-clause-executes : goal.returns-in-WhyInputs-clause-executes
 unfolding extended_reply
