@@ -33,21 +33,6 @@ impl Machine {
         ensures still { IsStill self.new }
     {
         let word = self.word_at_z(rope).to_u16();
-        self.execute_basic_word(rope, word)
-    }
-
-    /// The same of a word that was read.
-    #[inline(always)]
-    pub(crate) fn execute_basic_word(&mut self, rope: &Rope, word: u16) -> Option<bool>
-        requires still { IsStill self.old }
-        requires few { self.old.cycles ≤ most_cycles }
-        requires basic { self.old.extra ≡ false }
-        requires word { word ≡ word_at_z rope.now self.old }
-        ensures left { result ≡ None → self.new ≡ self.old }
-        ensures made { IfSome result (λ _. (self.new, None) ≡ execute rope.now self.old) }
-        ensures extra { IfSome result (λ extra. self.new.extra ≡ extra) }
-        ensures still { IsStill self.new }
-    {
         match basic_entry(word) {
             Instruction::Tc => self.execute_transfer(rope, word),
             Instruction::Ccs => Some(self.execute_as(rope, Instruction::Ccs, word, false)),
@@ -63,6 +48,37 @@ impl Machine {
             Instruction::Xch => Some(self.execute_as(rope, Instruction::Xch, word, false)),
             Instruction::Ad => Some(self.execute_as(rope, Instruction::Ad, word, false)),
             Instruction::Mask => Some(self.execute_as(rope, Instruction::Mask, word, false)),
+            _ => None,
+        }
+    }
+
+    /// The same of a word that was read, for loops that look at each word: a function of one loop is compiled in line.
+    #[inline(always)]
+    pub(crate) fn execute_basic_word(&mut self, rope: &Rope, held: u16) -> Option<bool>
+        requires still { IsStill self.old }
+        requires few { self.old.cycles ≤ most_cycles }
+        requires basic { self.old.extra ≡ false }
+        requires word { held ≡ word_at_z rope.now self.old }
+        ensures left { result ≡ None → self.new ≡ self.old }
+        ensures made { IfSome result (λ _. (self.new, None) ≡ execute rope.now self.old) }
+        ensures extra { IfSome result (λ extra. self.new.extra ≡ extra) }
+        ensures still { IsStill self.new }
+    {
+        match basic_entry(held) {
+            Instruction::Tc => self.execute_transfer(rope, held),
+            Instruction::Ccs => Some(self.execute_as(rope, Instruction::Ccs, held, false)),
+            Instruction::Tcf => Some(self.execute_as(rope, Instruction::Tcf, held, false)),
+            Instruction::Das => Some(self.execute_as(rope, Instruction::Das, held, false)),
+            Instruction::Lxch => Some(self.execute_as(rope, Instruction::Lxch, held, false)),
+            Instruction::Incr => Some(self.execute_as(rope, Instruction::Incr, held, false)),
+            Instruction::Ads => Some(self.execute_as(rope, Instruction::Ads, held, false)),
+            Instruction::Ca => Some(self.execute_as(rope, Instruction::Ca, held, false)),
+            Instruction::Cs => Some(self.execute_as(rope, Instruction::Cs, held, false)),
+            Instruction::Dxch => Some(self.execute_as(rope, Instruction::Dxch, held, false)),
+            Instruction::Ts => Some(self.execute_as(rope, Instruction::Ts, held, false)),
+            Instruction::Xch => Some(self.execute_as(rope, Instruction::Xch, held, false)),
+            Instruction::Ad => Some(self.execute_as(rope, Instruction::Ad, held, false)),
+            Instruction::Mask => Some(self.execute_as(rope, Instruction::Mask, held, false)),
             _ => None,
         }
     }
@@ -100,21 +116,6 @@ impl Machine {
         ensures still { IsStill self.new }
     {
         let word = self.word_at_z(rope).to_u16();
-        self.execute_extracode_word(rope, word)
-    }
-
-    /// The same of a word that was read.
-    #[inline(always)]
-    pub(crate) fn execute_extracode_word(&mut self, rope: &Rope, word: u16) -> bool
-        requires still { IsStill self.old }
-        requires few { self.old.cycles ≤ most_cycles }
-        requires extracode { self.old.extra ≡ true }
-        requires word { word ≡ word_at_z rope.now self.old }
-        ensures left { result ≡ false → self.new ≡ self.old }
-        ensures made { result ≡ true → (self.new, None) ≡ execute rope.now self.old }
-        ensures basic { result ≡ true → self.new.extra ≡ false }
-        ensures still { IsStill self.new }
-    {
         match decode(word, true) {
             Instruction::Read => !self.execute_as(rope, Instruction::Read, word, true),
             Instruction::Rand => !self.execute_as(rope, Instruction::Rand, word, true),
@@ -132,6 +133,39 @@ impl Machine {
             Instruction::Su => !self.execute_as(rope, Instruction::Su, word, true),
             Instruction::Bzmf => !self.execute_as(rope, Instruction::Bzmf, word, true),
             Instruction::Mp => !self.execute_as(rope, Instruction::Mp, word, true),
+            _ => false,
+        }
+    }
+
+    /// The same of a word that was read.
+    #[inline(always)]
+    pub(crate) fn execute_extracode_word(&mut self, rope: &Rope, held: u16) -> bool
+        requires still { IsStill self.old }
+        requires few { self.old.cycles ≤ most_cycles }
+        requires extracode { self.old.extra ≡ true }
+        requires word { held ≡ word_at_z rope.now self.old }
+        ensures left { result ≡ false → self.new ≡ self.old }
+        ensures made { result ≡ true → (self.new, None) ≡ execute rope.now self.old }
+        ensures basic { result ≡ true → self.new.extra ≡ false }
+        ensures still { IsStill self.new }
+    {
+        match decode(held, true) {
+            Instruction::Read => !self.execute_as(rope, Instruction::Read, held, true),
+            Instruction::Rand => !self.execute_as(rope, Instruction::Rand, held, true),
+            Instruction::Ror => !self.execute_as(rope, Instruction::Ror, held, true),
+            Instruction::Rxor => !self.execute_as(rope, Instruction::Rxor, held, true),
+            Instruction::Edrupt => !self.execute_as(rope, Instruction::Edrupt, held, true),
+            Instruction::Dv => !self.execute_as(rope, Instruction::Dv, held, true),
+            Instruction::Bzf => !self.execute_as(rope, Instruction::Bzf, held, true),
+            Instruction::Msu => !self.execute_as(rope, Instruction::Msu, held, true),
+            Instruction::Qxch => !self.execute_as(rope, Instruction::Qxch, held, true),
+            Instruction::Aug => !self.execute_as(rope, Instruction::Aug, held, true),
+            Instruction::Dim => !self.execute_as(rope, Instruction::Dim, held, true),
+            Instruction::Dca => !self.execute_as(rope, Instruction::Dca, held, true),
+            Instruction::Dcs => !self.execute_as(rope, Instruction::Dcs, held, true),
+            Instruction::Su => !self.execute_as(rope, Instruction::Su, held, true),
+            Instruction::Bzmf => !self.execute_as(rope, Instruction::Bzmf, held, true),
+            Instruction::Mp => !self.execute_as(rope, Instruction::Mp, held, true),
             _ => false,
         }
     }
