@@ -22,8 +22,8 @@ LINKED = f"""-mwasm64 -O2 -s --gc-sections --no-entry --export=main --import-mem
     --stack-first -z stack-size={STACK_BYTES}""".split()
 # What LLVM's target for WebAssembly takes as there. (Of the passes, one makes addresses of 32 bits; what that leaves over is taken away by the others.)
 FEATURES = "--enable-memory64 --enable-bulk-memory --enable-sign-ext --enable-mutable-globals --enable-nontrapping-float-to-int".split()
-# What makes it small: functions that differ in constants alone become one.
-SMALL = "-O1 --merge-similar-functions --rse --merge-locals --vacuum".split()
+# What makes it small: functions that differ in constants alone become one, and those that are called most have the shortest numbers.
+SMALL = "-O1 --merge-similar-functions --rse --merge-locals --vacuum --code-folding --duplicate-function-elimination --reorder-locals --reorder-functions".split()
 # Sections of a module: tables of functions, and what stands in them.
 TABLES, ELEMENTS = 4, 9
 # The section that says which program this is.
