@@ -6,6 +6,7 @@ from common import EXAMPLES, PROGRAM, Case, agcws, write
 # Cycles: TC, TCF and EXTEND 1, and TC Q 2, its own and that of the TC in Q; BZF 1 where it jumps, else 2; DXCH 3; the others here 2.
 SOURCE = """\
 Q       EQUALS  2
+EB      EQUALS  3
 FB      EQUALS  4
 Z       EQUALS  5
         SETLOC  100
@@ -106,6 +107,128 @@ SPINS   CCS     COUNT
         TCF     SPINS
         TCF     SPINS
         TCF     SPINS
+# CA 2, and COUNT is changed by INCR in the loop, by DXCH of the word before it, and under INDEX by what no word tells
+TOUCHED CA      TEN
+TLOOP   TS      COUNT
+        INCR    COUNT
+        CCS     COUNT
+        TCF     TLOOP
+        TC      Q
+        TC      Q
+        TC      Q
+PAIRED  CA      TEN
+PLOOP   TS      OUTER
+        DXCH    COUNT
+        CCS     OUTER
+        TCF     PLOOP
+        TC      Q
+        TC      Q
+        TC      Q
+TABLED  CA      TEN
+XLOOP   TS      COUNT
+        INDEX   COUNT
+        TS      KEPTQ
+        CCS     COUNT
+        TCF     XLOOP
+        TC      Q
+        TC      Q
+        TC      Q
+# READ is no write: a round is TS 2, INDEX 2, CA 2, CCS 2, TCF 1; the last ends with TC Q 2 for TCF
+SUMMED  CA      TEN
+SLOOP   TS      COUNT
+        INDEX   COUNT
+        CA      TEN
+        CCS     COUNT
+        TCF     SLOOP
+        TC      Q
+        TC      Q
+        TC      Q
+# the loop is entered past the store too
+JUMPED  EXTEND
+        BZF     JENTRY
+        CA      TEN
+JLOOP   TS      COUNT
+JENTRY  CCS     COUNT
+        TCF     JLOOP
+        TC      Q
+        TC      Q
+        TC      Q
+# from a number that the program computes; and from one below 0
+LOADED  CA      OUTER
+LLOOP   TS      COUNT
+        CCS     COUNT
+        TCF     LLOOP
+        TC      Q
+        TC      Q
+        TC      Q
+BELOW   CA      MINUS
+BLOOP   TS      COUNT
+        CCS     COUNT
+        TCF     BLOOP
+        TC      Q
+        TC      Q
+        TC      Q
+MINUS   DEC     -10
+# a call stands in the loop
+CALLING EXTEND
+        QXCH    KEPTQ
+        CA      TEN
+CLOOP   TS      OUTER
+        TC      LEAF
+        CCS     OUTER
+        TCF     CLOOP
+        TC      KEPTQ
+        TC      KEPTQ
+        TC      KEPTQ
+# TIME1 and a cell of the registers are written by the machine
+TICKS   CA      TEN
+TICK    TS      26
+        CCS     26
+        TCF     TICK
+        TC      Q
+        TC      Q
+        TC      Q
+# a cell of a switched bank: a write of EB, and of the same offset elsewhere
+SWAPPED CA      TEN
+WLOOP   TS      1500
+        TS      EB
+        NOOP
+        CCS     1500
+        TCF     WLOOP
+        TC      Q
+        TC      Q
+        TC      Q
+ALIASED CA      TEN
+ALOOP   TS      1500
+        INCR    COUNT
+        CCS     1500
+        TCF     ALOOP
+        TC      Q
+        TC      Q
+        TC      Q
+# a round is TS 2, CCS 2, TCF 1
+BANKED1 CA      TEN
+KLOOP   TS      1501
+        CCS     1501
+        TCF     KLOOP
+        TC      Q
+        TC      Q
+        TC      Q
+# as NESTED, with CA 2 more: TS OUTER, which may skip, skips to no head
+APART   CA      TEN
+ABOVE   TS      OUTER
+        CA      TEN
+        CA      TEN
+INNER   TS      COUNT
+        CCS     COUNT
+        TCF     INNER
+        CA      TEN
+        CA      TEN
+        CCS     OUTER
+        TCF     ABOVE
+        TC      Q
+        TC      Q
+        TC      Q
 FIRST   TC      SECOND
         TC      Q
 SECOND  EXTEND
@@ -156,11 +279,38 @@ BOUNDS = [
     ("SWITCH", [], "AT MOST 6 CYCLES"),
 ]
 
+# A routine with its options, its cycles, and the loops that are counted: head, cell and constant. DEC 10 is entered, and so 11 rounds are made.
+COUNTED = [
+    ("SHORT", [], 58, ["02,4002 COUNTED BY CCS 0100 FROM 10"]),  # 2 + 10 * 5 + 6
+    # 2 + 10 * (2 + 4 + 54 + 4 + 2 + 1) + 2 + 4 + 54 + 4 + 2 + 2, where INNER takes 10 * 5 + 4 in each round of ABOVE
+    ("APART", [], 740, ["ABOVE COUNTED BY CCS 0101 FROM 10", "INNER COUNTED BY CCS 0100 FROM 10"]),
+    ("APART", ["--loops", "ABOVE 11"], 740, ["INNER COUNTED BY CCS 0100 FROM 10"]),
+    ("APART", ["--loops", "INNER 121"], 740, ["ABOVE COUNTED BY CCS 0101 FROM 10"]),
+    ("NESTED", ["--loops", "IN 121"], 718, ["OUT COUNTED BY CCS 0101 FROM 10"]),
+    ("SUMMED", [], 102, ["SLOOP COUNTED BY CCS 0100 FROM 10"]),  # 2 + 10 * 9 + 8 + 2
+    ("BANKED1", [], 58, ["KLOOP COUNTED BY CCS 1501 FROM 10"]),
+    # of the loop AGAIN the number is stated, since it calls
+    ("LONG", ["--kept", "KEPTQ", "--loops", "AGAIN 11"], 710, ["02,4002 COUNTED BY CCS 0100 FROM 10"]),
+]
+
 REFUSED = [
-    ("SHORT", [], "NO BOUND: 02,4002 IS IN A LOOP WITHOUT A BOUND"),
+    ("LOOP", [], "NO BOUND: 02,4002 IS IN A LOOP WITHOUT A BOUND"),
+    ("LONG", ["--kept", "KEPTQ"], "IS IN A LOOP WITHOUT A BOUND"),
+    # TS OUTER may skip CA, and then enters the inner loop from elsewhere than the word before it
+    ("NESTED", [], "IS IN A LOOP WITHOUT A BOUND"),
+    ("NESTED", ["--loops", "OUT 11"], "IS IN A LOOP WITHOUT A BOUND"),
+    ("TOUCHED", [], "IS IN A LOOP WITHOUT A BOUND"),
+    ("PAIRED", [], "IS IN A LOOP WITHOUT A BOUND"),
+    ("TABLED", [], "IS IN A LOOP WITHOUT A BOUND"),
+    ("JUMPED", [], "IS IN A LOOP WITHOUT A BOUND"),
+    ("LOADED", [], "IS IN A LOOP WITHOUT A BOUND"),
+    ("BELOW", [], "IS IN A LOOP WITHOUT A BOUND"),
+    ("CALLING", ["--kept", "KEPTQ"], "IS IN A LOOP WITHOUT A BOUND"),
+    ("TICKS", [], "IS IN A LOOP WITHOUT A BOUND"),
+    ("SWAPPED", [], "IS IN A LOOP WITHOUT A BOUND"),
+    ("ALIASED", [], "IS IN A LOOP WITHOUT A BOUND"),
     ("LONG", ["--loops", "LOOP 11 AGAIN 11"], "LEADS TO NO KNOWN WORD"),
     ("LONG", ["--kept", "KEPTQ", "--loops", "LOOP 11"], "IS IN A LOOP WITHOUT A BOUND"),
-    ("NESTED", ["--loops", "OUT 11"], "IS IN A LOOP WITHOUT A BOUND"),
     ("JUMPS", ["--loops", "LOOP 11"], "JUMPS UNDER INDEX"),
     ("LEAVES", [], "LEADS TO NO KNOWN WORD"),
     ("STEERS", [], "WRITES Z OR ITS OWN BANK"),
@@ -203,6 +353,18 @@ class Bound(Case):
         for routine, options, line in BOUNDS:
             with self.subTest(f"{routine} {options}"):
                 self.assertAnswer(agcws("bound", *options, self.source, routine), 0, f"{line}\n".encode())
+
+    def test_counted_loops(self):
+        """Loops that are counted by CCS, in the order of their last words."""
+        listing = agcws("asm", self.source, f"{self.room}/bound.rope")[1].decode()
+        places = {row.split()[3]: row.split()[1] for row in listing.splitlines() if len(row.split()) > 4 and row.split()[1].startswith("02,")}
+        for routine, options, cycles, loops in COUNTED:
+            rows = [f"{places.get(row.split()[0], row.split()[0])} {row.split(' ', 1)[1]}" for row in loops]
+            status, out, err = agcws("bound", *options, self.source, routine)
+            with self.subTest(f"{routine} {options}"):
+                self.assertEqual((status, err), (0, b""))
+                lines = out.decode().splitlines()
+                self.assertEqual((lines[0], sorted(lines[1:])), (f"AT MOST {cycles} CYCLES", sorted(rows)))
 
     def test_causes(self):
         for routine, options, line in REFUSED:

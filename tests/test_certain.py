@@ -122,6 +122,18 @@ class Certain(Case):
             with self.subTest(name):
                 self.assertAnswer(agcws("compare", "--only", "--flight", *self.image_of(source, changed)), bool(changed), wanted.encode())
 
+    def test_banks(self):
+        """With --banks an account of each bank follows: of 17 places of bank 2 seven are certain, of which the dump has four."""
+        for name, source, changed, wanted in (
+            ("certain and uncertain words differ", SOURCE, CHANGED, DIFFERENCES + "BANK 02 CERTAIN 7 EQUAL 4 UNCERTAIN 10 HOLES 0\nBANK 04 CERTAIN 1 EQUAL 1 HOLES 0\nBANK 31 CERTAIN 1 EQUAL 1 HOLES 0\n"),
+            ("nothing is uncertain, a word differs", CERTAIN, {0o2: 0o00006}, "02,4002 00005 00006 TC 0005, EXTEND\nCOUNT 1\nBANK 02 CERTAIN 6 EQUAL 5 HOLES 0\n"),
+        ):
+            with self.subTest(name):
+                self.assertAnswer(agcws("compare", "--only", "--flight", "--banks", *self.image_of(source, changed)), 1, wanted.encode())
+        for options in (("--only", "--banks"), ("--only", "--holes"), ("--banks",)):
+            with self.subTest(" ".join(options)):
+                self.assertEqual(agcws("compare", *options, *self.image_of(CERTAIN, {}))[:2], (2, b""))
+
     def test_warned(self):
         """W17 of `check` stands on the lines of those words that are uncertain by 2CADR or EBANK=, and on no other."""
         for name, source in (("SOURCE", SOURCE), ("OTHERS", OTHERS), ("CERTAIN", CERTAIN)):

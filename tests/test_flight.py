@@ -39,6 +39,15 @@ REFUSED = [
     (" -DNCHAN 1000", 25), ("X CHECK= 5;X OCT 1", 14), (" CHECKS= X", 15),
 ]
 
+# Forms that are refused, what is assumed of them, and the words by hand: 5 times 200 and 9; an address of 12 bits after 3; eight places from 1400 on; 19 is 23, and 18 is 22.
+ASSUMED = [
+    ("MODE MM 37", "MM=DEC", [0o45]), (" NV 0509", "NV=VN", [0o1211]), (" BBCON* # high", "BBCON*=66100", [0o66100]),
+    (" SETLOC 54017;X OCT 5; DNPTR X", "DNPTR=CA", [5, 0o32017]), ("N = 19; ADRES N", "8=8D", [0o23]), (" TC 400 +8; TC 400 +18D", "8=8D", [0o410, 0o422]),
+    (" SETLOC 1400;X ERASE 7;Y ERASE; SETLOC 4000; ADRES Y; ADRES X", "ERASE=COUNT", [0o1410, 0o1400]),
+    (" SETLOC 1400;X ERASE 7;Y ERASE; SETLOC 4000; ADRES Y; ADRES X", "ERASE=EQUALS", [0o1400, 7]),
+    (" SETLOC 54017;X OCT 5; 2BCADR X", "2BCADR=2CADR", [5, 0o2017, 0o44000]),
+]
+
 # A module with lines of the interpretive language, a semicolon between two, and its holes, by hand: 4001 to 4004 up to
 # EXIT, and in bank 4 from VSUB on those that are no constant, up to CA; and two behind DEC.
 MODULE = (
@@ -112,6 +121,42 @@ class Flight(Case):
         for options in (("--holes",), ("--flight", "--fill", f"{self.room}/rope.img"), ("--flight", "--holes", "--sums")):
             self.assertEqual(self.asm(MODULE, *options)[0], 2)
 
+    def compare(self, *options):
+        ran = subprocess.run([PROGRAM, "compare", "--only", "--flight", *options, f"{self.room}/flight.agc", f"{self.room}/rope.img"], capture_output=True, timeout=300)
+        return ran.returncode, ran.stdout.decode(), ran.stderr.decode()
+
+    def test_banks_with_holes(self):
+        """Holes are not compared: a rope with other words there, and 00006 for OCT 5 at 02,4010, differs at that place alone."""
+        self.assertEqual(self.asm(MODULE.replace("FIVE OCT 5", "FIVE OCT 6"), "--flight", "--holes")[0], 0)
+        rope = bytearray(read(f"{self.room}/flight.img"))
+        for offset in (1, 2, 3, 4):
+            rope[2 * offset : 2 * offset + 2] = b"\xff\xfe"
+        write(f"{self.room}/rope.img", bytes(rope))
+        self.assertEqual(self.asm(MODULE, "--flight", "--holes")[0], 0)
+        banks = "BANK 02 CERTAIN 5 EQUAL 4 HOLES 4\nBANK 04 CERTAIN 6 EQUAL 6 HOLES 11\n"
+        wanted = (1, "02,4010 00005 00006 TC 0005, EXTEND\nCOUNT 1\n" + banks, "")
+        self.assertEqual(self.compare("--holes"), wanted)
+        self.assertEqual(self.compare("--holes", "--banks"), wanted)
+        self.assertEqual(self.compare("--banks"), (1, "", "agcws: E15 LINE 7\n"))
+
+    def test_sums_beside_holes(self):
+        """The sums are those of the filled words; without a filling a bank with a hole has none."""
+        self.assertEqual(self.asm(MODULE, "--flight", "--holes")[0], 0)
+        rope = bytearray(read(f"{self.room}/flight.img"))
+        rope[2:4] = (2 * 0o12345).to_bytes(2, "big")
+        write(f"{self.room}/rope.img", bytes(rope))
+        status, listing, err = self.asm(MODULE, "--flight", "--holes", "--fill", f"{self.room}/rope.img", "--sums")
+        self.assertEqual((status, err), (0, ""))
+        self.assertIn("# HOLE 02,4001 12345\n", listing)
+        image = read(f"{self.room}/flight.img")
+        self.assertEqual(image[:18], bytes(rope[:18]))
+        sums = subprocess.run([PROGRAM, "sums", f"{self.room}/flight.img"], capture_output=True, timeout=300).stdout.decode().splitlines()
+        self.assertTrue({"02 00002", "02 77775"} & set(sums) and {"04 00004", "04 77773"} & set(sums), sums)
+        for options in (("--sums",), ("--sums", "--xref")):
+            self.assertEqual(self.asm(MODULE, "--flight", "--holes", *options), (2, "", "error: a bank with a hole has no sum: --sums beside --holes needs --fill FILE, the image that fills it\n"))
+        full = MODULE.replace("SETLOC 20100", "SETLOC 21773")
+        self.assertEqual(self.asm(full, "--flight", "--holes", "--fill", f"{self.room}/rope.img", "--sums")[0], 1)
+
     def test_no_holes(self):
         """A source without such lines comes to the same image and listing, and has no hole."""
         for path in sorted(glob.glob(f"{EXAMPLES}/flight/*.agc")):
@@ -125,6 +170,46 @@ class Flight(Case):
         for text, line in ((" BOF X;X OCT 5", 1), (" DLOAD; ITA X", 2), (" EXIT; RN", 2), (" DLOAD; TC X; RN;X OCT 5", 3)):
             with self.subTest(text):
                 self.assertEqual(self.asm(text.join((" SETLOC 4000;", "")), "--flight", "--holes")[2], f"agcws: E15 LINE {line + 1}\n")
+
+
+    def test_assumed(self):
+        """What is assumed of a form is its word; without it, and with another wording, the form is refused as it was."""
+        for text, wording, words in ASSUMED:
+            with self.subTest(wording):
+                status, listing, err = self.asm(text, "--flight", "--assume", wording)
+                got = [int(line.split(",")[1].split()[1], 8) for line in listing.splitlines() if line[6:8].isdigit() and line[8:9] == ","]
+                self.assertEqual((status, got), (0, words), err)
+                self.assertEqual(listing.count(f" # ASSUMED {wording}\n"), 1)
+                refused = self.asm(text, "--flight")
+                self.assertEqual(refused[:2], (1, ""))
+                self.assertEqual(self.asm(text, "--flight", "--assume", "MM=DEC" if wording != "MM=DEC" else "NV=VN"), refused)
+
+    def test_assumed_of_a_file(self):
+        """A file tells which wordings are assumed; what is none is refused; check tells the lines that stand so."""
+        text = "# no word;MODE MM 37# P37; VN 0509; NV 0509"
+        profile = write(f"{self.room}/profile", b"MM=DEC # measured by hand\r\n\n# NV=VV\nNV=VN\t8=8D\n")
+        told = self.asm(text, "--flight", "--assume", f"@{profile}")
+        self.assertEqual(told, self.asm(text, "--flight", "--assume", "NV=VN,MM=DEC"))
+        self.assertIn("MODE DEC 37# P37 # ASSUMED MM=DEC\n", told[1])
+        for wording in ("MM=OCT", "MM", "mm=dec", "MM=DEC;NV=VN", f"@{self.room}/flight.agc"):
+            self.assertEqual(self.asm(text, "--flight", "--assume", wording)[0], 2)
+        self.assertEqual(self.asm(text, "--assume", "MM=DEC")[0], 2)
+        plain = self.asm(" VN 0509;X OCT 5", "--flight")
+        image = read(f"{self.room}/flight.img")
+        write(f"{self.room}/none", b"# nothing is assumed\n")
+        for wording in (f"@{self.room}/none", "MM=DEC,NV=VN,8=8D"):
+            self.assertEqual((self.asm(" VN 0509;X OCT 5", "--flight", "--assume", wording), read(f"{self.room}/flight.img")), (plain, image))
+        self.asm(text, "--flight", "--assume", "NV=VN,MM=DEC")
+        write(f"{self.room}/rope.img", read(f"{self.room}/flight.img"))
+        told = "COUNT 0\nUNCERTAIN 0 OF 2\nFORM VN CONFIRMED 2 DENIED 0\nBANK 02 CERTAIN 1 EQUAL 1 UNCERTAIN 2 HOLES 0\nASSUMED NV=VN CONFIRMED 1 DENIED 0\nASSUMED MM=DEC CONFIRMED 1 DENIED 0\n"
+        self.assertEqual(self.compare("--assume", "NV=VN,MM=DEC"), (0, told, ""))
+        self.asm(text.replace("37#", "36#"), "--flight", "--assume", "NV=VN,MM=DEC")
+        status, out, _ = self.compare("--assume", "NV=VN,MM=DEC")
+        self.assertEqual((status, out.splitlines()[-2:]), (1, ["ASSUMED NV=VN CONFIRMED 1 DENIED 0", "ASSUMED MM=DEC CONFIRMED 0 DENIED 1"]))
+        checked = subprocess.run([PROGRAM, "check", "--flight", "--assume", "NV=VN,MM=DEC", f"{self.room}/flight.agc"], capture_output=True, timeout=300)
+        self.assertEqual(checked.returncode, 0)
+        for row in (f"{self.room}/flight.agc:2: assumed MM=DEC\n", f"{self.room}/flight.agc:4: assumed NV=VN\n"):
+            self.assertIn(row.encode(), checked.stdout)
 
 
 if __name__ == "__main__":

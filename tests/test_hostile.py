@@ -179,7 +179,9 @@ class Worker:
         signal.alarm(MOST_SECONDS)
         _, status, used = os.wait4(child, 0)
         signal.alarm(0)
-        return os.waitstatus_to_exitcode(status), read(self.out), read(self.err), time.monotonic() - started, used.ru_maxrss * 1024
+        # (why a file that a line of a flight source names is not read is told before the fault of that line)
+        err = NOT_JOINED.sub(b"", read(self.err), count=1) if "--flight" in words else read(self.err)
+        return os.waitstatus_to_exitcode(status), read(self.out), err, time.monotonic() - started, used.ru_maxrss * 1024
 
     def call(self, words, kind, number):
         """What a case is answered to a call, as `run` tells it, and of how many bytes it is."""
@@ -242,6 +244,7 @@ def some_cases(made, seed, kind, first, last):
 
 # A fault that `check` tells, and the one that `asm` does.
 TOLD_FAULT = re.compile(rb"^.*:(\d+):\d+: error E(\d+): .+$", re.M)
+NOT_JOINED = re.compile(rb"\A[^\n]+:[1-9]\d*: error: (?:the file|a name) after \$ [^\n]*\n")
 ONE_FAULT = re.compile(rb"agcws: E(\d+) LINE (\d+)\n")
 # One that stands for so many lines.
 OF_LINES = re.compile(rb": error E15: the interpretive language is not taken: (\d+) lines? from this one on\n")
@@ -669,10 +672,11 @@ class Devices(HostileCase):
                 self.assertEqual(ran, (3, b"", b"agcws: E2\n"))
             paths = [it for it in words if "/" in it]
             if len(paths) > 1:
-                # three are the standard streams, and three stand in for those of them that may be closed
-                ran = limited(words, resource.RLIMIT_NOFILE, 7)
-                wanted = E7 if words[0] == "asm" else refused(words[:1], paths[1], b"E6")
-                with self.subTest(f"devices: {name_of(words)}, with one file to be had"):
+                # three are the standard streams, and three stand in for those of them that may be closed; a source that is read before another file is opened is closed then
+                is_read = words[0] == "asm" or "--flight" in words
+                ran = limited(words, resource.RLIMIT_NOFILE, 6 if is_read else 7)
+                wanted = refused(words[:1], paths[0 if is_read else 1], b"E6")
+                with self.subTest(f"devices: {name_of(words)}, with {'no' if is_read else 'one'} file to be had"):
                     self.assertEqual(ran, (3, b"", wanted))
 
     def without_rights(self, image):

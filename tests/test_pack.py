@@ -20,7 +20,7 @@ loader = importlib.machinery.SourceFileLoader("pack", f"{ROOT}/gate/pack")
 pack = importlib.util.module_from_spec(importlib.util.spec_from_loader("pack", loader))
 loader.exec_module(pack)
 PROGRAM = f"{ROOT}/crates/agcws/out/agcws"
-MOST_BYTES = 3_400_000
+MOST_BYTES = 3_500_000
 RUN, LINES = ["run", "examples/five_plus_five.agc", "/dev/null", "4"], b"7 CH 010 00012\n"
 SHAKEN = ["examples/lost_sum.agc", "200", "TIME3 PINC", "--to", "2"]
 SAME = b"without it: CH 012 00062\n2 of 2 cycles: the same\n  1-2\n"

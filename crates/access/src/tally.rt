@@ -1,6 +1,7 @@
 //! The counts of a run.
 
-ghost use Rattle.std.specs.Prelude.{◌≡◌, ◌+◌, ◌*◌, ◌-◌, ◌<◌, ◌≤◌, ◌^◌, IfOk, get_or, set, length, ℕ, replicate, true, false};
+ghost use Rattle.std.specs.Prelude.{◌≡◌, ◌+◌, ◌*◌, ◌-◌, ◌<◌, ◌≤◌, ◌^◌, ℕ, true, false};
+ghost use Rattle.std.specs.Prelude.{IfOk, get_or, set, length, replicate};
 ghost use Rattle.cover.specs.Tallies.{account_count, account_number, is_account};
 ghost use Rattle.cpu.specs.Bursts.{IsQuiet};
 ghost use Rattle.cpu.specs.Next.{next};

@@ -3,7 +3,8 @@
 ghost use Rattle.std.specs.Prelude.{◌≡◌, ◌+◌, ◌<◌, ◌≤◌, ◌^◌, [], IfOk, IfSome, OnOk};
 ghost use Rattle.agc_text.specs.Lines.{lines};
 ghost use Rattle.yayul.specs.Readings.{parts_in};
-ghost use Rattle.addressed.specs.Places.{addressed, before_lines, named_at, named_on, row_passed, rows_passed, with_place};
+ghost use Rattle.addressed.specs.Places.{addressed, before_lines, named_at, named_on, row_passed, rows_passed};
+ghost use Rattle.addressed.specs.Places.{with_place};
 
 use crate::word::{LineWords, named_by};
 use agc_text::next_line;

@@ -37,7 +37,8 @@ pub(crate) fn named_by(
     reading: &Reading<'_>,
     words: LineWords,
 ) -> Option<(Bank, Offset)>
-    ensures { result ≡ named_by symbols.now (parts_in reading.now) (linear.Fixed words.bank words.offset) words.first words.second }
+    ensures { result ≡ named_by symbols.now (parts_in reading.now) (linear.Fixed words.bank words.offset)
+        words.first words.second }
 {
     let operator = reading.operator?;
     let role = reading.role?;

@@ -1,15 +1,17 @@
-//! Where the bytes of an image come from: a file as it stands, one that stands otherwise than as written, or a text of
-//! octal words.
+//! Where the bytes of an image or a source come from: a file as it stands, one that stands otherwise than as written,
+//! or what was made of a text.
 
 use crate::files::{no_memory, not_opened};
+use crate::joining::{SourceText, source_text};
 use arguments::ImageLayout;
+use included::Joined;
 use octals::{is_beginning, octal_image};
 use plans::Image;
 use std::alloc::{AllocError, Global};
 use std::io::Read;
 use std::{fs, io};
 use words::{MOST_BYTES, ReadAhead, ReadFault, Std, read_text, write_all};
-use workshop::{Form, Layout, Version, WorkshopFault, arranged, module_image};
+use workshop::{Form, Language, Layout, Version, WorkshopFault, arranged, module_image};
 
 /// How many bytes an image has.
 const IMAGE_BYTES: usize = 73_728;
@@ -28,12 +30,12 @@ pub const AS_WRITTEN: ImageLayout = ImageLayout {
     one_module: 0,
 };
 
-/// The bytes of an image.
+/// The bytes of an image or a source.
 #[derive(Drop)]
 pub enum ImageBytes {
     /// Those of a file, as it is read.
     File(fs::File),
-    /// Those of a file that stood otherwise.
+    /// Those of a file that stood otherwise, or of a source that was joined.
     Made(Made),
     /// Those of the words of a text.
     Octals(Made),
@@ -84,6 +86,39 @@ pub fn opened_bytes(rt: &HostRuntime, image: &Image<'_>) -> Result<ImageBytes, W
     }
     let bytes = made_bytes(rt, image, file)?;
     Ok(ImageBytes::Made(Made { bytes, read: 0 }))
+}
+
+/// The bytes of a source, of which one of the standard language is not read yet, and how it was joined, where lines of
+/// it stood for files.
+pub fn opened_source(
+    rt: &HostRuntime,
+    path: &str,
+    language: Language,
+) -> Result<(ImageBytes, Option<Joined>), WorkshopFault> {
+    match language {
+        Language::Standard => {
+            let file = fs::open(rt, path).map_err(not_opened)?;
+            Ok((ImageBytes::File(file), None))
+        }
+        Language::Flight => {
+            let SourceText { text, joined } = source_text(rt, path, language)?;
+            let made = Made {
+                bytes: text,
+                read: 0,
+            };
+            Ok((ImageBytes::Made(made), joined))
+        }
+    }
+}
+
+/// The bytes of a source.
+pub fn source_bytes(
+    rt: &HostRuntime,
+    path: &str,
+    language: Language,
+) -> Result<ImageBytes, WorkshopFault> {
+    let (bytes, _) = opened_source(rt, path, language)?;
+    Ok(bytes)
 }
 
 fn is_as_written(layout: ImageLayout) -> bool {

@@ -1,6 +1,6 @@
 //! The files and streams that a subcommand reads and writes, and what is told of those that fail.
 
-use crate::dumps::{AS_WRITTEN, ImageBytes, opened_bytes};
+use crate::dumps::{AS_WRITTEN, ImageBytes, opened_bytes, source_bytes};
 use crate::gathered::Gathered;
 use plans::{Image, Kind, Listed, Program};
 use std::alloc::AllocError;
@@ -72,7 +72,7 @@ fn opened_words(
     form: Form,
 ) -> Result<(Std<ImageBytes>, Form), WorkshopFault> {
     let bytes = match kind {
-        Kind::Source(_) => ImageBytes::File(fs::open(rt, path).map_err(not_opened)?),
+        Kind::Source(language) => source_bytes(rt, path, language)?,
         Kind::Image(version) => {
             let layout = AS_WRITTEN;
             let image = Image {

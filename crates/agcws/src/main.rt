@@ -1,11 +1,14 @@
 //! `agcws`: assembles, runs and debugs programs for the Apollo Guidance Computer, and shows rope images.
 #![tactic(auto)]
 
+mod assumptions;
 mod dumps;
 mod expectations;
 mod files;
 mod gathered;
 mod hints;
+mod joining;
+mod located;
 mod programs;
 mod progress;
 mod ropes;
@@ -17,16 +20,17 @@ use command_line::{Parsed, parse};
 use expectations::expect;
 use files::{no_memory, with_stdout};
 use hints::tell_more;
+use joining::refuse_source;
 use plans::{Plan, planned};
 use programs::{
     access, bound, cover, debug, debug_extended, delays, differ, reach, reach_beside_run, run,
     trace, whatif,
 };
 use ropes::{
-    align, carry, compare, compare_only, find, show_damages, show_mended, show_parity, show_sums,
-    show_sums_of_both_forms, show_words, upgrade,
+    align, carry, compare, compare_banks, compare_only, find, show_damages, show_mended,
+    show_parity, show_sums, show_sums_of_both_forms, show_words, upgrade,
 };
-use sources::{assemble, assemble_holed, assemble_with_sums, check};
+use sources::{assemble, assemble_filled_with_sums, assemble_holed, assemble_with_sums, check};
 use std::alloc::AllocError;
 use std::process::ExitCode;
 use std::{env, fs, io};
@@ -69,6 +73,10 @@ const NO_STEPS: &[u8] =
 
 /// The exit status where not even a fault's line can be written.
 const NOT_REPORTED: u8 = 3;
+
+/// What is said of check words where nothing fills the holes.
+const SUMS_OF_HOLES: &[u8] =
+    b"error: a bank with a hole has no sum: --sums beside --holes needs --fill FILE, the image that fills it\n";
 
 /// What is said where the routine, or a place or a cell, is none.
 const NO_ROUTINE: &[u8] =
@@ -119,9 +127,21 @@ fn perform(rt: &HostRuntime) -> Result<u8, WorkshopFault> {
         Err(_) => return refuse_arguments(rt, b"error: an argument is not valid UTF-8\n"),
     };
     match parse(rt.alloc(), words.as_slice()).map_err(no_memory)? {
-        Parsed::Arguments(arguments) => follow(rt, &planned(arguments)),
+        Parsed::Arguments(arguments) => follow_and_locate(rt, &planned(arguments)),
         Parsed::Help(text) => tell_help(rt, text.as_str().as_bytes()),
         Parsed::Wrong(text) => refuse_arguments(rt, text.as_str().as_bytes()),
+    }
+}
+
+/// Does what is planned. A fault of a source that was joined of its files is told by its file.
+fn follow_and_locate(rt: &HostRuntime, plan: &Plan<'_>) -> Result<u8, WorkshopFault> {
+    let fault = match follow(rt, plan) {
+        Ok(status) => return Ok(status),
+        Err(fault) => fault,
+    };
+    match refuse_source(rt, plan, &fault)? {
+        Some(status) => Ok(after_hint(rt, &fault, status)),
+        None => Err(fault),
     }
 }
 
@@ -131,6 +151,9 @@ fn follow(rt: &HostRuntime, plan: &Plan<'_>) -> Result<u8, WorkshopFault> {
         Plan::Assemble(assembly) => assemble(rt, assembly),
         Plan::AssembleWithSums(assembly) => assemble_with_sums(rt, assembly),
         Plan::AssembleWithHoles(assembly, filling) => assemble_holed(rt, assembly, *filling),
+        Plan::AssembleFilledWithSums(assembly, filling) => {
+            assemble_filled_with_sums(rt, assembly, *filling)
+        }
         Plan::Run(it) => run(rt, it),
         Plan::Trace(tracing) => trace(rt, tracing),
         Plan::Cover(profile) => cover(rt, profile),
@@ -150,6 +173,7 @@ fn follow(rt: &HostRuntime, plan: &Plan<'_>) -> Result<u8, WorkshopFault> {
         Plan::Show(words) => show_words(rt, words),
         Plan::Compare(old, new) => compare(rt, old, new),
         Plan::CompareOnly(source, image) => compare_only(rt, source, image),
+        Plan::CompareBanks(source, image, holes) => compare_banks(rt, source, image, *holes),
         Plan::Align(old, new) => align(rt, old, new),
         Plan::Carry(table, old, new) => carry(rt, table, old, new),
         Plan::Find(passage, image) => find(rt, passage, image),
@@ -160,6 +184,7 @@ fn follow(rt: &HostRuntime, plan: &Plan<'_>) -> Result<u8, WorkshopFault> {
         Plan::ShowMended(image) => show_mended(rt, image),
         Plan::NoSteps => refuse_arguments(rt, NO_STEPS),
         Plan::TooManySteps => Ok(WRONG_ARGUMENTS),
+        Plan::SumsOfHoles => refuse_arguments(rt, SUMS_OF_HOLES),
     }
 }
 

@@ -1,19 +1,21 @@
 //! The subcommands that read rope images.
 
-use crate::dumps::AS_WRITTEN;
-use crate::files::{ended, not_opened, opened, opened_image, refused_file, with_stdout};
+use crate::assumptions::{Assumptions, asked_wordings, refuse_wording};
+use crate::dumps::{AS_WRITTEN, source_bytes};
+use crate::files::{ended, opened, opened_image, refused_file, with_stdout};
 use crate::target::wrong_target;
 use crate::{DIFFERENT, DONE, refuse_arguments};
+use assumed::Wording;
 use image_file::ImageFile;
 use plans::{Image, Original, Shown, Words};
 use std::cell::Cell;
-use std::fs;
-use words::Std;
+use words::{MOST_BYTES, Std, read_text};
 use workshop::{
-    Compared, Form, Symbols, Version, WorkshopFault, align_engine, carry_engine, compare_engine,
-    compare_only_engine, crossed_words_engine, damages_engine, find_engine, form_sums_engine,
-    mended_engine, named_source_engine, named_words_engine, octals_engine, parity_engine,
-    read_names, report, report_where, source_engine, sums_engine, upgrade_engine, words_engine,
+    Compared, Form, Symbols, Version, WorkshopFault, align_engine, carry_engine,
+    compare_banks_engine, compare_engine, compare_only_engine, crossed_words_engine,
+    damages_engine, find_engine, form_sums_engine, mended_engine, named_source_engine,
+    named_words_engine, octals_engine, parity_engine, read_names, report, report_where,
+    source_engine, sums_engine, upgrade_engine, words_engine,
 };
 
 /// `agcws upgrade OLD NEW`. The file NEW is made at the first write, so that a refused image leaves none. A path of the
@@ -60,8 +62,8 @@ fn write_words(rt: &HostRuntime, words: &Words<'_>) -> Result<(), WorkshopFault>
     })
 }
 
-/// Writes the words of an image with the names of a table, as a source or not, or which words use them. Both files are opened before anything is
-/// read, and the table is read first.
+/// Writes the words of an image with the names of a table, as a source or not, or which words use them. Both files are
+/// opened before anything is read, and the table is read first.
 fn write_named_words(
     rt: &HostRuntime,
     table: &str,
@@ -145,7 +147,7 @@ fn compare_with_source(
     image: &Image<'_>,
     last: &mut Compared,
 ) -> Result<u32, WorkshopFault> {
-    let mut text = Std::new(fs::open(rt, source.path).map_err(not_opened)?);
+    let mut text = Std::new(source_bytes(rt, source.path, source.language)?);
     *last = Compared::New;
     let mut file = opened_image(rt, image)?;
     *last = Compared::Old;
@@ -154,6 +156,53 @@ fn compare_with_source(
             rt.alloc(),
             source.language,
             &mut text,
+            &mut file,
+            image.version,
+            last,
+            out,
+        )
+    })
+}
+
+/// `agcws compare --only --flight [--holes] [--banks] [--assume WORDINGS] .. SRC ROPE`: compares a source with an
+/// image, as without these, and tells an account of each bank, and what the image says of each wording. A fault of a
+/// file that stands on no line is told by the file's name.
+pub fn compare_banks(
+    rt: &HostRuntime,
+    source: &Original<'_>,
+    image: &Image<'_>,
+    holes: bool,
+) -> Result<u8, WorkshopFault> {
+    let Assumptions::Made(wordings) = asked_wordings(rt, source.assumed)? else {
+        return refuse_wording(rt);
+    };
+    let mut last = Compared::Old;
+    match compare_banks_with(rt, source, wordings.as_slice(), image, holes, &mut last) {
+        Ok(count) => Ok(status_of(count)),
+        Err(fault) => refused_file(rt, of_compared(last, source.path, image.path), fault),
+    }
+}
+
+/// Compares a source with an image bank by bank. It is told which was opened or read last.
+fn compare_banks_with(
+    rt: &HostRuntime,
+    source: &Original<'_>,
+    wordings: &[Wording],
+    image: &Image<'_>,
+    holes: bool,
+    last: &mut Compared,
+) -> Result<u32, WorkshopFault> {
+    let mut text = Std::new(source_bytes(rt, source.path, source.language)?);
+    *last = Compared::New;
+    let mut file = opened_image(rt, image)?;
+    *last = Compared::Old;
+    let text = read_text(rt.alloc(), &mut text, MOST_BYTES)?;
+    with_stdout(rt, |out| {
+        compare_banks_engine(
+            rt.alloc(),
+            wordings,
+            holes,
+            &text,
             &mut file,
             image.version,
             last,
@@ -228,7 +277,7 @@ fn find_passage(
     image: &Image<'_>,
     last: &mut Compared,
 ) -> Result<(), WorkshopFault> {
-    let mut text = Std::new(fs::open(rt, passage.path).map_err(not_opened)?);
+    let mut text = Std::new(source_bytes(rt, passage.path, passage.language)?);
     *last = Compared::New;
     let mut file = opened_image(rt, image)?;
     *last = Compared::Old;

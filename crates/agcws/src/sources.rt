@@ -1,45 +1,106 @@
 //! The subcommands that assemble or check a source.
 
-use crate::dumps::{AS_WRITTEN, opened_bytes};
-use crate::files::{ended, not_opened, opened, refused_file, with_stdout};
-use crate::target::wrong_target;
+use crate::assumptions::{Assumptions, asked_wordings, refuse_wording, tell_assumed, under};
+use crate::dumps::{AS_WRITTEN, opened_bytes, opened_source};
+use crate::files::{ended, opened, refused_file, with_stdout};
+use crate::joining::{SourceText, has_file, source_text};
+use crate::located::Located;
+use crate::target::{WrongTarget, wrong_target};
 use crate::{DONE, REFUSED, refuse_arguments};
+use assumed::Wording;
 use image_file::ImageFile;
+use included::Joined;
 use json_text::Notation;
 use plans::{Assembly, Check, Image};
 use std::cell::Cell;
-use std::fs;
-use words::{MOST_BYTES, Read, Std, Write, read_text};
+use words::{Buffer, MOST_BYTES, Read, ReadAhead, Std, Write, read_text};
 use workshop::{
-    Form, Rope, Tally, Version, WorkshopFault, asm_engine, asm_with_check_words, asm_with_holes,
-    check_feed, check_source, report_no_room, write_tally, xref_engine,
+    Bank, Form, Rope, Tally, Version, WorkshopFault, asm_engine, asm_filled_with_check_words,
+    asm_with_check_words, asm_with_holes, check_feed, check_source, report_no_room, write_tally,
+    xref_engine,
 };
 
 /// `agcws asm [--flight] [--rope VERSION] SRC ROPE`. The file ROPE is made at the first write, so that a refused source
 /// leaves none. A path of the source, or of one, is refused for ROPE before anything is opened.
 pub fn assemble(rt: &HostRuntime, assembly: &Assembly<'_>) -> Result<u8, WorkshopFault> {
-    let source = assembly.source;
-    if let Some(wrong) = wrong_target(rt, source.path, assembly.rope) {
-        return refuse_arguments(rt, wrong.of_an_assembly());
-    }
-    let mut file = Std::new(fs::open(rt, source.path).map_err(not_opened)?);
-    let text = read_text(rt.alloc(), &mut file, MOST_BYTES)?;
-    let mut rest = text.as_slice();
-    let refused = Cell::new(false);
-    let mut image = Std::new(ImageFile::new(rt, assembly.rope, &refused));
-    with_stdout(rt, |listing| {
-        let outcome = asm_engine(
-            rt.alloc(),
-            source.language,
-            &mut rest,
-            &mut image,
-            listing,
-            assembly.version,
-        );
-        ended(outcome, &refused)?;
-        tell_uses(rt, assembly, &text, listing)
+    let source = match source_for(rt, assembly)? {
+        Ok(source) => source,
+        Err(unfit) => return refuse_assembly(rt, unfit),
+    };
+    with_stdout(rt, |out| match &source.joined {
+        None => write_plain(rt, assembly, &source.text, out),
+        Some(joined) => {
+            let mut listing = Buffer::new(rt.alloc());
+            write_plain(rt, assembly, &source.text, &mut listing)?;
+            located(rt, assembly, joined).write_listing(listing.as_slice(), out)
+        }
     })?;
     Ok(DONE)
+}
+
+/// Why an assembly is not begun.
+enum Unfit {
+    /// The image may not be written there.
+    Target(WrongTarget),
+    /// What is to be assumed is none of the wordings.
+    Wording,
+}
+
+/// Says why an assembly is not begun.
+fn refuse_assembly(rt: &HostRuntime, unfit: Unfit) -> Result<u8, WorkshopFault> {
+    match unfit {
+        Unfit::Target(wrong) => refuse_arguments(rt, wrong.of_an_assembly()),
+        Unfit::Wording => refuse_wording(rt),
+    }
+}
+
+/// The text of the source of an assembly, under assumptions. A file of the source is not written over.
+fn source_for(
+    rt: &HostRuntime,
+    assembly: &Assembly<'_>,
+) -> Result<Result<SourceText, Unfit>, WorkshopFault> {
+    let (path, rope) = (assembly.source.path, assembly.rope);
+    if let Some(wrong) = wrong_target(rt, path, rope) {
+        return Ok(Err(Unfit::Target(wrong)));
+    }
+    let Assumptions::Made(wordings) = asked_wordings(rt, assembly.source.assumed)? else {
+        return Ok(Err(Unfit::Wording));
+    };
+    let SourceText { text, joined } = source_text(rt, path, assembly.source.language)?;
+    if let Some(joined) = &joined {
+        if has_file(rt, path, joined, rope)? {
+            return Ok(Err(Unfit::Target(WrongTarget::SameFile)));
+        }
+    }
+    let text = under(rt, wordings.as_slice(), &text)?;
+    Ok(Ok(SourceText { text, joined }))
+}
+
+/// The source of an assembly, of several files.
+fn located<'a>(rt: &HostRuntime, assembly: &Assembly<'a>, joined: &'a Joined) -> Located<'a> {
+    Located::new(rt.alloc(), assembly.source.path, joined)
+}
+
+/// Assembles a source, and writes what comes of it.
+fn write_plain<W: Write>(
+    rt: &HostRuntime,
+    assembly: &Assembly<'_>,
+    text: &[u8],
+    listing: &mut W,
+) -> Result<(), WorkshopFault> {
+    let refused = Cell::new(false);
+    let mut image = Std::new(ImageFile::new(rt, assembly.rope, &refused));
+    let mut rest = text;
+    let outcome = asm_engine(
+        rt.alloc(),
+        assembly.source.language,
+        &mut rest,
+        &mut image,
+        listing,
+        assembly.version,
+    );
+    ended(outcome, &refused)?;
+    tell_uses(rt, assembly, text, listing)
 }
 
 /// Tells what the lines of a source do with each name, where that is asked for.
@@ -58,34 +119,48 @@ fn tell_uses<W: Write>(
 /// `agcws asm --sums [--flight] [--rope VERSION] SRC ROPE`: files as without `--sums`. A bank without room is told in
 /// words.
 pub fn assemble_with_sums(rt: &HostRuntime, assembly: &Assembly<'_>) -> Result<u8, WorkshopFault> {
-    let source = assembly.source;
-    if let Some(wrong) = wrong_target(rt, source.path, assembly.rope) {
-        return refuse_arguments(rt, wrong.of_an_assembly());
-    }
-    let mut file = Std::new(fs::open(rt, source.path).map_err(not_opened)?);
-    let text = read_text(rt.alloc(), &mut file, MOST_BYTES)?;
-    let mut rest = text.as_slice();
-    let refused = Cell::new(false);
-    let mut image = Std::new(ImageFile::new(rt, assembly.rope, &refused));
-    let full = with_stdout(rt, |listing| {
-        let outcome = asm_with_check_words(
-            rt.alloc(),
-            source.language,
-            &mut rest,
-            &mut image,
-            listing,
-            assembly.version,
-        );
-        let full = ended(outcome, &refused)?;
-        if full.is_none() {
-            tell_uses(rt, assembly, &text, listing)?;
+    let source = match source_for(rt, assembly)? {
+        Ok(source) => source,
+        Err(unfit) => return refuse_assembly(rt, unfit),
+    };
+    let full = with_stdout(rt, |out| match &source.joined {
+        None => write_with_sums(rt, assembly, &source.text, out),
+        Some(joined) => {
+            let mut listing = Buffer::new(rt.alloc());
+            let full = write_with_sums(rt, assembly, &source.text, &mut listing)?;
+            located(rt, assembly, joined).write_listing(listing.as_slice(), out)?;
+            Ok(full)
         }
-        Ok(full)
     })?;
     match full {
         Some(bank) => report_no_room(bank, &mut Std::new(rt.stderr())),
         None => Ok(DONE),
     }
+}
+
+/// Assembles a source with check words, and writes what comes of it.
+fn write_with_sums<W: Write>(
+    rt: &HostRuntime,
+    assembly: &Assembly<'_>,
+    text: &[u8],
+    listing: &mut W,
+) -> Result<Option<Bank>, WorkshopFault> {
+    let refused = Cell::new(false);
+    let mut image = Std::new(ImageFile::new(rt, assembly.rope, &refused));
+    let mut rest = text;
+    let outcome = asm_with_check_words(
+        rt.alloc(),
+        assembly.source.language,
+        &mut rest,
+        &mut image,
+        listing,
+        assembly.version,
+    );
+    let full = ended(outcome, &refused)?;
+    if full.is_none() {
+        tell_uses(rt, assembly, text, listing)?;
+    }
+    Ok(full)
 }
 
 /// `agcws asm --flight --holes [--fill FILE] [--rope VERSION] SRC ROPE`: files as without `--holes`. A fault of the
@@ -95,19 +170,82 @@ pub fn assemble_holed(
     assembly: &Assembly<'_>,
     filling: Option<&str>,
 ) -> Result<u8, WorkshopFault> {
-    let source = assembly.source;
-    if let Some(wrong) = wrong_target(rt, source.path, assembly.rope) {
-        return refuse_arguments(rt, wrong.of_an_assembly());
-    }
-    let mut file = Std::new(fs::open(rt, source.path).map_err(not_opened)?);
-    let text = read_text(rt.alloc(), &mut file, MOST_BYTES)?;
+    let source = match source_for(rt, assembly)? {
+        Ok(source) => source,
+        Err(unfit) => return refuse_assembly(rt, unfit),
+    };
     let Some(name) = filling else {
-        return write_holed(rt, assembly, &text, None);
+        return list_holed(rt, assembly, &source, None);
     };
     match filling_of(rt, name, assembly.version) {
-        Ok(words) => write_holed(rt, assembly, &text, Some(&words)),
+        Ok(words) => list_holed(rt, assembly, &source, Some(&words)),
         Err(fault) => refused_file(rt, name, fault),
     }
+}
+
+/// `agcws asm --flight --holes --fill FILE --sums [--rope VERSION] SRC ROPE`: as without `--sums`, and a bank without
+/// room for its check words is told in words.
+pub fn assemble_filled_with_sums(
+    rt: &HostRuntime,
+    assembly: &Assembly<'_>,
+    filling: &str,
+) -> Result<u8, WorkshopFault> {
+    let source = match source_for(rt, assembly)? {
+        Ok(source) => source,
+        Err(unfit) => return refuse_assembly(rt, unfit),
+    };
+    match filling_of(rt, filling, assembly.version) {
+        Ok(words) => list_summed(rt, assembly, &source, &words),
+        Err(fault) => refused_file(rt, filling, fault),
+    }
+}
+
+/// Assembles a source with holes that are filled, and check words, and writes what comes of it, by the files of its
+/// lines.
+fn list_summed(
+    rt: &HostRuntime,
+    assembly: &Assembly<'_>,
+    source: &SourceText,
+    filling: &Rope,
+) -> Result<u8, WorkshopFault> {
+    let full = with_stdout(rt, |out| match &source.joined {
+        None => write_summed(rt, assembly, &source.text, filling, out),
+        Some(joined) => {
+            let mut listing = Buffer::new(rt.alloc());
+            let full = write_summed(rt, assembly, &source.text, filling, &mut listing)?;
+            located(rt, assembly, joined).write_listing(listing.as_slice(), out)?;
+            Ok(full)
+        }
+    })?;
+    match full {
+        Some(bank) => report_no_room(bank, &mut Std::new(rt.stderr())),
+        None => Ok(DONE),
+    }
+}
+
+/// Assembles a source with holes that are filled, and check words, and writes what comes of it.
+fn write_summed<W: Write>(
+    rt: &HostRuntime,
+    assembly: &Assembly<'_>,
+    text: &[u8],
+    filling: &Rope,
+    listing: &mut W,
+) -> Result<Option<Bank>, WorkshopFault> {
+    let refused = Cell::new(false);
+    let mut image = Std::new(ImageFile::new(rt, assembly.rope, &refused));
+    let outcome = asm_filled_with_check_words(
+        rt.alloc(),
+        text,
+        filling,
+        &mut image,
+        listing,
+        assembly.version,
+    );
+    let full = ended(outcome, &refused)?;
+    if full.is_none() {
+        tell_uses(rt, assembly, text, listing)?;
+    }
+    Ok(full)
 }
 
 /// The words of an image, or of a text of octal words.
@@ -122,35 +260,54 @@ fn filling_of(rt: &HostRuntime, path: &str, version: Version) -> Result<Rope, Wo
     Ok(Rope::read(rt.alloc(), &mut file, version)?)
 }
 
+/// Assembles a source with holes, and writes what comes of it, by the files of its lines.
+fn list_holed(
+    rt: &HostRuntime,
+    assembly: &Assembly<'_>,
+    source: &SourceText,
+    filling: Option<&Rope>,
+) -> Result<u8, WorkshopFault> {
+    with_stdout(rt, |out| match &source.joined {
+        None => write_holed(rt, assembly, &source.text, filling, out),
+        Some(joined) => {
+            let mut listing = Buffer::new(rt.alloc());
+            write_holed(rt, assembly, &source.text, filling, &mut listing)?;
+            located(rt, assembly, joined).write_listing(listing.as_slice(), out)
+        }
+    })?;
+    Ok(DONE)
+}
+
 /// Assembles a source with holes, and writes what comes of it.
-fn write_holed(
+fn write_holed<W: Write>(
     rt: &HostRuntime,
     assembly: &Assembly<'_>,
     text: &[u8],
     filling: Option<&Rope>,
-) -> Result<u8, WorkshopFault> {
+    listing: &mut W,
+) -> Result<(), WorkshopFault> {
     let refused = Cell::new(false);
     let mut image = Std::new(ImageFile::new(rt, assembly.rope, &refused));
-    with_stdout(rt, |listing| {
-        let outcome = asm_with_holes(
-            rt.alloc(),
-            text,
-            filling,
-            &mut image,
-            listing,
-            assembly.version,
-        );
-        ended(outcome, &refused)?;
-        tell_uses(rt, assembly, text, listing)
-    })?;
-    Ok(DONE)
+    let outcome = asm_with_holes(
+        rt.alloc(),
+        text,
+        filling,
+        &mut image,
+        listing,
+        assembly.version,
+    );
+    ended(outcome, &refused)?;
+    tell_uses(rt, assembly, text, listing)
 }
 
 /// `agcws check [--flight] [--unused] [--json] SRC [FEED ..]`. All files are opened before anything is read. A file
 /// that can't be read is told by its name.
 pub fn check(rt: &HostRuntime, asked: &Check<'_>) -> Result<u8, WorkshopFault> {
+    let Assumptions::Made(wordings) = asked_wordings(rt, asked.source.assumed)? else {
+        return refuse_wording(rt);
+    };
     let mut last = asked.source.path;
-    match check_files(rt, asked, &mut last) {
+    match check_files(rt, asked, wordings.as_slice(), &mut last) {
         Ok(tally) => Ok(if tally.errors == 0 { DONE } else { REFUSED }),
         Err(fault) => refused_file(rt, last, fault),
     }
@@ -160,10 +317,12 @@ pub fn check(rt: &HostRuntime, asked: &Check<'_>) -> Result<u8, WorkshopFault> {
 fn check_files<'a>(
     rt: &HostRuntime,
     asked: &Check<'a>,
+    wordings: &[Wording],
     last: &mut &'a str,
 ) -> Result<Tally, WorkshopFault> {
     let (source, names) = (asked.source, asked.feeds.as_slice());
-    let mut text = opened(rt, source.path)?;
+    let (bytes, joined) = opened_source(rt, source.path, source.language)?;
+    let mut file = ReadAhead::new(Std::new(bytes));
     let mut feeds = Vec::new(rt.alloc());
     for name in names {
         *last = *name;
@@ -172,18 +331,42 @@ fn check_files<'a>(
         }
     }
     *last = source.path;
+    let text = read_text(rt.alloc(), &mut file, MOST_BYTES)?;
     with_stdout(rt, |out| {
-        let told = check_source(
-            rt.alloc(),
-            asked.notation,
-            source.language,
-            source.path.as_bytes(),
-            asked.tells_unused,
-            &mut text,
-            out,
-        )?;
+        let told = match &joined {
+            None => check_text(rt, asked, wordings, &text, out)?,
+            Some(joined) => {
+                let mut report = Buffer::new(rt.alloc());
+                let told = check_text(rt, asked, wordings, &text, &mut report)?;
+                Located::new(rt.alloc(), source.path, joined).write_report(report.as_slice(), out)?;
+                told
+            }
+        };
         check_feeds(rt, asked.notation, names, &mut feeds, last, told, out)
     })
+}
+
+/// Tells what is wrong with a source under assumptions, and which lines stand by one.
+fn check_text<W: Write>(
+    rt: &HostRuntime,
+    asked: &Check<'_>,
+    wordings: &[Wording],
+    text: &[u8],
+    out: &mut W,
+) -> Result<Tally, WorkshopFault> {
+    let made = under(rt, wordings, text)?;
+    let mut rest = made.as_slice();
+    let told = check_source(
+        rt.alloc(),
+        asked.notation,
+        asked.source.language,
+        asked.source.path.as_bytes(),
+        asked.tells_unused,
+        &mut rest,
+        out,
+    )?;
+    tell_assumed(rt, &asked.source, wordings, text, out)?;
+    Ok(told)
 }
 
 /// Tells what is wrong with some feeds, after what was told of a source, and then how much was told.

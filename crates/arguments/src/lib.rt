@@ -102,7 +102,8 @@ pub struct ProgramArguments<'a> {
     pub feed: &'a str,
 }
 
-/// `agcws asm [--flight [--holes [--fill FILE]]] [--sums] [--xref] [--rope VERSION] SRC ROPE`.
+/// `agcws asm [--flight [--holes [--fill FILE]] [--assume WORDINGS]] [--sums] [--xref] [--rope VERSION] SRC ROPE`; with
+/// `--holes` there is no `--sums` without `--fill`.
 #[derive(Clone, Copy)]
 pub struct AsmArguments<'a> {
     /// The file of the source.
@@ -121,6 +122,8 @@ pub struct AsmArguments<'a> {
     pub has_holes: bool,
     /// `--fill`: the file of the image of which the holes take their words.
     pub filling: Option<&'a str>,
+    /// `--assume`: what is assumed of forms that are not certain.
+    pub assumed: Option<&'a str>,
 }
 
 /// `agcws run [--end] [--progress] [--until-idle | --notes [--json]] .. SRC FEED N`.
@@ -270,7 +273,7 @@ pub struct DebugArguments<'a> {
     pub is_extended: bool,
 }
 
-/// `agcws check [--flight] [--unused] [--json] SRC [FEED ..]`.
+/// `agcws check [--flight [--assume WORDINGS]] [--unused] [--json] SRC [FEED ..]`.
 #[derive(Drop)]
 pub struct CheckArguments<'a> {
     /// The file of the source.
@@ -283,6 +286,8 @@ pub struct CheckArguments<'a> {
     pub tells_unused: bool,
     /// `--json`: whether it is told as JSON.
     pub is_json: bool,
+    /// `--assume`: what is assumed of forms that are not certain.
+    pub assumed: Option<&'a str>,
 }
 
 /// How `agcws expect FILE ..` tells its verdicts.
@@ -331,7 +336,7 @@ pub struct DamagesArguments<'a> {
     pub is_source: bool,
 }
 
-/// `agcws compare [--only] [--flight] .. OLD NEW`.
+/// `agcws compare [--only [--flight [--holes] [--banks] [--assume WORDINGS]]] .. OLD NEW`.
 #[derive(Clone, Copy)]
 pub struct CompareArguments<'a> {
     /// The first image, or a source.
@@ -342,6 +347,12 @@ pub struct CompareArguments<'a> {
     pub is_source: bool,
     /// `--flight`.
     pub is_flight: bool,
+    /// `--holes`: whether lines of the interpretive language are holes.
+    pub has_holes: bool,
+    /// `--banks`: whether an account of each bank is told.
+    pub has_banks: bool,
+    /// `--assume`: what is assumed of forms that are not certain.
+    pub assumed: Option<&'a str>,
 }
 
 /// `agcws align [--symbols FILE] .. OLD NEW`.

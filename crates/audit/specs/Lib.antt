@@ -1,4 +1,5 @@
 pub mod BankFacts
+pub mod ByBank
 pub mod CheckWords
 pub mod Damages
 pub mod Differences

@@ -1,8 +1,9 @@
 -- Fixed memory as a text of octal words: a line for each bank, and below it its words, eight a line.
-use Rattle.std.specs.Prelude.{ℕ, ◌%◌, ◌==◌, Bool, true, false, List, ◌++◌, codes, Option, None, Some}
+use Rattle.std.specs.Prelude.{ℕ, ◌%◌, ◌==◌, Bool, true, false, List, ◌++◌, codes, Option}
 use Rattle.std.specs.List.{range_with_len, flat_map}
 use Rattle.words.specs.Numerals.{octal_text}
-use Rattle.rope.specs.Places.{banks, bank_words, Words, word_at}
+use Rattle.rope.specs.Places.{bank_words, Words, word_at}
+use Rattle.audit.specs.ByBank.{by_bank}
 
 -- the line of a bank
 unfoldable pub bank_head : ℕ → List ℕ
@@ -27,5 +28,4 @@ bank_octals words bank = bank_head bank ++ octal_words words bank
 
 -- one bank, or all by their numbers
 abbrev pub octals_text : Words → Option ℕ → List ℕ
-octals_text words None = flat_map (bank_octals words) (range_with_len 0 banks)
-octals_text words (Some bank) = bank_octals words bank
+octals_text words bank = by_bank (bank_octals words) bank

@@ -1,9 +1,10 @@
 -- Fixed memory as a source: lines of BANK and OCT that give its words.
-use Rattle.std.specs.Prelude.{ℕ, List, ◌++◌, codes, Option, None, Some}
+use Rattle.std.specs.Prelude.{ℕ, List, ◌++◌, codes, Option}
 use Rattle.std.specs.List.{range_with_len, flat_map}
 use Rattle.words.specs.Numerals.{octal_text}
-use Rattle.rope.specs.Places.{banks, bank_words, Words, word_at}
+use Rattle.rope.specs.Places.{bank_words, Words, word_at}
 use Rattle.audit.specs.WordLines.{place_text, instruction_at}
+use Rattle.audit.specs.ByBank.{by_bank}
 
 -- the line that leads to the first word of a bank
 unfoldable pub bank_line : ℕ → List ℕ
@@ -26,5 +27,4 @@ bank_source words bank = bank_line bank ++ octal_lines words bank
 
 -- the lines of one bank, or of all by their numbers
 abbrev pub source_text : Words → Option ℕ → List ℕ
-source_text words None = flat_map (bank_source words) (range_with_len 0 banks)
-source_text words (Some bank) = bank_source words bank
+source_text words bank = by_bank (bank_source words) bank

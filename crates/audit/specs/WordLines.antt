@@ -1,12 +1,13 @@
 -- The words of fixed memory as text: a line for each, with its place, the word, and the instruction that it is.
-use Rattle.std.specs.Prelude.{ℕ, zero, suc, Bool, false, List, ◌++◌, codes, Option, None, Some}
+use Rattle.std.specs.Prelude.{ℕ, zero, suc, Bool, false, List, ◌++◌, codes, Option}
 use Rattle.std.specs.List.{range_with_len, flat_map}
 use Rattle.words.specs.Numerals.{octal_text}
 use Rattle.space.specs.Places.{window}
 use Rattle.space.specs.declared.place.Linear.TheVariants.{Fixed}
-use Rattle.rope.specs.Places.{banks, bank_words, Words, word_at}
+use Rattle.rope.specs.Places.{bank_words, Words, word_at}
 use Rattle.cpu.specs.Next.{extracode_after}
 use Rattle.cpu.specs.Texts.{disassembly}
+use Rattle.audit.specs.ByBank.{by_bank}
 
 -- whether a word of a bank is read as an extracode: where the words before it in the bank put extracode in force. None is in
 -- force at the bank's first word; EXTEND puts it in force for the next word, and INDEX that is read as an extracode keeps it
@@ -34,5 +35,4 @@ bank_lines words bank = flat_map (word_line words bank) (range_with_len 0 bank_w
 
 -- the lines of one bank, or of all by their numbers
 abbrev pub word_lines : Words → Option ℕ → List ℕ
-word_lines words None = flat_map (bank_lines words) (range_with_len 0 banks)
-word_lines words (Some bank) = bank_lines words bank
+word_lines words bank = by_bank (bank_lines words) bank

@@ -3,6 +3,7 @@
 #![tactic(auto)]
 
 mod bank_facts;
+mod by_bank;
 mod check_words;
 mod damages;
 mod differences;
@@ -20,6 +21,7 @@ mod source;
 mod sums;
 mod wrong_words;
 
+pub use by_bank::{BankText, write_by_bank};
 pub use check_words::{NoRoom, add_check_words, check_words_hold};
 pub use damages::{Finding, write_damages};
 pub use differences::{Extent, count_line, difference_text, write_differences};

@@ -1,16 +1,16 @@
 //! The words of fixed memory, a line for each.
 
 ghost use Rattle.std.specs.Prelude.{◌≡◌, ◌+◌, ◌<◌, ◌≤◌, ◌++◌, true};
-ghost use Rattle.std.specs.List.{range_with_len, flat_map};
 ghost use Rattle.arrayvec.specs.ArrayVec.{array_vec_len};
 ghost use Rattle.words.specs.Devices.{Writes, failures_after};
 ghost use Rattle.rope.specs.Places.{banks, bank_words};
 ghost use Rattle.audit.specs.WordLines.{extracode_at, instruction_at, place_text, word_line, bank_lines, word_lines};
 
+use crate::by_bank::{BankText, write_by_bank};
 use arrayvec::ArrayVec;
 use cpu::{disassemble, extracode_after};
 use rope::Rope;
-use space::{BANK_WORDS, Bank, FIXED_BANKS, Linear, Offset, window};
+use space::{BANK_WORDS, Bank, Linear, Offset, window};
 use words::{Write, WriteFailed, push_all, push_octal, write_all};
 
 /// The most bytes of a line: a place of 7, one or two words of 5 digits, one or two instructions of 10, and what stands
@@ -32,34 +32,30 @@ pub fn write_words<W: Write>(
     ensures written { W.told ≡ true → Writes (W.written out.old) (W.written out.new) (word_lines rope.now bank) result }
     ensures failures { W.failures out.new ≡ failures_after (W.failures out.old) result }
 {
-    match bank {
-        Some(bank) => write_bank(rope, bank, out),
-        None => write_banks(rope, out),
-    }
+    write_by_bank(&WordTexts, rope, bank, out)
 }
 
-fn write_banks<W: Write>(rope: &Rope, out: &mut W) -> Result<(), WriteFailed>
-    ensures written { W.told ≡ true → Writes (W.written out.old) (W.written out.new)
-        (flat_map (bank_lines rope.now) (range_with_len 0 banks)) result }
-    ensures failures { W.failures out.new ≡ failures_after (W.failures out.old) result }
-{
-    for bank in 0..FIXED_BANKS {
-        write_bank(rope, bank_of(bank), out)?;
-    }
-    Ok(())
-}
+/// The lines of the words of a bank.
+#[derive(Drop)]
+struct WordTexts;
 
-fn write_bank<W: Write>(rope: &Rope, bank: Bank, out: &mut W) -> Result<(), WriteFailed>
-    ensures written { W.told ≡ true → Writes (W.written out.old) (W.written out.new) (bank_lines rope.now bank) result }
-    ensures failures { W.failures out.new ≡ failures_after (W.failures out.old) result }
-{
-    let mut extra = false;
-    for number in 0..BANK_WORDS {
-        let offset = offset_of(number);
-        write_all(out, word_line(rope, bank, offset, extra).as_slice())?;
-        extra = extracode_after(rope.word(bank, offset), extra);
+impl BankText for WordTexts {
+    ghost text = { λ _ words bank. bank_lines words bank };
+
+    fn write_bank<W: Write>(
+        &self,
+        rope: &Rope,
+        bank: Bank,
+        out: &mut W,
+    ) -> Result<(), WriteFailed> {
+        let mut extra = false;
+        for number in 0..BANK_WORDS {
+            let offset = offset_of(number);
+            write_all(out, word_line(rope, bank, offset, extra).as_slice())?;
+            extra = extracode_after(rope.word(bank, offset), extra);
+        }
+        Ok(())
     }
-    Ok(())
 }
 
 /// The line of a word.

@@ -1,15 +1,14 @@
 //! Fixed memory as a text of octal words.
 
 ghost use Rattle.std.specs.Prelude.{◌≡◌, ◌<◌, ◌≤◌, ◌%◌, ◌==◌, length, true};
-ghost use Rattle.std.specs.List.{range_with_len, flat_map};
 ghost use Rattle.words.specs.Devices.{Writes, failures_after};
-ghost use Rattle.rope.specs.Places.{banks};
 ghost use Rattle.audit.specs.Octals.{bank_head, bank_octals, behind, octal_word, octal_words, octals_text};
 
-use crate::lines::{Line, bank_of, offset_of};
+use crate::by_bank::{BankText, write_by_bank};
+use crate::lines::{Line, offset_of};
 use arrayvec::ArrayVec;
 use rope::Rope;
-use space::{BANK_WORDS, Bank, FIXED_BANKS, Offset};
+use space::{BANK_WORDS, Bank, Offset};
 use words::{Write, WriteFailed, push_all, push_octal, write_all};
 
 /// Writes the words of a bank, or of all banks by their numbers, as a text of octal words: a line as `BANK=02` for each
@@ -25,30 +24,25 @@ pub fn write_octals<W: Write>(
         result }
     ensures failures { W.failures out.new ≡ failures_after (W.failures out.old) result }
 {
-    match bank {
-        Some(bank) => write_bank(rope, bank, out),
-        None => write_banks(rope, out),
-    }
+    write_by_bank(&OctalTexts, rope, bank, out)
 }
 
-fn write_banks<W: Write>(rope: &Rope, out: &mut W) -> Result<(), WriteFailed>
-    ensures written { W.told ≡ true → Writes (W.written out.old) (W.written out.new)
-        (flat_map (bank_octals rope.now) (range_with_len 0 banks)) result }
-    ensures failures { W.failures out.new ≡ failures_after (W.failures out.old) result }
-{
-    for bank in 0..FIXED_BANKS {
-        write_bank(rope, bank_of(bank), out)?;
-    }
-    Ok(())
-}
+/// The text of octal words of a bank.
+#[derive(Drop)]
+struct OctalTexts;
 
-fn write_bank<W: Write>(rope: &Rope, bank: Bank, out: &mut W) -> Result<(), WriteFailed>
-    ensures written { W.told ≡ true → Writes (W.written out.old) (W.written out.new) (bank_octals rope.now bank)
-        result }
-    ensures failures { W.failures out.new ≡ failures_after (W.failures out.old) result }
-{
-    write_all(out, bank_head(bank).as_slice())?;
-    write_words(rope, bank, out)
+impl BankText for OctalTexts {
+    ghost text = { λ _ words bank. bank_octals words bank };
+
+    fn write_bank<W: Write>(
+        &self,
+        rope: &Rope,
+        bank: Bank,
+        out: &mut W,
+    ) -> Result<(), WriteFailed> {
+        write_all(out, bank_head(bank).as_slice())?;
+        write_words(rope, bank, out)
+    }
 }
 
 /// Writes the words of a bank.

@@ -1,17 +1,16 @@
 //! Fixed memory as a source that gives its words.
 
 ghost use Rattle.std.specs.Prelude.{◌≡◌, ◌<◌, ◌++◌, true};
-ghost use Rattle.std.specs.List.{range_with_len, flat_map};
 ghost use Rattle.words.specs.Devices.{Writes, failures_after};
-ghost use Rattle.rope.specs.Places.{banks};
 ghost use Rattle.audit.specs.SourceLines.{bank_line, octal_line, octal_lines, bank_source, source_text};
 ghost use Rattle.audit.specs.WordLines.{extracode_at};
 
-use crate::lines::{Line, bank_of, offset_of, push_instruction, push_place};
+use crate::by_bank::{BankText, write_by_bank};
+use crate::lines::{Line, offset_of, push_instruction, push_place};
 use arrayvec::ArrayVec;
 use cpu::extracode_after;
 use rope::Rope;
-use space::{BANK_WORDS, Bank, FIXED_BANKS, Offset};
+use space::{BANK_WORDS, Bank, Offset};
 use words::{Write, WriteFailed, push_all, push_octal, write_all};
 
 /// Writes a source that gives the words of a bank, or of all banks by their numbers: a line BANK for each bank, and
@@ -28,30 +27,25 @@ pub fn write_source<W: Write>(
         result }
     ensures failures { W.failures out.new ≡ failures_after (W.failures out.old) result }
 {
-    match bank {
-        Some(bank) => write_bank(rope, bank, out),
-        None => write_banks(rope, out),
-    }
+    write_by_bank(&SourceTexts, rope, bank, out)
 }
 
-fn write_banks<W: Write>(rope: &Rope, out: &mut W) -> Result<(), WriteFailed>
-    ensures written { W.told ≡ true → Writes (W.written out.old) (W.written out.new)
-        (flat_map (bank_source rope.now) (range_with_len 0 banks)) result }
-    ensures failures { W.failures out.new ≡ failures_after (W.failures out.old) result }
-{
-    for bank in 0..FIXED_BANKS {
-        write_bank(rope, bank_of(bank), out)?;
-    }
-    Ok(())
-}
+/// The lines of a source that give the words of a bank.
+#[derive(Drop)]
+struct SourceTexts;
 
-fn write_bank<W: Write>(rope: &Rope, bank: Bank, out: &mut W) -> Result<(), WriteFailed>
-    ensures written { W.told ≡ true → Writes (W.written out.old) (W.written out.new) (bank_source rope.now bank)
-        result }
-    ensures failures { W.failures out.new ≡ failures_after (W.failures out.old) result }
-{
-    write_all(out, bank_line(bank).as_slice())?;
-    write_octals(rope, bank, out)
+impl BankText for SourceTexts {
+    ghost text = { λ _ words bank. bank_source words bank };
+
+    fn write_bank<W: Write>(
+        &self,
+        rope: &Rope,
+        bank: Bank,
+        out: &mut W,
+    ) -> Result<(), WriteFailed> {
+        write_all(out, bank_line(bank).as_slice())?;
+        write_octals(rope, bank, out)
+    }
 }
 
 /// Writes the lines of a bank's words.

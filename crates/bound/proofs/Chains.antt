@@ -6,13 +6,14 @@ use Rattle.std.specs.Option.{option_to_list}
 use Rattle.std.proofs.lemmas.Bool.{and_parts}
 use Rattle.rope.specs.Places.{Words}
 use Rattle.bound.specs.declared.charge.Limit.{Limit}
+use Rattle.bound.specs.declared.counted.Counted.{Counted}
 use Rattle.bound.specs.declared.site.Site.{Site}
 use Rattle.bound.specs.declared.turn.Leg.{Leg}
 use Rattle.bound.specs.declared.turn.Turn.{Turn}
 use Rattle.bound.specs.declared.turn.Turn.TheVariants.{Back, Through, One, Two, Four, Stop}
 use Rattle.bound.specs.declared.turn.Why.{Why}
 use Rattle.bound.specs.declared.turn.Why.TheVariants.{Recursive, Unbounded, TooMany}
-use Rattle.bound.specs.Bounds.{CallsAt, GoesOn, Has, IsFree, IsLeg, IsReason, Leads, Uses, stands_at}
+use Rattle.bound.specs.Bounds.{AreCounted, AreCountedOf, CallsAt, GoesOn, Has, IsFree, IsLeg, IsReason, Leads, Uses, stands_at}
 use Rattle.bound.specs.Bounds.Has.{First}
 use Rattle.bound.specs.Bounds.Leads.{On, Past}
 use Rattle.bound.specs.Bounds.Uses.{Itself, Calls}
@@ -158,3 +159,19 @@ calls_again words kept limits r s ss p t c is at again =
       | inl e ↦ subst (λ (x : Site). Uses words kept x (last_of r ss)) (sym (is_same t r e)) (first_uses words kept r ss c)
       | inr e ↦ one_uses words kept r ss t c e
     ]
+
+-- loops that are counted of one more routine
+pub counted_more : (words : Words) (kept : List ℕ) (r s : Site) (ss : List Site) (cs ds : List Counted) → IsChain words kept r ss
+    → s ≡ last_of r ss → AreCountedOf words kept r cs → AreCounted words kept s ds → AreCountedOf words kept r (cs ++ ds)
+counted_more words kept r s ss cs ds c is of are = go cs of
+  where
+    used : Uses words kept r s
+    used = subst (λ (x : Site). Uses words kept r x) (sym is) (first_uses words kept r ss c)
+
+    all_of : (ds : List Counted) → AreCounted words kept s ds → AreCountedOf words kept r ds
+    all_of [] are = tt
+    all_of (d ∷ ds) are = (record { owner = s; uses = used; counted = are.0 }, all_of ds are.1)
+
+    go : (cs : List Counted) → AreCountedOf words kept r cs → AreCountedOf words kept r (cs ++ ds)
+    go [] of = all_of ds are
+    go (c ∷ cs) of = (of.0, go cs of.1)

@@ -3,3 +3,4 @@ pub mod KindNames
 pub mod Sound
 pub mod Chains
 pub mod Words
+pub mod CountLaw

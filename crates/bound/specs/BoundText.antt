@@ -1,7 +1,9 @@
 -- What is answered of a routine, as text.
-use Rattle.std.specs.Prelude.{ℕ, ◌%◌, List, ◌++◌, codes, decimal}
+use Rattle.std.specs.Prelude.{ℕ, ◌%◌, List, [], ◌∷◌, ◌++◌, codes, decimal}
+use Rattle.words.specs.Numerals.{octal_text}
 use Rattle.space.specs.declared.place.Linear.TheVariants.{Fixed}
 use Rattle.yayul.specs.Listing.{place_text}
+use Rattle.bound.specs.declared.counted.Counted.{Counted}
 use Rattle.bound.specs.declared.finding.Answer.{Answer}
 use Rattle.bound.specs.declared.finding.Answer.TheVariants.{Most, Refused}
 use Rattle.bound.specs.declared.site.Site.{Site}
@@ -24,6 +26,16 @@ most_text most = codes "AT MOST " ++ decimal most ++ codes " CYCLES\n"
 abbrev pub refused_text : Site → Why → List ℕ
 refused_text p why = codes "NO BOUND: " ++ place_text (Fixed p.bank (p.address % 0o2000)) ++ why_text why ++ codes "\n"
 
-abbrev pub answer_text : Answer → List ℕ
-answer_text (Most most) = most_text most
-answer_text (Refused p why) = refused_text p why
+-- a counted loop: its head, its cell and its constant
+abbrev pub loop_text : Counted → List ℕ
+loop_text c =
+    place_text (Fixed c.bank (c.head % 0o2000)) ++ codes " COUNTED BY CCS " ++ octal_text 4 c.cell ++ codes " FROM " ++ decimal c.from
+    ++ codes "\n"
+
+abbrev pub loops_text : List Counted → List ℕ
+loops_text [] = []
+loops_text (c ∷ cs) = loop_text c ++ loops_text cs
+
+abbrev pub answer_text : Answer → List Counted → List ℕ
+answer_text (Most most) loops = most_text most ++ loops_text loops
+answer_text (Refused p why) loops = refused_text p why

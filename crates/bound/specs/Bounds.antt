@@ -1,7 +1,9 @@
 -- The most cycles of a routine.
-use Rattle.std.specs.Prelude.{◌≡◌, ℕ, zero, suc, ◌+◌, ◌≤◌, ◌%◌, ◌⊎◌, Bool, false, ◌==◌, ◌&&◌, List, [], ◌∷◌, if◌then◌else◌}
+use Rattle.std.specs.Prelude.{◌≡◌, ℕ, zero, suc, ◌+◌, ◌*◌, ◌≤◌, ◌%◌, ◌⊎◌, Bool, true, false, ◌==◌, ◌&&◌, List, [], ◌∷◌}
+use Rattle.std.specs.Prelude.{if◌then◌else◌}
 use Rattle.rope.specs.Places.{Words}
 use Rattle.bound.specs.declared.charge.Limit.{Limit}
+use Rattle.bound.specs.declared.counted.Counted.{Counted}
 use Rattle.bound.specs.declared.finding.Answer.{Answer}
 use Rattle.bound.specs.declared.finding.Answer.TheVariants.{Most, Refused}
 use Rattle.bound.specs.declared.site.Site.{Site}
@@ -10,6 +12,7 @@ use Rattle.bound.specs.declared.turn.Turn.{Turn}
 use Rattle.bound.specs.declared.turn.Turn.TheVariants.{Back, Through, One, Two, Four, Stop}
 use Rattle.bound.specs.declared.turn.Why.{Why}
 use Rattle.bound.specs.declared.turn.Why.TheVariants.{Indexed, Leaves, Steers, Resumes, Changed, Recursive, Unbounded, TooMany}
+use Rattle.bound.specs.Counting.{counts_down, fits, stands_at_entry, stands_at_head, stands_in}
 use Rattle.bound.specs.Turns.{turn}
 
 -- the ways on of an instruction
@@ -35,20 +38,6 @@ abbrev pub Within : List Limit → List Site → Type 0
 Within [] ps = Unit {0}
 Within (limit ∷ limits) ps = (times limit ps ≤ limit.most) × Within limits ps
 
--- A way through a routine: from a word, over these words, back to where the routine was called, in so many cycles. A routine that it calls
--- is gone through by a way of its own, within the limits, whose cycles count.
-pub data Way (words : Words) (kept : List ℕ) (limits : List Limit) : Site → List Site → ℕ → Type 0 where
-  Ends : (p : Site) (n : ℕ) → turn words kept p ≡ Back n → Way words kept limits p (p ∷ []) n
-  Goes : (p : Site) (l : Leg) (ps : List Site) (n : ℕ) → IsLeg l (turn words kept p) → Way words kept limits l.to ps n
-      → Way words kept limits p (p ∷ ps) (l.cycles + n)
-  Calls : (p t : Site) (l : Leg) (qs ps : List Site) (m n : ℕ) → turn words kept p ≡ Through t l
-      → Way words kept limits t qs m → Within limits qs → Way words kept limits l.to ps n
-      → Way words kept limits p (p ∷ ps) (l.cycles + m + n)
-
--- each way through a routine within the limits takes at most so many cycles
-abbrev pub IsBound : Words → List ℕ → List Limit → Site → ℕ → Type 0
-IsBound words kept limits p most = (ps : List Site) (n : ℕ) → Way words kept limits p ps n → Within limits ps → n ≤ most
-
 -- a word leads to another of its routine: by one of its ways on, or past a routine that it calls
 pub data Leads (words : Words) (kept : List ℕ) : Site → Site → Type 0 where
   On : (p : Site) (l : Leg) → IsLeg l (turn words kept p) → Leads words kept p l.to
@@ -58,6 +47,41 @@ pub data Leads (words : Words) (kept : List ℕ) : Site → Site → Type 0 wher
 pub data Has (words : Words) (kept : List ℕ) : Site → Site → Type 0 where
   First : (r : Site) → Has words kept r r
   Next : (r p q : Site) → Has words kept r p → Leads words kept p q → Has words kept r q
+
+-- a loop of a routine is counted by CCS: the routine does not begin in it, and each word of the routine is as the loop has it
+pub record IsCounted (words : Words) (kept : List ℕ) (r : Site) (c : Counted) : Type 0 where
+  pub down : counts_down c ≡ true
+  pub outside : stands_in c r ≡ false
+  pub each : (q : Site) → Has words kept r q → fits words kept c q ≡ true
+
+-- how often some words are the head of a loop, and how often they enter it
+abbrev pub rounds : Counted → List Site → ℕ
+rounds c [] = 0
+rounds c (p ∷ ps) = (if stands_at_head c p then 1 else 0) + rounds c ps
+
+abbrev pub entries : Counted → List Site → ℕ
+entries c [] = 0
+entries c (p ∷ ps) = (if stands_at_entry c p then 1 else 0) + entries c ps
+
+-- of the words of a way through a routine, each counted loop's head stands among them at most once more than the loop's constant for each
+-- time that the loop is entered
+abbrev pub Counts : Words → List ℕ → Site → List Site → Type 0
+Counts words kept r ps = (c : Counted) → IsCounted words kept r c → rounds c ps ≤ (c.from + 1) * entries c ps
+
+-- A way through a routine: from a word, over these words, back to where the routine was called, in so many cycles. A routine that it calls
+-- is gone through by a way of its own, within the limits and as its counted loops count, whose cycles count.
+pub data Way (words : Words) (kept : List ℕ) (limits : List Limit) : Site → List Site → ℕ → Type 0 where
+  Ends : (p : Site) (n : ℕ) → turn words kept p ≡ Back n → Way words kept limits p (p ∷ []) n
+  Goes : (p : Site) (l : Leg) (ps : List Site) (n : ℕ) → IsLeg l (turn words kept p) → Way words kept limits l.to ps n
+      → Way words kept limits p (p ∷ ps) (l.cycles + n)
+  Calls : (p t : Site) (l : Leg) (qs ps : List Site) (m n : ℕ) → turn words kept p ≡ Through t l
+      → Way words kept limits t qs m → Within limits qs → Counts words kept t qs → Way words kept limits l.to ps n
+      → Way words kept limits p (p ∷ ps) (l.cycles + m + n)
+
+-- each way through a routine within the limits, and as its counted loops count, takes at most so many cycles
+abbrev pub IsBound : Words → List ℕ → List Limit → Site → ℕ → Type 0
+IsBound words kept limits p most =
+    (ps : List Site) (n : ℕ) → Way words kept limits p ps n → Within limits ps → Counts words kept p ps → n ≤ most
 
 -- a routine calls another at one of its words
 pub record CallsAt (words : Words) (kept : List ℕ) (r p t : Site) : Type 0 where
@@ -113,3 +137,24 @@ pub record IsReason (words : Words) (kept : List ℕ) (limits : List Limit) (rou
 abbrev pub IsAnswer : Words → List ℕ → List Limit → Site → Answer → Type 0
 IsAnswer words kept limits routine (Most most) = IsBound words kept limits routine most
 IsAnswer words kept limits routine (Refused p why) = IsReason words kept limits routine p why
+
+-- loops are counted ones of a routine
+abbrev pub AreCounted : Words → List ℕ → Site → List Counted → Type 0
+AreCounted words kept r [] = Unit {0}
+AreCounted words kept r (c ∷ cs) = IsCounted words kept r c × AreCounted words kept r cs
+
+-- the same of a routine or of those that it uses
+pub record IsCountedOf (words : Words) (kept : List ℕ) (routine : Site) (c : Counted) : Type 0 where
+  pub owner : Site
+  pub uses : Uses words kept routine owner
+  pub counted : IsCounted words kept owner c
+
+abbrev pub AreCountedOf : Words → List ℕ → Site → List Counted → Type 0
+AreCountedOf words kept r [] = Unit {0}
+AreCountedOf words kept r (c ∷ cs) = IsCountedOf words kept r c × AreCountedOf words kept r cs
+
+-- what is found of a routine: an answer, and loops that are counted of it or of those that it uses
+pub record IsFound (words : Words) (kept : List ℕ) (limits : List Limit) (routine : Site) (answer : Answer) (loops : List Counted) : Type 0
+  where
+    pub answered : IsAnswer words kept limits routine answer
+    pub counted : AreCountedOf words kept routine loops

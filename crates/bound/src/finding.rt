@@ -1,12 +1,14 @@
 //! The bound of a routine.
 
-ghost use Rattle.std.specs.Prelude.{◌≡◌, ◌+◌, ◌≤◌, ℕ, IfOk, IfSome, Some, map};
-ghost use Rattle.bound.specs.Bounds.{IsAnswer};
+ghost use Rattle.std.specs.Prelude.{◌≡◌, ◌+◌, ◌≤◌, ◌++◌, ℕ, IfOk, IfSome, OnOk, Some, map};
+ghost use Rattle.bound.specs.Bounds.{IsFound};
 ghost use Rattle.bound.specs.Inside.Checks.{AreBounds, allowed, number_at};
 ghost use Rattle.bound.specs.Inside.Searches.{AreOf, IsAttempt, last_of};
 
+use crate::candidates::loops_in;
 use crate::charge::{Charge, Limit};
-use crate::checking::{Row, all_hold, number_at};
+use crate::checking::{Count, Row, all_count, all_hold, number_at};
+use crate::counted::Counted;
 use crate::graph::{Explored, Graph};
 use crate::looping::{all_stay, is_in};
 use crate::search::{BASE, Numbered, number};
@@ -31,11 +33,21 @@ pub enum Answer {
     Refused(Site, Why),
 }
 
+/// What is answered of a routine, with the loops that are counted by CCS of it and of those that it uses, as far as
+/// these were found.
+#[derive(Drop)]
+pub struct Found {
+    /// The answer.
+    pub answer: Answer,
+    /// The loops.
+    pub loops: Vec<Counted>,
+}
+
 /// What comes of an attempt.
-#[derive(Clone, Copy)]
+#[derive(Drop)]
 pub(crate) enum Attempt {
-    /// The routine takes at most so many cycles.
-    Most(u32),
+    /// The routine takes at most so many cycles, and these loops of it are counted.
+    Most(u32, Vec<Counted>),
     /// At a word it calls one of which no bound is known.
     Calls(Site, Site),
     /// At a word it is found, by a cause, that no bound is.
@@ -43,38 +55,65 @@ pub(crate) enum Attempt {
 }
 
 /// The most cycles of a routine, or why they are not told. Some addresses are of cells that keep Q: TC of one is a
-/// return. No way comes to the place of a limit more often than the limit allows.
+/// return. No way comes to the place of a limit more often than the limit allows, and none to the head of a loop that
+/// is counted by CCS more often than its constant and 1 for each time that it enters the loop.
 pub fn bound(
     alloc: Global,
     rope: &Rope,
     kept: &[Addr12],
     limits: &[Limit],
     routine: &Site,
-) -> Result<Answer, AllocError>
-    ensures { IfOk result (λ answer. IsAnswer rope.now kept.now limits.now routine.now answer) }
+) -> Result<Found, AllocError>
+    ensures { IfOk result (λ found. IsFound rope.now kept.now limits.now routine.now found.answer found.loops.items) }
 {
     let mut known = Vec::new(alloc);
     let mut begun = Vec::new(alloc);
+    let mut loops = Vec::new(alloc);
     for _ in 0..MOST_ATTEMPTS {
         if let Some(most) = number_at(known.as_slice(), routine) {
-            return Ok(Answer::Most(most));
+            return Ok(Found {
+                answer: Answer::Most(most),
+                loops,
+            });
         }
         let site = last_of(begun.as_slice(), routine);
         match try_bound(alloc, rope, kept, limits, known.as_slice(), &site)? {
-            Attempt::Most(number) => {
+            Attempt::Most(number, more) => {
                 known.push(Row { site, number })?;
                 let _last = begun.pop();
+                add_loops(&mut loops, more.as_slice())?;
             }
             Attempt::Calls(at, callee) => {
                 if callee.is(routine) || is_in(begun.as_slice(), &callee) {
-                    return Ok(Answer::Refused(at, Why::Recursive));
+                    return Ok(Found {
+                        answer: Answer::Refused(at, Why::Recursive),
+                        loops,
+                    });
                 }
                 begun.push(callee)?;
             }
-            Attempt::Stops(at, why) => return Ok(Answer::Refused(at, why)),
+            Attempt::Stops(at, why) => {
+                return Ok(Found {
+                    answer: Answer::Refused(at, why),
+                    loops,
+                });
+            }
         }
     }
-    Ok(Answer::Refused(*routine, Why::TooMany))
+    Ok(Found {
+        answer: Answer::Refused(*routine, Why::TooMany),
+        loops,
+    })
+}
+
+/// Adds loops to some.
+fn add_loops(loops: &mut Vec<Counted>, more: &[Counted]) -> Result<(), AllocError>
+    ensures { OnOk result (loops.new.items ≡ loops.old.items ++ more.now) }
+{
+    for counted in more {
+        loops.push(*counted)?;
+    }
+    Ok(())
 }
 
 /// The last of the routines in progress.
@@ -122,16 +161,20 @@ fn number_and_check(
     requires are { AreOf rope.now kept.now routine.now graph.now.sites.items }
     ensures { IfOk result (λ attempt. IsAttempt rope.now kept.now limits.now routine.now attempt) }
 {
-    match number(alloc, graph, limits)? {
-        Numbered::All(rows, weights) => {
+    let loops = loops_in(alloc, rope, kept, limits, graph, routine)?;
+    match number(alloc, graph, limits, loops.as_slice())? {
+        Numbered::All(rows, weights, gains) => {
             let charges = charges(alloc, limits, weights.as_slice())?;
+            let counts = counts(alloc, loops.as_slice(), gains.as_slice())?;
             Ok(checked(
                 rope,
                 kept,
                 charges.as_slice(),
+                counts.as_slice(),
                 known,
                 rows.as_slice(),
                 routine,
+                loops,
             ))
         }
         Numbered::Loops(at, round) => {
@@ -161,24 +204,27 @@ fn unbounded(
     }
 }
 
-/// The bound by numbers and costs that were found, where these are right.
+/// The bound by numbers, costs and loops that were found, where these are right.
 fn checked(
     rope: &Rope,
     kept: &[Addr12],
     charges: &[Charge],
+    counts: &[Count],
     known: &[Row],
     rows: &[Row],
     routine: &Site,
+    loops: Vec<Counted>,
 ) -> Attempt
-    requires { AreBounds rope.now kept.now (map (λ charge. charge.limit) charges.now) known.now }
+    requires bounds { AreBounds rope.now kept.now (map (λ charge. charge.limit) charges.now) known.now }
+    requires loops { map (λ count. count.counted) counts.now ≡ loops.items }
     ensures { IsAttempt rope.now kept.now (map (λ charge. charge.limit) charges.now) routine.now result }
 {
-    if !all_hold(rope, kept, charges, known, rows, BASE) {
+    if !all_hold(rope, kept, charges, counts, known, rows, BASE) {
         return Attempt::Stops(*routine, Why::TooMany);
     }
     match most(charges, rows, routine) {
-        Some(most) => Attempt::Most(most),
-        None => Attempt::Stops(*routine, Why::TooMany),
+        Some(most) if all_count(rope, kept, rows, routine, counts) => Attempt::Most(most, loops),
+        _ => Attempt::Stops(*routine, Why::TooMany),
     }
 }
 
@@ -225,4 +271,23 @@ fn charges(alloc: Global, limits: &[Limit], weights: &[u32]) -> Result<Vec<Charg
         })?;
     }
     Ok(charges)
+}
+
+/// Counted loops, each with its cost.
+fn counts(alloc: Global, loops: &[Counted], gains: &[u32]) -> Result<Vec<Count>, AllocError>
+    ensures { IfOk result (λ counts. map (λ count. count.counted) counts.items ≡ loops.now) }
+{
+    let mut counts = Vec::new(alloc);
+    for (number, counted) in loops.iter().enumerate() {
+        let weight = if number < gains.len() {
+            gains[number]
+        } else {
+            0
+        };
+        counts.push(Count {
+            counted: *counted,
+            weight,
+        })?;
+    }
+    Ok(counts)
 }

@@ -3,11 +3,14 @@
 #![tactic(auto)]
 
 mod asking;
+mod candidates;
 mod charge;
 mod checking;
+mod counted;
 mod finding;
 mod graph;
 mod kind;
+mod laws;
 mod looping;
 mod search;
 mod site;
@@ -16,7 +19,9 @@ mod turn;
 
 pub use asking::{kept_named, limits_named, routine_named};
 pub use charge::Limit;
-pub use finding::{Answer, bound};
+pub use counted::Counted;
+pub use finding::{Answer, Found, bound};
+pub use laws::counted_loops_count;
 pub use site::Site;
-pub use text::write_answer;
+pub use text::write_found;
 pub use turn::{Leg, Turn, Why, turn_at};

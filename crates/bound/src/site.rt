@@ -1,6 +1,7 @@
 //! Words of fixed memory that are executed.
 
 ghost use Rattle.std.specs.Prelude.{◌≡◌};
+ghost use Rattle.bound.specs.Counting.{is_plain};
 ghost use Rattle.bound.specs.Inside.Checks.{same, same_mode};
 ghost use Rattle.bound.specs.Turns.{entry};
 
@@ -41,6 +42,13 @@ impl Mode {
             held: true,
             banked,
         }
+    }
+
+    /// Whether nothing waits: no extracode, no sum of INDEX.
+    pub(crate) fn is_plain(&self) -> bool
+        ensures { result ≡ is_plain self.now }
+    {
+        !self.extra && !self.indexed
     }
 
     /// Whether it is another one.

@@ -337,7 +337,7 @@ fn unless(steers: bool, turn: Turn) -> Turn
 }
 
 /// The word to which a jump leads.
-fn target(site: &Site, address: &Option<Addr12>) -> Option<Site>
+pub(crate) fn target(site: &Site, address: &Option<Addr12>) -> Option<Site>
     ensures { result ≡ target site.now address.now }
 {
     match address {
@@ -376,7 +376,7 @@ fn further_so(site: &Site, count: u16, mode: Mode) -> Option<Site>
 }
 
 /// The word to which an address leads.
-fn at_address(site: &Site, address: Addr12, mode: Mode) -> Option<Site>
+pub(crate) fn at_address(site: &Site, address: Addr12, mode: Mode) -> Option<Site>
     ensures { result ≡ at_address site.now address mode }
 {
     let number = address.number();
@@ -430,7 +430,7 @@ fn steers_out(site: &Site, channel: u16) -> bool
 }
 
 /// The place after an operand.
-fn second(address: &Option<Addr12>) -> Option<Addr12>
+pub(crate) fn second(address: &Option<Addr12>) -> Option<Addr12>
     ensures { result ≡ second address.now }
 {
     match address {

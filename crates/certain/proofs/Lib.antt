@@ -7,3 +7,5 @@ pub mod Feeds
 pub mod Listed
 pub mod Passed
 pub mod Warned
+pub mod AccountRows
+pub mod Counted

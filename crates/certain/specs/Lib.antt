@@ -5,3 +5,4 @@ pub mod Places
 pub mod Comparison
 pub mod Lines
 pub mod Doubted
+pub mod Accounts

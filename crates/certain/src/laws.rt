@@ -1,8 +1,11 @@
 //! The laws of uncertain places. They are contracts of calls that do nothing.
 
+ghost use Rattle.std.specs.Prelude.{ℕ};
+ghost use Rattle.certain.specs.Accounts.{CountsAll};
 ghost use Rattle.certain.specs.Doubted.{WarnedAreUncertain};
 ghost use Rattle.certain.specs.Lines.{AreOfLines};
 
+use crate::places::UncertainPlaces;
 use rope::Rope;
 use yayul::SourceRows;
 
@@ -21,4 +24,15 @@ pub fn warned_are_uncertain(rows: &SourceRows, words: &Rope)
 {
     let _rows = rows;
     let _words = words;
+}
+
+/// An account counts each place that a source fills in a bank once: as certain, as uncertain or as a hole; and of the
+/// certain ones some have the rope's word.
+pub fn accounts_count_all(uncertain: &UncertainPlaces, words: &Rope, other: &Rope, new: &Rope)
+    ensures { (bank : ℕ) → CountsAll uncertain.now words.now other.now new.now bank }
+{
+    let _uncertain = uncertain;
+    let _words = words;
+    let _other = other;
+    let _new = new;
 }

@@ -2,6 +2,7 @@
 //! apart where such a source and a rope differ.
 #![tactic(auto)]
 
+mod accounts;
 mod comparison;
 mod counts;
 mod doubted;
@@ -12,8 +13,9 @@ mod line_forms;
 mod places;
 mod rows;
 
+pub use accounts::write_accounts;
 pub use comparison::write_comparison;
 pub use doubted::doubted_lines;
 pub use form::UncertainForm;
-pub use places::UncertainPlaces;
+pub use places::{UncertainPlaces, placed_rows};
 pub use rows::{PlaceMargin, is_second, place_before, text_on};

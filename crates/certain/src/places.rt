@@ -189,7 +189,7 @@ impl UncertainPlaces {
 
 /// The rows of a source, each after its place. `None` is that memory ran out.
 #[tactic(auto, unfolding(crate::specs::Rows::placed_rows))]
-pub(crate) fn placed_rows(alloc: Global, rows: &SourceRows, rope: &Rope) -> Option<Buffer>
+pub fn placed_rows(alloc: Global, rows: &SourceRows, rope: &Rope) -> Option<Buffer>
     ensures { IfSome result (λ listing. lines listing.written ≡ placed_rows rows.now rope.now) }
 {
     let mut listing = Buffer::new(alloc);

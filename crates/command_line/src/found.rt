@@ -5,6 +5,7 @@ use crate::names::ALIGN;
 use crate::names::AS_OCTAL;
 use crate::names::AS_SOURCE;
 use crate::names::ASM;
+use crate::names::ASSUMED;
 use crate::names::BANK;
 use crate::names::BANK_COUNT;
 use crate::names::BANKS;
@@ -74,6 +75,7 @@ use crate::names::WHATIF;
 use crate::names::WHERE;
 use crate::names::WHY;
 use crate::names::WITH;
+use crate::names::WITH_BANKS;
 use crate::names::WITH_HOLES;
 use crate::names::WITH_SUMS;
 use crate::names::WITH_XREF;
@@ -153,6 +155,7 @@ fn asm<'a>(matches: &ArgMatches<'a>) -> Option<AsmArguments<'a>> {
         has_xref: matches.get_flag(WITH_XREF),
         has_holes: matches.get_flag(WITH_HOLES),
         filling: matches.get_str(FILLING),
+        assumed: matches.get_str(ASSUMED),
     })
 }
 
@@ -285,6 +288,7 @@ fn check<'a>(
         is_flight: matches.get_flag(FLIGHT),
         tells_unused: matches.get_flag(UNUSED),
         is_json: matches.get_flag(JSON),
+        assumed: matches.get_str(ASSUMED),
     }))
 }
 
@@ -324,6 +328,9 @@ fn compare<'a>(matches: &ArgMatches<'a>) -> Option<CompareArguments<'a>> {
         new: image(matches, NEW, NEW_VERSION, NEW_FORM)?,
         is_source: matches.get_flag(ONLY),
         is_flight: matches.get_flag(FLIGHT),
+        has_holes: matches.get_flag(WITH_HOLES),
+        has_banks: matches.get_flag(WITH_BANKS),
+        assumed: matches.get_str(ASSUMED),
     })
 }
 

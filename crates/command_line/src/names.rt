@@ -170,6 +170,12 @@ pub const WITH_XREF: &str = "WITH_XREF";
 /// That lines of the interpretive language are holes.
 pub const WITH_HOLES: &str = "WITH_HOLES";
 
+/// What is assumed of forms that are not certain.
+pub const ASSUMED: &str = "ASSUMED";
+
+/// That an account of each bank is told.
+pub const WITH_BANKS: &str = "WITH_BANKS";
+
 /// The image of which holes take their words.
 pub const FILLING: &str = "FILLING";
 

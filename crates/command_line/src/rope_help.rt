@@ -97,6 +97,15 @@ UNCERTAIN 2CADR; and where OLD has such words more lines follow COUNT: how many
 of them differ, and of each form how many places NEW confirms and denies, as
   UNCERTAIN 1 OF 8
   FORM 2CADR CONFIRMED 7 DENIED 1
+With --banks a line follows for each bank in which OLD has words, as
+  BANK 10 CERTAIN 812 EQUAL 812 UNCERTAIN 3 HOLES 211
+with how many of its places are certain, how many of these NEW has too, how many
+are uncertain, where any is, and how many are holes. With --holes lines of the
+interpretive language are holes, as with agcws asm --holes, and are not
+compared; else such lines are refused.
+With --assume, as agcws asm takes it, the banks are told too, and of each F=W at
+how many places NEW confirms it, and denies it, as
+  ASSUMED MM=DEC CONFIRMED 3 DENIED 0
 
 Exit status:
   0  the words are equal

@@ -1,9 +1,9 @@
 //! The subcommands of rope images, and their arguments.
 
 use crate::names::{
-    ALIGN, AS_OCTAL, AS_SOURCE, BANK, BANKS, BOTH_FORMS, COMPARE, DAMAGES, FIND, FORM,
+    ALIGN, AS_OCTAL, AS_SOURCE, BANK, BANKS, BOTH_FORMS, COMPARE, DAMAGES, FIND, FLIGHT, FORM,
     IGNORED_PARITY, NEW, NEW_FORM, NEW_VERSION, OLD, OLD_FORM, OLD_VERSION, ONLY, PARITY, PASSAGE,
-    SUMS, SYMBOLS, UPGRADE, WHERE, WITH_XREF, WORDS,
+    SUMS, SYMBOLS, UPGRADE, WHERE, WITH_BANKS, WITH_HOLES, WITH_XREF, WORDS,
 };
 use crate::rope_help::{
     ALIGN_HELP, COMPARE_HELP, DAMAGES_HELP, FIND_HELP, PARITY_HELP, SUMS_HELP, UPGRADE_HELP,
@@ -11,8 +11,8 @@ use crate::rope_help::{
 };
 use crate::row::{Row, Subcommand, Value};
 use crate::rows::{
-    FLAG, FLIGHT_OPTION, FORM_OPTION, IMAGE_ARGUMENT, NEEDED, PARITY_OPTION, PLAIN, SYMBOLS_OPTION,
-    VERSION_OPTION,
+    ASSUME_OPTION, FLAG, FLIGHT_OPTION, FORM_OPTION, IMAGE_ARGUMENT, NEEDED, PARITY_OPTION, PLAIN,
+    SYMBOLS_OPTION, VERSION_OPTION,
 };
 
 /// `agcws upgrade`.
@@ -102,7 +102,7 @@ pub fn compare() -> Subcommand {
     }
 }
 
-static COMPARE_ROWS: [Row; 9] = [
+static COMPARE_ROWS: [Row; 12] = [
     Row {
         name: OLD,
         help: "The first rope image, a file",
@@ -124,6 +124,21 @@ static COMPARE_ROWS: [Row; 9] = [
         needs: &[ONLY],
         ..FLIGHT_OPTION
     },
+    Row {
+        name: WITH_HOLES,
+        long: Some("holes"),
+        needs: &[FLIGHT],
+        help: "Interpretive lines are holes; tells --banks",
+        ..FLAG
+    },
+    Row {
+        name: WITH_BANKS,
+        long: Some("banks"),
+        needs: &[FLIGHT],
+        help: "Tells an account of each bank",
+        ..FLAG
+    },
+    ASSUME_OPTION,
     Row {
         name: OLD_VERSION,
         long: Some("old"),

@@ -1,8 +1,8 @@
 //! Arguments that several subcommands have.
 
 use crate::names::{
-    FEED, FLIGHT, FORM, FORMS, IGNORED_PARITY, IMAGE, PROGRESS, ROPE, SOURCE, STEPS, SYMBOLS,
-    VERSION, VERSION_ONE, VERSION_TWO,
+    ASSUMED, FEED, FLIGHT, FORM, FORMS, IGNORED_PARITY, IMAGE, PROGRESS, ROPE, SOURCE, STEPS,
+    SYMBOLS, VERSION, VERSION_ONE, VERSION_TWO,
 };
 use crate::row::{Row, Value};
 
@@ -73,6 +73,16 @@ pub const FLIGHT_OPTION: Row = Row {
     long: Some("flight"),
     help: "The source has forms of flight programs",
     ..FLAG
+};
+
+/// What is assumed of forms of flight programs that are not certain.
+pub const ASSUME_OPTION: Row = Row {
+    name: ASSUMED,
+    long: Some("assume"),
+    value_names: &["F=W"],
+    needs: &[FLIGHT],
+    help: "Takes form F as W, as MM=DEC; or @FILE with such",
+    ..PLAIN
 };
 
 /// The version of an image.

@@ -198,13 +198,22 @@ pub const BOUND_HELP: &str = "Files:
   SRC  a source, as agcws run takes it, or with --image a rope image, for which
        --symbols is a table of names, as agcws words takes it
 
-Output: one line. Where all ways through the routine end,
+Output: where all ways through the routine end,
   AT MOST 58 CYCLES
 from its first word to TC Q, or to TC of a cell of --kept, and the TC that is
 there, all counted, over all ways on which no place of --loops is come to more
 often than is stated there. Each routine that is called on the way is counted
 from TC to its return, and in each of its calls comes to these places as often
-at most. Else the place where no bound was found, and why:
+at most. Then a line for each loop whose rounds its words tell:
+  02,4002 COUNTED BY CCS 0100 FROM 10
+Such a loop runs from TS of a cell to TCF of this TS. Before TS stands CA of a
+constant of fixed memory, not below 0; before TCF stands CCS of the cell. In the
+routine nothing else leads to TS or to TCF, nor into the loop. In it no other
+word may write the cell (a write under INDEX may), and none calls. The cell is
+none below 61, which counters and the machine write; where EB switches it, no
+word of the loop may write EB. The loop comes to TS once more than its constant
+each time that it is entered. Handlers of interrupts are not looked at. A place
+of --loops goes before it. Else the place where no bound was found, and why:
   NO BOUND: 02,4002 IS IN A LOOP WITHOUT A BOUND
   JUMPS UNDER INDEX              where the jump goes no word tells
   LEADS TO NO KNOWN WORD         to erasable memory, or to a bank of FB
@@ -212,7 +221,7 @@ at most. Else the place where no bound was found, and why:
   RESUMES
   RETURNS BY Q, WHICH WAS CHANGED
   CALLS A ROUTINE IN PROGRESS    which would not end
-  IS IN A LOOP WITHOUT A BOUND   one without a place of --loops
+  IS IN A LOOP WITHOUT A BOUND   not counted so, and without --loops
   HAS TOO MANY WORDS OR CYCLES   8192 words, or 2^32 cycles
 --loops has pairs of a place and a number, as 'LOOP 11 INNER 121': of all ways
 through the routine, so that of an inner loop the rounds of all rounds of the

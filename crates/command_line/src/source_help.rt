@@ -22,6 +22,13 @@ pub const ASM_HELP: &str = "Files:
   FILE  an image of the version of ROPE, or a text of octal words.
         With --holes each line of the interpretive language is a hole: a word
         that is not made, but is 00000, or the word of FILE at its place.
+        A bank with a hole has no sum until FILE fills it: --sums beside --holes
+        needs --fill, and the sums are those of the filled words.
+  F=W   forms of which it is not certain what they mean, and what is assumed of
+        them, with commas between: MM=DEC, NV=VN, 2BCADR=2CADR, DNPTR=CA,
+        BBCON*=66100, ERASE=COUNT, ERASE=EQUALS, 8=8D; else each is refused. In
+        @FILE lines have them, and # begins a comment. A row of such a line
+        shows what is assumed of it, and ends in # ASSUMED and its F=W.
 
 Output: the listing, a row for each line of the source with its number, its
 place and its word in octal, and then the symbols. With --xref after them, as
@@ -61,6 +68,8 @@ each feed that has one, and in the last line how many there are. agcws explain
 E17 tells what draws E17, and its cures.
 With --flight lines of the interpretive language, which is not taken, are told
 once, on the first of them, with their count.
+With --assume lines that stand by an assumption are told after these, as
+  my.agc:12: assumed MM=DEC
 A file with a fault that is of another kind is told in words after its faults:
 a feed in place of the source, a source in place of a feed, and an image.
 With --json each is an object of JSON, all on one line, as

@@ -5,7 +5,9 @@ use crate::names::{
     TAP, UNUSED, WITH_HOLES, WITH_SUMS, WITH_XREF,
 };
 use crate::row::{Row, Subcommand, Value};
-use crate::rows::{FLAG, FLIGHT_OPTION, NEEDED, PLAIN, SOURCE_ARGUMENT, VERSION_OPTION};
+use crate::rows::{
+    ASSUME_OPTION, FLAG, FLIGHT_OPTION, NEEDED, PLAIN, SOURCE_ARGUMENT, VERSION_OPTION,
+};
 use crate::source_help::{ASM_HELP, CHECK_HELP, EXPECT_HELP, EXPLAIN_HELP};
 
 /// `agcws asm`.
@@ -18,7 +20,7 @@ pub fn asm() -> Subcommand {
     }
 }
 
-static ASM_ROWS: [Row; 8] = [
+static ASM_ROWS: [Row; 9] = [
     FLIGHT_OPTION,
     SOURCE_ARGUMENT,
     Row {
@@ -42,7 +44,6 @@ static ASM_ROWS: [Row; 8] = [
         name: WITH_HOLES,
         long: Some("holes"),
         needs: &[FLIGHT],
-        conflicts: &[WITH_SUMS],
         help: "Lines of the interpretive language are holes",
         ..FLAG
     },
@@ -54,6 +55,7 @@ static ASM_ROWS: [Row; 8] = [
         help: "The rope image of which holes have their words",
         ..PLAIN
     },
+    ASSUME_OPTION,
     VERSION_OPTION,
 ];
 
@@ -67,7 +69,7 @@ pub fn check() -> Subcommand {
     }
 }
 
-static CHECK_ROWS: [Row; 5] = [
+static CHECK_ROWS: [Row; 6] = [
     FLIGHT_OPTION,
     Row {
         name: UNUSED,
@@ -80,6 +82,10 @@ static CHECK_ROWS: [Row; 5] = [
         long: Some("json"),
         help: "Tells it as JSON, an object a line",
         ..FLAG
+    },
+    Row {
+        conflicts: &[JSON],
+        ..ASSUME_OPTION
     },
     SOURCE_ARGUMENT,
     Row {

@@ -1,39 +1,37 @@
 //! What a line of an extended session asks for.
 
-ghost use Rattle.std.specs.Prelude.{◌≡◌, ◌≤◌, ◌∷◌, List, ℕ, Some, codes, drop, length, option_and_then, All, IfSome};
+ghost use Rattle.std.specs.Prelude.{◌≡◌, ◌≤◌, List, ℕ, Some, codes, drop, length, option_and_then, All, IfSome};
 ghost use Rattle.std.specs.Option.{option_map, option_or};
 ghost use Rattle.agc_text.specs.Fields.{runs, texts, fields};
 ghost use Rattle.agc_text.specs.Tables.{value_in};
 ghost use Rattle.commands.specs.Lines.{kept_line};
 ghost use Rattle.commands.specs.Commands.{count_in};
 ghost use Rattle.commands.specs.declared.extended.ExtendedLine.TheVariants as asked;
-ghost use Rattle.commands.specs.Extended.{extended_forms, most_count, sole, with_none, with_word, with_field};
+ghost use Rattle.commands.specs.Extended.{extended_forms, sole, with_none, with_word, with_field};
 ghost use Rattle.commands.specs.Extended.{with_field_or, help_in, few_in, counted_links, links_in, why_of, why_place};
 ghost use Rattle.commands.specs.Extended.{why_form, memory_of, channel_form, memory_form, count_after, counted_place};
-ghost use Rattle.commands.specs.Extended.{with_counted_place, usual_links, if_none, place_alone, last_form, broken_at};
-ghost use Rattle.commands.specs.Extended.{watches, bits_of, watches_bits, subject_alone, break_form, in_words};
-ghost use Rattle.commands.specs.Extended.{behind_blank, echoed, extended_in, extended_line, steps_in, telling};
+ghost use Rattle.commands.specs.Extended.{with_counted_place, usual_links, place_alone, last_form, break_form};
+ghost use Rattle.commands.specs.Extended.{behind_blank, echoed, extended_in, extended_line};
+ghost use Rattle.commands.specs.Extended.{in_words, steps_in, telling};
 ghost use Rattle.commands.specs.Extended.{places_in, lines_in, word_alone, stepped_in, word_then, links_then, since_in};
 ghost use Rattle.commands.specs.Extended.{index_told, since_of, why_since};
 
-use crate::command::{Breakpoint, Command, ParsedLine};
-use crate::fields::{channel_in, count_in, is_word};
+use crate::breaking::break_form;
+use crate::command::{Command, ParsedLine};
+use crate::fields::{count_in, is_word};
 use crate::line::CommandLine;
 use crate::named_places::{after_place, place_first};
 use crate::parsing::parsed_in;
 use crate::phrase::Phrase;
 use crate::places::erasable_number;
 use crate::refusal::refusal_line;
-use crate::subject::{Subject, channel_named, channel_subject, erasable_first, place_subject};
+use crate::subject::{Subject, channel_named, channel_subject, place_subject};
 use crate::survey::{Surveyed, survey_in};
 use crate::usage::help_of;
 use crate::whatif::{Extent, Trial, whatif_form};
 use agc_text::{before_comment, next_field, split_field};
-use feed::{Input, word_in};
-use space::Chan;
 use space::place::Linear;
 use symbols::Symbols;
-use words::Word;
 
 /// The most steps that a command can name.
 pub const MOST_COUNT: u64 = 999_999_999_999_999;
@@ -291,8 +289,8 @@ fn state_command_in(symbols: &Symbols, name: &[u8], rest: &[u8]) -> Option<Exten
     }
 }
 
-// The field that stands alone.
-fn sole(rest: &[u8]) -> Option<&[u8]>
+/// The field that stands alone.
+pub(crate) fn sole(rest: &[u8]) -> Option<&[u8]>
     requires { All (λ field. length field ≤ 80) (texts (runs rest.now)) }
     ensures field { option_map (λ field. field.now) result ≡ sole (texts (runs rest.now)) }
     ensures short { IfSome result (λ field. length field.now ≤ 80) }
@@ -691,8 +689,8 @@ fn count_after(usual: u64, rest: &[u8]) -> Option<u64>
     }
 }
 
-// A place, where no field stands after it.
-fn place_alone(symbols: &Symbols, rest: &[u8]) -> Option<Linear>
+/// A place, where no field stands after it.
+pub(crate) fn place_alone(symbols: &Symbols, rest: &[u8]) -> Option<Linear>
     requires { All (λ field. length field ≤ 80) (texts (runs rest.now)) }
     ensures { result ≡ place_alone symbols.now (texts (runs rest.now)) }
 {
@@ -712,100 +710,6 @@ fn last_form(symbols: &Symbols, rest: &[u8]) -> Option<ExtendedLine>
         Some(place) => Some(ExtendedLine::Common(Command::Last(place))),
         None => None,
     }
-}
-
-// What `break` takes but for a channel and a word alone.
-fn break_form(symbols: &Symbols, rest: &[u8]) -> Option<ExtendedLine>
-    requires { All (λ field. length field ≤ 80) (texts (runs rest.now)) }
-    ensures { result ≡ break_form symbols.now (texts (runs rest.now)) }
-{
-    let (kind, more) = split_field(rest)?;
-    broken_by(symbols, kind, more)
-}
-
-// The breakpoint of a kind and of the fields after it.
-fn broken_by(symbols: &Symbols, kind: &[u8], rest: &[u8]) -> Option<ExtendedLine>
-    requires { All (λ field. length field ≤ 80) (texts (runs rest.now)) }
-    ensures { result ≡ break_form symbols.now (kind.now ∷ texts (runs rest.now)) }
-{
-    if is_word(kind, "at") {
-        let place = place_alone(symbols, rest)?;
-        Some(broken_at(Breakpoint::Place(place)))
-    } else if is_word(kind, "word") {
-        watches(symbols, rest)
-    } else if is_word(kind, "chan") {
-        watches_bits(rest)
-    } else if is_word(kind, "exec") {
-        let place = place_alone(symbols, rest)?;
-        Some(broken_at(Breakpoint::Executed(place)))
-    } else if is_word(kind, "change") {
-        let subject = subject_alone(symbols, rest)?;
-        Some(broken_at(Breakpoint::Changed(subject)))
-    } else {
-        None
-    }
-}
-
-// An erasable place or a channel, where no field stands after it.
-fn subject_alone(symbols: &Symbols, rest: &[u8]) -> Option<Subject>
-    requires { All (λ field. length field ≤ 80) (texts (runs rest.now)) }
-    ensures { result ≡ subject_alone symbols.now (texts (runs rest.now)) }
-{
-    let (field, more) = split_field(rest)?;
-    match alone(place_subject(symbols, rest), after_place(rest)) {
-        Some(subject) => Some(subject),
-        None => alone(channel_subject(symbols, field), more),
-    }
-}
-
-// A subject, where no field stands after it.
-fn alone(subject: Option<Subject>, rest: &[u8]) -> Option<Subject>
-    ensures { result ≡ if_none (texts (runs rest.now)) subject }
-{
-    match split_field(rest) {
-        None => subject,
-        Some(_) => None,
-    }
-}
-
-// `break` of an erasable place and a word.
-fn watches(symbols: &Symbols, rest: &[u8]) -> Option<ExtendedLine>
-    requires { All (λ field. length field ≤ 80) (texts (runs rest.now)) }
-    ensures { result ≡ watches symbols.now (texts (runs rest.now)) }
-{
-    let place = erasable_first(symbols, rest)?;
-    let word = word_in(sole(after_place(rest))?)?;
-    Some(broken_at(Breakpoint::Word(place, word)))
-}
-
-// `break` of a channel, a word and a mask.
-fn watches_bits(rest: &[u8]) -> Option<ExtendedLine>
-    ensures { result ≡ watches_bits (texts (runs rest.now)) }
-{
-    let (channel, rest) = split_field(rest)?;
-    let (word, rest) = split_field(rest)?;
-    let (mask, rest) = split_field(rest)?;
-    match split_field(rest) {
-        None => bits_of(channel_in(channel), word_in(word), word_in(mask)),
-        Some(_) => None,
-    }
-}
-
-// A breakpoint on some bits of a channel, where all that it needs stands.
-fn bits_of(channel: Option<Chan>, word: Option<Word>, mask: Option<Word>) -> Option<ExtendedLine>
-    ensures { result ≡ bits_of channel word mask }
-{
-    let channel = channel?;
-    let word = word?;
-    let mask = mask?;
-    Some(broken_at(Breakpoint::Bits(channel, word, mask)))
-}
-
-// One breakpoint more.
-fn broken_at(breakpoint: Breakpoint) -> ExtendedLine
-    ensures { result ≡ broken_at breakpoint }
-{
-    ExtendedLine::Common(Command::Break(breakpoint))
 }
 
 // What any session is asked for, with words for what is no command.

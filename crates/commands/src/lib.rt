@@ -3,6 +3,7 @@
 //! Nothing here takes memory.
 #![tactic(auto)]
 
+mod breaking;
 mod breakpoints;
 mod command;
 mod extended;

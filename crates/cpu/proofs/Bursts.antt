@@ -128,18 +128,19 @@ pub record HasCome (p : Scenario) (from : State) (d n : ℕ) (m : State) : Type 
   pub cycles : m.cycles ≤ from.cycles + 6 * (n - d)
   pub silent : IsSilent p d n
 
-pub comes_on : (p : Scenario) (from : State) (d n silent : ℕ) (m t : State) → HasCome p from d n m → d ≤ n
+pub comes_on : (p : Scenario) (from : State) (d n k silent : ℕ) (m t : State) → HasCome p from d n m → d ≤ n → k ≡ n + 1
     → ((cycles : ℕ) → cycles < silent → due p.inputs from.taken cycles ≡ None) → m.cycles < silent → execute p.rope m ≡ (t, None)
-    → IsStill t → HasCome p from d (n + 1) t
-comes_on p from d n silent m t come low none before made still =
+    → IsStill t → HasCome p from d k t
+comes_on p from d n k silent m t come low same_number none before made still =
     let none_due : due p.inputs m.taken m.cycles ≡ None = rw come.taken (none m.cycles before) in
     let step = sym (still_next p m come.still none_due ∙ made) in
     let few = cycles-next p m in
     let same = ap (λ (q : State × Option Output). q.0.cycles) step in
-    record {
+    let come_on : HasCome p from d (n + 1) t = record {
       stands = state_next p n m t None come.stands step;
       still = still;
       taken = ap (λ (q : State × Option Output). q.0.taken) step ∙ (takes_in_turn p m).none none_due ∙ come.taken;
       cycles = omega (arith, come.cycles, few, same, low);
       silent = silent_more p d n come.silent (sym (out_next p n m t None come.stands step));
-    }
+    } in
+    rw same_number come_on

@@ -12,6 +12,55 @@ use crate::machine::Machine;
 use rope::Rope;
 use space::Eras;
 
+// Executes an instruction outside extracode, where it is plain. Each has code of its own, in which what its row says is
+// known. This is a macro, since a function that several loops call is compiled as a call.
+macro_rules! execute_among_basic {
+    ($machine:expr, $rope:expr, $word:expr) => {
+        match basic_entry($word) {
+            Instruction::Tc => $machine.execute_transfer($rope, $word),
+            Instruction::Ccs => Some($machine.execute_as($rope, Instruction::Ccs, $word, false)),
+            Instruction::Tcf => Some($machine.execute_as($rope, Instruction::Tcf, $word, false)),
+            Instruction::Das => Some($machine.execute_as($rope, Instruction::Das, $word, false)),
+            Instruction::Lxch => Some($machine.execute_as($rope, Instruction::Lxch, $word, false)),
+            Instruction::Incr => Some($machine.execute_as($rope, Instruction::Incr, $word, false)),
+            Instruction::Ads => Some($machine.execute_as($rope, Instruction::Ads, $word, false)),
+            Instruction::Ca => Some($machine.execute_as($rope, Instruction::Ca, $word, false)),
+            Instruction::Cs => Some($machine.execute_as($rope, Instruction::Cs, $word, false)),
+            Instruction::Dxch => Some($machine.execute_as($rope, Instruction::Dxch, $word, false)),
+            Instruction::Ts => Some($machine.execute_as($rope, Instruction::Ts, $word, false)),
+            Instruction::Xch => Some($machine.execute_as($rope, Instruction::Xch, $word, false)),
+            Instruction::Ad => Some($machine.execute_as($rope, Instruction::Ad, $word, false)),
+            Instruction::Mask => Some($machine.execute_as($rope, Instruction::Mask, $word, false)),
+            _ => None,
+        }
+    };
+}
+
+// The same under extracode: tells whether it is plain.
+macro_rules! execute_among_extracodes {
+    ($machine:expr, $rope:expr, $word:expr) => {
+        match decode($word, true) {
+            Instruction::Read => !$machine.execute_as($rope, Instruction::Read, $word, true),
+            Instruction::Rand => !$machine.execute_as($rope, Instruction::Rand, $word, true),
+            Instruction::Ror => !$machine.execute_as($rope, Instruction::Ror, $word, true),
+            Instruction::Rxor => !$machine.execute_as($rope, Instruction::Rxor, $word, true),
+            Instruction::Edrupt => !$machine.execute_as($rope, Instruction::Edrupt, $word, true),
+            Instruction::Dv => !$machine.execute_as($rope, Instruction::Dv, $word, true),
+            Instruction::Bzf => !$machine.execute_as($rope, Instruction::Bzf, $word, true),
+            Instruction::Msu => !$machine.execute_as($rope, Instruction::Msu, $word, true),
+            Instruction::Qxch => !$machine.execute_as($rope, Instruction::Qxch, $word, true),
+            Instruction::Aug => !$machine.execute_as($rope, Instruction::Aug, $word, true),
+            Instruction::Dim => !$machine.execute_as($rope, Instruction::Dim, $word, true),
+            Instruction::Dca => !$machine.execute_as($rope, Instruction::Dca, $word, true),
+            Instruction::Dcs => !$machine.execute_as($rope, Instruction::Dcs, $word, true),
+            Instruction::Su => !$machine.execute_as($rope, Instruction::Su, $word, true),
+            Instruction::Bzmf => !$machine.execute_as($rope, Instruction::Bzmf, $word, true),
+            Instruction::Mp => !$machine.execute_as($rope, Instruction::Mp, $word, true),
+            _ => false,
+        }
+    };
+}
+
 impl Machine {
     /// Whether surely nothing waits, and no interrupt is asked for.
     pub(crate) fn is_still(&self) -> bool
@@ -20,8 +69,7 @@ impl Machine {
         !self.asks() && !self.waits()
     }
 
-    /// Executes the instruction at Z where that is plain, and answers whether extracode is in force then. Each stands
-    /// here by code of its own, in which what its row says is known.
+    /// Executes the instruction at Z where that is plain, and answers whether extracode is in force then.
     #[inline(always)]
     pub(crate) fn execute_basic(&mut self, rope: &Rope) -> Option<bool>
         requires still { IsStill self.old }
@@ -33,26 +81,10 @@ impl Machine {
         ensures still { IsStill self.new }
     {
         let word = self.word_at_z(rope).to_u16();
-        match basic_entry(word) {
-            Instruction::Tc => self.execute_transfer(rope, word),
-            Instruction::Ccs => Some(self.execute_as(rope, Instruction::Ccs, word, false)),
-            Instruction::Tcf => Some(self.execute_as(rope, Instruction::Tcf, word, false)),
-            Instruction::Das => Some(self.execute_as(rope, Instruction::Das, word, false)),
-            Instruction::Lxch => Some(self.execute_as(rope, Instruction::Lxch, word, false)),
-            Instruction::Incr => Some(self.execute_as(rope, Instruction::Incr, word, false)),
-            Instruction::Ads => Some(self.execute_as(rope, Instruction::Ads, word, false)),
-            Instruction::Ca => Some(self.execute_as(rope, Instruction::Ca, word, false)),
-            Instruction::Cs => Some(self.execute_as(rope, Instruction::Cs, word, false)),
-            Instruction::Dxch => Some(self.execute_as(rope, Instruction::Dxch, word, false)),
-            Instruction::Ts => Some(self.execute_as(rope, Instruction::Ts, word, false)),
-            Instruction::Xch => Some(self.execute_as(rope, Instruction::Xch, word, false)),
-            Instruction::Ad => Some(self.execute_as(rope, Instruction::Ad, word, false)),
-            Instruction::Mask => Some(self.execute_as(rope, Instruction::Mask, word, false)),
-            _ => None,
-        }
+        execute_among_basic!(self, rope, word)
     }
 
-    /// The same of a word that was read, for loops that look at each word: a function of one loop is compiled in line.
+    /// The same of a word that was read, for loops that look at each word.
     #[inline(always)]
     pub(crate) fn execute_basic_word(&mut self, rope: &Rope, held: u16) -> Option<bool>
         requires still { IsStill self.old }
@@ -64,23 +96,7 @@ impl Machine {
         ensures extra { IfSome result (λ extra. self.new.extra ≡ extra) }
         ensures still { IsStill self.new }
     {
-        match basic_entry(held) {
-            Instruction::Tc => self.execute_transfer(rope, held),
-            Instruction::Ccs => Some(self.execute_as(rope, Instruction::Ccs, held, false)),
-            Instruction::Tcf => Some(self.execute_as(rope, Instruction::Tcf, held, false)),
-            Instruction::Das => Some(self.execute_as(rope, Instruction::Das, held, false)),
-            Instruction::Lxch => Some(self.execute_as(rope, Instruction::Lxch, held, false)),
-            Instruction::Incr => Some(self.execute_as(rope, Instruction::Incr, held, false)),
-            Instruction::Ads => Some(self.execute_as(rope, Instruction::Ads, held, false)),
-            Instruction::Ca => Some(self.execute_as(rope, Instruction::Ca, held, false)),
-            Instruction::Cs => Some(self.execute_as(rope, Instruction::Cs, held, false)),
-            Instruction::Dxch => Some(self.execute_as(rope, Instruction::Dxch, held, false)),
-            Instruction::Ts => Some(self.execute_as(rope, Instruction::Ts, held, false)),
-            Instruction::Xch => Some(self.execute_as(rope, Instruction::Xch, held, false)),
-            Instruction::Ad => Some(self.execute_as(rope, Instruction::Ad, held, false)),
-            Instruction::Mask => Some(self.execute_as(rope, Instruction::Mask, held, false)),
-            _ => None,
-        }
+        execute_among_basic!(self, rope, held)
     }
 
     /// The same of a word that the table has among those of TC, three of which are other instructions.
@@ -116,25 +132,7 @@ impl Machine {
         ensures still { IsStill self.new }
     {
         let word = self.word_at_z(rope).to_u16();
-        match decode(word, true) {
-            Instruction::Read => !self.execute_as(rope, Instruction::Read, word, true),
-            Instruction::Rand => !self.execute_as(rope, Instruction::Rand, word, true),
-            Instruction::Ror => !self.execute_as(rope, Instruction::Ror, word, true),
-            Instruction::Rxor => !self.execute_as(rope, Instruction::Rxor, word, true),
-            Instruction::Edrupt => !self.execute_as(rope, Instruction::Edrupt, word, true),
-            Instruction::Dv => !self.execute_as(rope, Instruction::Dv, word, true),
-            Instruction::Bzf => !self.execute_as(rope, Instruction::Bzf, word, true),
-            Instruction::Msu => !self.execute_as(rope, Instruction::Msu, word, true),
-            Instruction::Qxch => !self.execute_as(rope, Instruction::Qxch, word, true),
-            Instruction::Aug => !self.execute_as(rope, Instruction::Aug, word, true),
-            Instruction::Dim => !self.execute_as(rope, Instruction::Dim, word, true),
-            Instruction::Dca => !self.execute_as(rope, Instruction::Dca, word, true),
-            Instruction::Dcs => !self.execute_as(rope, Instruction::Dcs, word, true),
-            Instruction::Su => !self.execute_as(rope, Instruction::Su, word, true),
-            Instruction::Bzmf => !self.execute_as(rope, Instruction::Bzmf, word, true),
-            Instruction::Mp => !self.execute_as(rope, Instruction::Mp, word, true),
-            _ => false,
-        }
+        execute_among_extracodes!(self, rope, word)
     }
 
     /// The same of a word that was read.
@@ -149,25 +147,7 @@ impl Machine {
         ensures basic { result ≡ true → self.new.extra ≡ false }
         ensures still { IsStill self.new }
     {
-        match decode(held, true) {
-            Instruction::Read => !self.execute_as(rope, Instruction::Read, held, true),
-            Instruction::Rand => !self.execute_as(rope, Instruction::Rand, held, true),
-            Instruction::Ror => !self.execute_as(rope, Instruction::Ror, held, true),
-            Instruction::Rxor => !self.execute_as(rope, Instruction::Rxor, held, true),
-            Instruction::Edrupt => !self.execute_as(rope, Instruction::Edrupt, held, true),
-            Instruction::Dv => !self.execute_as(rope, Instruction::Dv, held, true),
-            Instruction::Bzf => !self.execute_as(rope, Instruction::Bzf, held, true),
-            Instruction::Msu => !self.execute_as(rope, Instruction::Msu, held, true),
-            Instruction::Qxch => !self.execute_as(rope, Instruction::Qxch, held, true),
-            Instruction::Aug => !self.execute_as(rope, Instruction::Aug, held, true),
-            Instruction::Dim => !self.execute_as(rope, Instruction::Dim, held, true),
-            Instruction::Dca => !self.execute_as(rope, Instruction::Dca, held, true),
-            Instruction::Dcs => !self.execute_as(rope, Instruction::Dcs, held, true),
-            Instruction::Su => !self.execute_as(rope, Instruction::Su, held, true),
-            Instruction::Bzmf => !self.execute_as(rope, Instruction::Bzmf, held, true),
-            Instruction::Mp => !self.execute_as(rope, Instruction::Mp, held, true),
-            _ => false,
-        }
+        execute_among_extracodes!(self, rope, held)
     }
 
     /// Executes a plain instruction, whose word stands at Z, and answers whether extracode is in force then.

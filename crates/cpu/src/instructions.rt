@@ -8,28 +8,20 @@ ghost use Rattle.cpu.specs.Effects.{dcs, index, mp, dv, msu, bzf, bzmf, relint, 
 
 use crate::address::{Addr10, before};
 use crate::bits::{and, is_whole};
-use crate::machine::{FIRST_SWITCHED, Machine};
+use crate::machine::Machine;
 use rope::Rope;
 use space::{Addr12, Eras};
 use words::{Overflow, Wide, div};
 
-// Does something with what is read at an erasable place, by its address, and stores that there again where it edits.
+// Does something with what is read at an address, and stores that there again where it edits. Most places are no
+// registers and do not edit, so these have code of their own.
 macro_rules! reading {
     ($machine:expr, $rope:expr, $address:expr, |$read:ident| $effect:block) => {{
-        let $read = $machine.reading_erasable($rope, $address);
-        $effect
-        $machine.edit(&$read);
-    }};
-}
-
-// The same of any address. In fixed memory nothing is stored again, so that this has code of its own.
-macro_rules! reading_any {
-    ($machine:expr, $rope:expr, $address:expr, |$read:ident| $effect:block) => {{
-        if $address.number() >= FIRST_SWITCHED {
-            let $read = $machine.reading_fixed($rope, $address);
+        let address = $address;
+        if let Some($read) = $machine.reading_plain($rope, address) {
             $effect
         } else {
-            let $read = $machine.reading_erasable($rope, $address);
+            let $read = $machine.reading_erasable($rope, address);
             $effect
             $machine.edit(&$read);
         }
@@ -91,7 +83,7 @@ impl Machine {
     pub(crate) fn clear_and_add(&mut self, rope: &Rope, address: Addr12)
         ensures { self.new ≡ changes self.old (ca rope.now self.old address) }
     {
-        reading_any!(self, rope, address, |read| {
+        reading!(self, rope, address, |read| {
             self.put(Eras::A, read.value);
         });
     }
@@ -102,7 +94,7 @@ impl Machine {
     pub(crate) fn clear_and_subtract(&mut self, rope: &Rope, address: Addr12)
         ensures { self.new ≡ changes self.old (cs rope.now self.old address) }
     {
-        reading_any!(self, rope, address, |operand| {
+        reading!(self, rope, address, |operand| {
             self.put(Eras::A, operand.value.neg());
         });
     }
@@ -113,7 +105,7 @@ impl Machine {
     pub(crate) fn add(&mut self, rope: &Rope, address: Addr12)
         ensures { self.new ≡ changes self.old (ad rope.now self.old address) }
     {
-        reading_any!(self, rope, address, |addend| {
+        reading!(self, rope, address, |addend| {
             let sum = self.reg(Eras::A).add(addend.value);
             self.put(Eras::A, sum);
         });
@@ -137,7 +129,7 @@ impl Machine {
     pub(crate) fn mask(&mut self, rope: &Rope, address: Addr12)
         ensures { self.new ≡ changes self.old (mask rope.now self.old address) }
     {
-        reading_any!(self, rope, address, |mask| {
+        reading!(self, rope, address, |mask| {
             let masked = and(is_whole(&mask.place), self.reg(Eras::A), mask.value);
             self.put(Eras::A, masked);
         });
@@ -176,7 +168,7 @@ impl Machine {
         ensures { self.new ≡ changes self.old (exchange self.old register place) }
     {
         let from_register = self.reg(register);
-        let from_place = self.reg(place);
+        let from_place = self.reg_at(place);
         self.put(register, from_place);
         self.put(place, from_register);
     }
@@ -238,7 +230,7 @@ impl Machine {
         ensures { self.new ≡ changes self.old (incr self.old address) }
     {
         let place = self.erasable(address);
-        let sum = self.reg(place).add(Wide::ONE);
+        let sum = self.reg_at(place).add(Wide::ONE);
         self.put(place, sum);
     }
 
@@ -316,7 +308,7 @@ impl Machine {
     pub(crate) fn index(&mut self, rope: &Rope, address: Addr12)
         ensures { self.new ≡ changes self.old (index rope.now self.old address) }
     {
-        reading_any!(self, rope, address, |increment| {
+        reading!(self, rope, address, |increment| {
             self.wait_with_sum(increment.value);
         });
     }
@@ -326,7 +318,7 @@ impl Machine {
     pub(crate) fn multiply(&mut self, rope: &Rope, address: Addr12)
         ensures { self.new ≡ changes self.old (mp rope.now self.old address) }
     {
-        reading_any!(self, rope, address, |multiplier| {
+        reading!(self, rope, address, |multiplier| {
             let product = self.word(Eras::A).mul(multiplier.value.correct());
             self.put(Eras::A, product.high.extend());
             self.put(Eras::L, product.low.extend());

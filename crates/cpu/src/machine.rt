@@ -1,6 +1,6 @@
 //! The machine, and what its parts read and keep.
 
-ghost use Rattle.std.specs.Prelude.{◌≡◌, ◌+◌, ◌<◌, ◌≤◌, ◌^◌, Some, None, true, false, []};
+ghost use Rattle.std.specs.Prelude.{◌≡◌, ◌+◌, ◌<◌, ◌≤◌, ◌^◌, Some, None, IfSome, true, false, []};
 ghost use Rattle.space.specs.Cells.{get, get_channel};
 ghost use Rattle.space.specs.Places.{IsErasable};
 ghost use Rattle.space.specs.declared.place.Linear.{Linear};
@@ -147,6 +147,26 @@ impl Machine {
         ensures { result ≡ correct (get self.now.cells place) }
     {
         self.reg(place).correct()
+    }
+
+    /// What is read at an erasable place that an address names, as most are no registers.
+    #[inline(always)]
+    pub(crate) fn reg_at(&self, place: Eras) -> Wide
+        ensures { result ≡ get self.now.cells place }
+    {
+        if place.number() > Eras::EDOP.number() {
+            self.reg(place)
+        } else {
+            self.low_reg(place)
+        }
+    }
+
+    /// The same of a place that may be a register.
+    #[inline(never)]
+    fn low_reg(&self, place: Eras) -> Wide
+        ensures { result ≡ get self.now.cells place }
+    {
+        self.reg(place)
     }
 
     /// Stores at an erasable place.
@@ -474,33 +494,71 @@ impl Machine {
         ensures value { result.value ≡ operand rope.now self.now address }
         ensures edits { edits result.place result.value ≡ [] }
     {
-        let (bank, offset) = if address.number() >= FIRST_FIXED {
-            resolve_fixed(address)
+        if address.number() >= FIRST_FIXED {
+            let (bank, offset) = resolve_fixed(address);
+            Reading {
+                place: Linear::Fixed(bank, offset),
+                value: rope.word(bank, offset).extend(),
+            }
         } else {
-            self.switched(address)
-        };
-        Reading {
-            place: Linear::Fixed(bank, offset),
-            value: rope.word(bank, offset).extend(),
+            let (bank, offset) = self.switched(address);
+            Reading {
+                place: Linear::Fixed(bank, offset),
+                value: rope.word(bank, offset).extend(),
+            }
+        }
+    }
+
+    /// The same of an address, where it leads to a place that does not edit and is no register.
+    #[inline(always)]
+    #[tactic(auto, unfolding(crate::specs::Effects::place_in, crate::specs::Effects::value_at, crate::specs::Effects::edits))]
+    pub(crate) fn reading_plain(&self, rope: &Rope, address: Addr12) -> Option<Reading>
+        ensures place { IfSome result (λ reading. reading.place ≡ place_in self.now address) }
+        ensures value { IfSome result (λ reading. reading.value ≡ operand rope.now self.now address) }
+        ensures edits { IfSome result (λ reading. edits reading.place reading.value ≡ []) }
+        ensures low { result ≡ None → address < 0o2000 }
+    {
+        if address.number() >= FIRST_SWITCHED {
+            return Some(self.reading_fixed(rope, address));
+        }
+        let place = self.erasable_at(address);
+        if place.number() > Eras::EDOP.number() {
+            let value = self.reg(place);
+            Some(Reading {
+                place: Linear::Erasable(place),
+                value,
+            })
+        } else {
+            None
         }
     }
 
     /// The same of an address that leads to an erasable place.
-    #[inline(always)]
-    #[tactic(auto, unfolding(crate::specs::Effects::place_in, crate::specs::Effects::value_at))]
+    #[inline(never)]
+    #[tactic(auto, unfolding(crate::specs::Effects::value_at))]
     pub(crate) fn reading_erasable(&self, rope: &Rope, address: Addr12) -> Reading
         requires { address < 0o2000 }
         ensures place { result.place ≡ place_in self.now address }
         ensures value { result.value ≡ operand rope.now self.now address }
     {
-        let place = if address.number() < FIRST_IN_WINDOW {
-            resolve_unbanked(address)
-        } else {
-            self.store.place_in_erasable_window(address)
-        };
+        let place = self.erasable_at(address);
         Reading {
             place: Linear::Erasable(place),
             value: self.reg(place),
+        }
+    }
+
+    /// The erasable place to which an address leads.
+    #[inline(always)]
+    #[tactic(auto, unfolding(crate::specs::Effects::place_in))]
+    fn erasable_at(&self, address: Addr12) -> Eras
+        requires { address < 0o2000 }
+        ensures { place_in self.now address ≡ Linear.Erasable result }
+    {
+        if address.number() < FIRST_IN_WINDOW {
+            resolve_unbanked(address)
+        } else {
+            self.store.place_in_erasable_window(address)
         }
     }
 

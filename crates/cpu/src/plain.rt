@@ -51,8 +51,8 @@ impl Processor {
         }
     }
 
-    /// Makes the next step, of so many quiet ones, where it executes a plain instruction, the word at Z; else leaves the
-    /// machine as it is. The meter does not count it: who makes many counts them at once.
+    /// Makes the next step, of so many quiet ones, where it executes a plain instruction, the word at Z; else leaves
+    /// the machine as it is. The meter does not count it: who makes many counts them at once.
     #[inline(always)]
     #[tactic(auto, using(crate::proofs::Quiet::quiet_next, crate::proofs::Quiet::quiet_after))]
     pub fn make_plain(&self, machine: &mut Machine, word: Word, quiet: u64) -> bool

@@ -205,31 +205,31 @@ impl Processor {
         ensures taken { machine.new.taken ≡ machine.old.taken }
         ensures none { IsSilent self.now.scenario done result }
     {
-        let mut at = done;
         if !machine.is_still() || machine.extra() {
-            return at;
+            return done;
         }
         let rope = self.rope();
         let room = silent.saturating_sub(machine.cycles()) / MOST_STEP_CYCLES;
-        let end = done + room.min(stop - done);
-        while at < end {
+        let mut left = room.min(stop - done);
+        let end = done + left;
+        while left > 0 {
             match machine.execute_basic(rope) {
-                None => return at,
+                None => return end - left,
                 Some(extra) => {
-                    at += 1;
+                    left -= 1;
                     if extra {
-                        if at == end {
-                            return at;
+                        if left == 0 {
+                            return end;
                         }
                         if !machine.execute_extracode(rope) {
-                            return at;
+                            return end - left;
                         }
-                        at += 1;
+                        left -= 1;
                     }
                 }
             }
         }
-        at
+        end
     }
 
     /// Makes one step where no input is due.

@@ -11,7 +11,8 @@ use words::Wide;
 
 impl Machine {
     /// What the computer does by itself when its checks fail or its power comes back: it goes on at 4000, with
-    /// interrupts inhibited and none asked for; what waited is forgotten and the output channels hold 0. All else stays.
+    /// interrupts inhibited and none asked for; what waited is forgotten and the output channels hold 0. All else
+    /// stays.
     #[tactic(auto, unfolding(crate::specs::Restarts::restarted))]
     pub fn restart(&mut self)
         ensures state { self.new ≡ restarted self.old }

@@ -1,5 +1,5 @@
-//! `whatif`: what an input, or a restart, would change that came at the position, or at each of some steps, or an input in
-//! the notes.
+//! `whatif`: what an input, or a restart, would change that came at the position, or at each of some steps, or an input
+//! in the notes.
 
 ghost use Rattle.std.specs.Prelude.{◌≡◌, ◌+◌, ◌-◌, ◌^◌, ◌≤◌, nat_le, true, IfOk, IfSome};
 ghost use Rattle.cpu.specs.Additions.{most_plain_inputs, plain_inputs};

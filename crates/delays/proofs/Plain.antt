@@ -13,7 +13,8 @@ use Rattle.delays.specs.Plain.{MakesStep, over_plain, plain_after, span_plain}
 use Rattle.delays.specs.Routines.{call_over, left_in, returned_in, with_call}
 use Rattle.delays.specs.ShortTests.{may_call}
 use Rattle.delays.specs.Spans.{is_closed, span_rows, wait_rows}
-use Rattle.delays.specs.Tallies.{after_in, begun_in, calls_in, Delayed, delayed_after, IsWithin, mark_in, over_in, put_down, span_in, spent_in}
+use Rattle.delays.specs.Tallies.{after_in, begun_in, calls_in, Delayed, delayed_after, IsWithin, mark_in, over_in, put_down, span_in}
+use Rattle.delays.specs.Tallies.{spent_in}
 use Rattle.delays.specs.Tallies.{wait_in}
 use Rattle.delays.proofs.Short.{none_made}
 

@@ -66,7 +66,8 @@ neither : (b c : Bool) → (b || c) ≡ false → (b ≡ false) × (c ≡ false)
 neither true c e = absurd (cc)
 neither false c e = (refl, e)
 
-none_by : (rows : List Range) (word : ℕ) → list_any is_tc_row rows ≡ false → is_tc_row (unwrap_or (find (serves word) rows) no_range) ≡ false
+none_by : (rows : List Range) (word : ℕ) → list_any is_tc_row rows ≡ false
+    → is_tc_row (unwrap_or (find (serves word) rows) no_range) ≡ false
 none_by [] word none = refl
 none_by (r ∷ rs) word none =
     let both = neither (is_tc_row r) (list_any is_tc_row rs) none in
@@ -193,7 +194,8 @@ all_before marked calls p are none =
     let d = some_call p in
     position_or_len_is (λ (c : Call). same_place p c.back) calls (length calls) d (omega arith)
     (λ k h. not_true (same_place p (get_or calls k d).back) (λ same.
-    let bad : true ≡ false = sym (are k d h) ∙ ap (λ (n : ℕ). get_or marked n false) (sym (same_low p (get_or calls k d).back same)) ∙ none in cc))
+    let bad : true ≡ false = sym (are k d h) ∙ ap (λ (n : ℕ). get_or marked n false) (sym (same_low p (get_or calls k d).back same))
+    ∙ none in cc))
     (λ h. absurd (omega (arith, h)))
 
 none_past : (calls : List Call) → slice_get calls (length calls) ≡ None

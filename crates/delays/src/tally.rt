@@ -1,6 +1,7 @@
 //! What is kept of a run, as its steps are made.
 
-ghost use Rattle.std.specs.Prelude.{◌≡◌, ◌+◌, ◌-◌, ◌<◌, ◌≤◌, ◌^◌, IfOk, IfSome, None, Some, false, true, get_or, if◌then◌else◌};
+ghost use Rattle.std.specs.Prelude.{◌≡◌, ◌+◌, ◌-◌, ◌<◌, ◌≤◌, ◌^◌, IfOk, IfSome, None, Some, false, true, get_or};
+ghost use Rattle.std.specs.Prelude.{if◌then◌else◌};
 ghost use Rattle.cover.specs.Tallies.{account_count, account_number};
 ghost use Rattle.cpu.specs.Bursts.{IsQuiet};
 ghost use Rattle.cpu.specs.Next.{next};
@@ -361,8 +362,8 @@ impl Delays {
         }
     }
 
-    /// Keeps the wait that a step ends. What few steps do stands apart from here on, so that the others have none of its
-    /// locals: a moment is of 19 numbers.
+    /// Keeps the wait that a step ends. What few steps do stands apart from here on, so that the others have none of
+    /// its locals: a moment is of 19 numbers.
     #[inline(always)]
     fn end_wait(&mut self, step: &NextStep, cycles: u64)
         requires steps { self.old.steps ≤ 2 ^ 62 }

@@ -21,7 +21,7 @@ use Rattle.faults.specs.Roles.{writes_erasable}
 use Rattle.yayul.specs.Readings.{Parts}
 use Rattle.yayul.specs.Roles.{is_operator_of, names_of_length}
 use Rattle.faults.specs.Refusals.{meaning}
-use Rattle.faults.specs.Registers.{registers}
+use Rattle.symbols.specs.Registers.{registers}
 use Rattle.faults.specs.declared.nearness.Closeness.{Closeness}
 use Rattle.faults.specs.declared.nearness.Closeness.TheVariants.{AsLong, InCapitals, Near}
 use Rattle.faults.specs.declared.told.Doubt.{Doubt}

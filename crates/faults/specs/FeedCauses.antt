@@ -1,8 +1,8 @@
 -- What is wrong with a line of a feed in words, by why one of its fields is refused.
-use Rattle.std.specs.Prelude.{ℕ, not, Bool, nat_le, List, [], ◌∷◌, length, map, is_some, unwrap_or, codes, if◌then◌else◌}
+use Rattle.std.specs.Prelude.{ℕ, not, Bool, nat_le, List, [], length, is_some, unwrap_or, codes, if◌then◌else◌}
 use Rattle.agc_text.specs.Digits.{digits_value}
 use Rattle.feed.specs.Counters.{row_of, takes}
-use Rattle.feed.specs.Names.{counters}
+use Rattle.feed.specs.Names.{input_names}
 use Rattle.feed.specs.declared.input.Counter.{Counter}
 use Rattle.feed.specs.declared.input.Sequence.TheVariants.{Dinc, Minc, Pcdu, Shinc}
 use Rattle.feed.specs.declared.slip.Why.{Why}
@@ -15,10 +15,6 @@ use Rattle.faults.specs.Warnings.{is_among}
 -- decimal digits
 abbrev pub is_decimal : List ℕ → Bool
 is_decimal text = is_some (digits_value 10 text)
-
--- what begins an input
-abbrev pub input_names : List (List ℕ)
-input_names = codes "CHAN" ∷ codes "RUPT" ∷ map (λ row. row.0) counters
 
 -- ## Why a field is wrong
 -- what stands for a cycle

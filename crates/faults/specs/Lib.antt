@@ -13,4 +13,3 @@ pub mod Joined
 pub mod FeedCauses
 pub mod FeedReport
 pub mod Kinds
-pub mod Registers

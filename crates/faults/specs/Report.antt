@@ -26,7 +26,7 @@ use Rattle.faults.specs.Interpretive.{count_before_first, first_and_others, inte
 use Rattle.faults.specs.Objects.{Place, count_object, finding_object, place_of}
 use Rattle.faults.specs.Shown.{shown_byte}
 pub use Rattle.faults.specs.Shown.{text_at}
-use Rattle.faults.specs.Warnings.{has_operator, is_among, with_field}
+use Rattle.faults.specs.Warnings.{is_among, with_field}
 use Rattle.faults.specs.declared.told.Severity.{Severity}
 use Rattle.faults.specs.declared.told.Told.{Told}
 use Rattle.faults.specs.declared.told.Warning.{Warning}

@@ -107,13 +107,23 @@ gives_two _ = false
 -- it takes no operand
 abbrev pub takes_nothing : Option Role → Bool
 takes_nothing (Some Role.Leave) = true
+takes_nothing (Some Role.Return) = true
+takes_nothing (Some Role.Resume) = true
 takes_nothing (Some Role.LeaveBank) = true
 takes_nothing (Some Role.Implied) = true
+takes_nothing (Some Role.Release) = true
+takes_nothing (Some Role.ChangeA) = true
+takes_nothing (Some Role.ChangeL) = true
+takes_nothing (Some Role.ChangeBoth) = true
+takes_nothing (Some Role.Skip) = true
+takes_nothing (Some Role.Idle) = true
 takes_nothing _ = false
 
 -- it takes a channel
 abbrev pub takes_channel : Option Role → Bool
-takes_channel (Some Role.Channel) = true
+takes_channel (Some Role.ReadChannel) = true
+takes_channel (Some Role.WriteChannel) = true
+takes_channel (Some Role.CombineChannel) = true
 takes_channel (Some Role.DownlistChannel) = true
 takes_channel _ = false
 
@@ -154,6 +164,8 @@ abbrev pub is_leaving : Option Role → Bool
 is_leaving (Some Role.Call) = true
 is_leaving (Some Role.Jump) = true
 is_leaving (Some Role.Leave) = true
+is_leaving (Some Role.Return) = true
+is_leaving (Some Role.Resume) = true
 is_leaving (Some Role.LeaveBank) = true
 is_leaving _ = false
 
@@ -165,15 +177,21 @@ sets_bank _ = false
 -- it reads a word where a number is likely meant
 abbrev pub reads : Option Role → Bool
 reads (Some Role.Read) = true
+reads (Some Role.Multiply) = true
 reads (Some Role.ReadErasable) = true
+reads (Some Role.Count) = true
+reads (Some Role.Divide) = true
 reads (Some Role.Subtract) = true
 reads _ = false
 
 -- it reads a word, an instruction as well as any
 abbrev pub reads_word : Option Role → Bool
 reads_word (Some Role.Read) = true
+reads_word (Some Role.Multiply) = true
 reads_word (Some Role.ReadFixed) = true
 reads_word (Some Role.ReadErasable) = true
+reads_word (Some Role.Count) = true
+reads_word (Some Role.Divide) = true
 reads_word (Some Role.Subtract) = true
 reads_word (Some Role.ReadPair) = true
 reads_word (Some Role.Index) = true
@@ -182,6 +200,8 @@ reads_word _ = false
 -- it reads a word of erasable memory alone
 abbrev pub reads_erasable : Option Role → Bool
 reads_erasable (Some Role.ReadErasable) = true
+reads_erasable (Some Role.Count) = true
+reads_erasable (Some Role.Divide) = true
 reads_erasable (Some Role.Subtract) = true
 reads_erasable (Some Role.ReadCounter) = true
 reads_erasable (Some Role.Index) = true
@@ -194,15 +214,22 @@ is_index _ = false
 
 -- it writes a word of erasable memory
 abbrev pub writes_erasable : Option Role → Bool
-writes_erasable (Some Role.Store) = true
+writes_erasable (Some Role.Transfer) = true
+writes_erasable (Some Role.ExchangeA) = true
+writes_erasable (Some Role.ExchangeL) = true
+writes_erasable (Some Role.ExchangeQ) = true
 writes_erasable (Some Role.StorePair) = true
 writes_erasable (Some Role.Modify) = true
+writes_erasable (Some Role.Accumulate) = true
 writes_erasable (Some Role.ModifyPair) = true
 writes_erasable _ = false
 
 -- it writes a register, and may so write Z
 abbrev pub stores : Option Role → Bool
-stores (Some Role.Store) = true
+stores (Some Role.Transfer) = true
+stores (Some Role.ExchangeA) = true
+stores (Some Role.ExchangeL) = true
+stores (Some Role.ExchangeQ) = true
 stores (Some Role.StorePair) = true
 stores _ = false
 
@@ -234,3 +261,93 @@ is_call _ = false
 abbrev pub is_jump : Option Role → Bool
 is_jump (Some Role.Jump) = true
 is_jump _ = false
+
+-- it stores A
+abbrev pub keeps_a : Option Role → Bool
+keeps_a (Some Role.Transfer) = true
+keeps_a (Some Role.ExchangeA) = true
+keeps_a (Some Role.StorePair) = true
+keeps_a _ = false
+
+-- it stores L
+abbrev pub keeps_l : Option Role → Bool
+keeps_l (Some Role.ExchangeL) = true
+keeps_l (Some Role.StorePair) = true
+keeps_l _ = false
+
+-- it stores Q
+abbrev pub keeps_q : Option Role → Bool
+keeps_q (Some Role.ExchangeQ) = true
+keeps_q _ = false
+
+-- it leaves another word in A, and stores A nowhere first
+abbrev pub changes_a : Option Role → Bool
+changes_a (Some Role.Read) = true
+changes_a (Some Role.Multiply) = true
+changes_a (Some Role.ReadFixed) = true
+changes_a (Some Role.ReadErasable) = true
+changes_a (Some Role.Count) = true
+changes_a (Some Role.Divide) = true
+changes_a (Some Role.Subtract) = true
+changes_a (Some Role.ReadCounter) = true
+changes_a (Some Role.ReadPair) = true
+changes_a (Some Role.Accumulate) = true
+changes_a (Some Role.ModifyPair) = true
+changes_a (Some Role.ReadChannel) = true
+changes_a (Some Role.CombineChannel) = true
+changes_a (Some Role.ChangeA) = true
+changes_a (Some Role.ChangeBoth) = true
+changes_a _ = false
+
+-- so too in L
+abbrev pub changes_l : Option Role → Bool
+changes_l (Some Role.Multiply) = true
+changes_l (Some Role.Divide) = true
+changes_l (Some Role.ReadPair) = true
+changes_l (Some Role.ModifyPair) = true
+changes_l (Some Role.ChangeL) = true
+changes_l (Some Role.ChangeBoth) = true
+changes_l _ = false
+
+-- it writes a channel
+abbrev pub writes_channel : Option Role → Bool
+writes_channel (Some Role.WriteChannel) = true
+writes_channel (Some Role.CombineChannel) = true
+writes_channel _ = false
+
+-- it goes on where A, L or another word says
+abbrev pub computes_way : Option Role → Bool
+computes_way (Some Role.Leave) = true
+computes_way _ = false
+
+-- RESUME
+abbrev pub resumes : Option Role → Bool
+resumes (Some Role.Resume) = true
+resumes _ = false
+
+-- RETURN and RESUME
+abbrev pub goes_back : Option Role → Bool
+goes_back (Some Role.Return) = true
+goes_back (Some Role.Resume) = true
+goes_back _ = false
+
+-- RELINT
+abbrev pub releases : Option Role → Bool
+releases (Some Role.Release) = true
+releases _ = false
+
+-- it goes on at one of four words
+abbrev pub has_four_ways : Option Role → Bool
+has_four_ways (Some Role.Count) = true
+has_four_ways _ = false
+
+-- it may skip a word where A has overflow
+abbrev pub may_skip : Option Role → Bool
+may_skip (Some Role.Transfer) = true
+may_skip (Some Role.Skip) = true
+may_skip _ = false
+
+-- NOOP
+abbrev pub is_idle : Option Role → Bool
+is_idle (Some Role.Idle) = true
+is_idle _ = false

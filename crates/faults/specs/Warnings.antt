@@ -14,9 +14,11 @@ use Rattle.yayul.specs.declared.language.Language.TheVariants.{Flight, Standard}
 use Rattle.faults.specs.Roles.{gives_two, is_call, is_constant, is_equals, is_erase, is_index, is_jump, is_leaving, is_setloc}
 use Rattle.faults.specs.Roles.{keeps_location, leads_on_to, leads_to_fixed, moves_location, names_bank, reads, reads_word, sets_bank}
 use Rattle.faults.specs.Roles.{stores, takes_pair}
+use Rattle.faults.specs.Roles.{changes_a, changes_l, computes_way, goes_back, has_four_ways, is_idle, keeps_a, keeps_l, keeps_q}
+use Rattle.faults.specs.Roles.{may_skip, releases, resumes, writes_channel}
 use Rattle.yayul.specs.Readings.{Parts, parts_for}
 use Rattle.yayul.specs.Roles.{is_operator_of}
-use Rattle.faults.specs.Registers.{registers}
+use Rattle.symbols.specs.Registers.{registers}
 use Rattle.faults.specs.declared.flow.Before.{Before}
 use Rattle.faults.specs.declared.handlers.Handlers.{Handlers}
 use Rattle.faults.specs.declared.handlers.Unkept.{Unkept}
@@ -354,16 +356,13 @@ abbrev pub unused_warnings : List (List ℕ) → ℕ → Parts → List Warning
 unused_warnings operands line parts = at_field (λ p. warned_if (is_short p.text && not (is_among operands p.text)) line 8 p) parts.label
 
 -- ## 10: a word that is written on a channel which is a register, and so does not go out
-abbrev pub output_operators : List (List ℕ)
-output_operators = codes "WRITE" ∷ codes "WAND" ∷ codes "WOR" ∷ []
-
 -- octal digits of channel 1 or 2, which are L and Q
 abbrev pub is_register_channel : List ℕ → Bool
 is_register_channel text = option_map_or (λ number. nat_le 1 number && nat_le number 2) (digits_value 8 text) false
 
 abbrev pub output_warnings : ℕ → Parts → List Warning
-output_warnings line parts = at_field (λ p. warned_if (has_alone (has_operator output_operators parts) parts && is_register_channel p.text)
-    line 10 p) parts.operand
+output_warnings line parts = at_field (λ p. warned_if (has_alone (writes_channel parts.role) parts && is_register_channel p.text) line 10 p)
+    parts.operand
 
 -- ## 11: a constant or an address at 4000, where a run starts, while an instruction stands in the source
 abbrev pub start_warnings : Bool → Option ℕ → ℕ → Parts → List Warning
@@ -378,24 +377,6 @@ none_unkept = record { a = false; l = false; q = false }
 
 abbrev pub all_unkept : Unkept
 all_unkept = record { a = true; l = true; q = true }
-
--- what stores A, and what stores L
-abbrev pub keeping_a : List (List ℕ)
-keeping_a = codes "TS" ∷ codes "XCH" ∷ codes "DXCH" ∷ []
-
-abbrev pub keeping_l : List (List ℕ)
-keeping_l = codes "LXCH" ∷ codes "DXCH" ∷ []
-
--- what leaves another word in A, and in L
-abbrev pub changing_a : List (List ℕ)
-changing_a = codes "CA" ∷ codes "CAE" ∷ codes "CAF" ∷ codes "CS" ∷ codes "AD" ∷ codes "SU" ∷ codes "MASK" ∷ codes "MSK" ∷ codes "CCS"
-    ∷ codes "MP" ∷ codes "DV" ∷ codes "MSU" ∷ codes "DCA" ∷ codes "DCS" ∷ codes "ADS" ∷ codes "DAS" ∷ codes "READ" ∷ codes "RAND"
-    ∷ codes "ROR" ∷ codes "RXOR" ∷ codes "WAND" ∷ codes "WOR" ∷ codes "COM" ∷ codes "DCOM" ∷ codes "DOUBLE" ∷ codes "DDOUBL"
-    ∷ codes "SQUARE" ∷ []
-
-abbrev pub changing_l : List (List ℕ)
-changing_l = codes "MP" ∷ codes "DV" ∷ codes "DCA" ∷ codes "DCS" ∷ codes "DAS" ∷ codes "ZL" ∷ codes "DCOM" ∷ codes "DDOUBL"
-    ∷ codes "SQUARE" ∷ []
 
 -- a register or a counter, by name or by number
 abbrev pub is_register_field : List ℕ → Bool
@@ -417,22 +398,19 @@ stores_way parts = stores parts.role && option_map_or (λ p. is_way_register p.t
 abbrev pub goes_elsewhere : Parts → Bool
 goes_elsewhere parts = is_leaving parts.role || stores_way parts
 
--- A is stored or changed; so L and Q
+-- A is stored or changed; so L
 abbrev pub closes_a : Parts → Bool
-closes_a parts = has_operator keeping_a parts || has_operator changing_a parts
+closes_a parts = keeps_a parts.role || changes_a parts.role
 
 abbrev pub closes_l : Parts → Bool
-closes_l parts = has_operator keeping_l parts || has_operator changing_l parts
-
-abbrev pub closes_q : Parts → Bool
-closes_q parts = has_operator (codes "QXCH" ∷ []) parts
+closes_l parts = keeps_l parts.role || changes_l parts.role
 
 -- what is unkept after an instruction behind which the next is reached
 abbrev pub unkept_less : Unkept → Parts → Unkept
 unkept_less unkept parts = record {
   a = unkept.a && not (closes_a parts);
   l = unkept.l && not (closes_l parts);
-  q = unkept.q && not (closes_q parts);
+  q = unkept.q && not (keeps_q parts.role);
 }
 
 -- what is unkept after a line
@@ -458,7 +436,7 @@ abbrev pub is_resume_number : List ℕ → Bool
 is_resume_number text = option_map_or (λ number. number == 0o17 || number == 0o50017) (digits_value 8 text) false
 
 abbrev pub may_resume : Parts → Bool
-may_resume parts = has_operator (codes "RESUME" ∷ []) parts || option_map_or (λ p. is_resume_number p.text) parts.operand false
+may_resume parts = resumes parts.role || option_map_or (λ p. is_resume_number p.text) parts.operand false
 
 -- what the lines so far say of routines of interrupts
 abbrev pub no_handlers : Handlers
@@ -479,9 +457,9 @@ handlers_after handlers parts = record {
   a = with_target (on_straight handlers.unkept parts).a handlers.a parts;
   l = with_target (on_straight handlers.unkept parts).l handlers.l parts;
   q = with_target (on_straight handlers.unkept parts).q handlers.q parts;
-  resumes = handlers.resumes || has_operator (codes "RESUME" ∷ []) parts;
+  resumes = handlers.resumes || resumes parts.role;
   may_resume = handlers.may_resume || may_resume parts;
-  relints = handlers.relints || has_operator (codes "RELINT" ∷ []) parts;
+  relints = handlers.relints || releases parts.role;
   vectors = handlers.vectors || sets_vector parts;
 }
 
@@ -504,8 +482,7 @@ unkept_at handlers unkept parts =
 
 -- a line changes what is unkept
 abbrev pub loses : Unkept → Parts → Bool
-loses unkept parts = (unkept.a && has_operator changing_a parts) || (unkept.l && has_operator changing_l parts)
-    || (unkept.q && calls parts)
+loses unkept parts = (unkept.a && changes_a parts.role) || (unkept.l && changes_l parts.role) || (unkept.q && calls parts)
 
 abbrev pub kept_warnings : Handlers → Unkept → ℕ → Parts → List Warning
 kept_warnings handlers unkept line parts =
@@ -566,10 +543,6 @@ again_warnings reserved line parts = at_field (λ p. warned_if (reserves_one par
 abbrev pub is_signed_text : List ℕ → Bool
 is_signed_text text = option_map_or (λ first. first == 0o53 || first == 0o55) (slice_get text 0) false
 
--- what goes on where A, L or another word says
-abbrev pub computing : List (List ℕ)
-computing = codes "XXALQ" ∷ codes "XLQ" ∷ codes "TCAA" ∷ []
-
 -- an operand that names no label: a number, a place beside the line, or a register but Q
 abbrev pub is_unnamed : List ℕ → Bool
 is_unnamed text = is_some (digits_value 8 text) || is_signed_text text
@@ -586,7 +559,7 @@ names_beyond parts = (is_constant parts.role || is_equals parts.role) && is_some
 
 -- what goes on where a register says
 abbrev pub goes_by_register : Parts → Bool
-goes_by_register parts = sets_bank parts.role || has_operator computing parts || stores_way parts
+goes_by_register parts = sets_bank parts.role || computes_way parts.role || stores_way parts
 
 -- a line may lead to a word without a label
 abbrev pub leads_unnamed : Bool → Parts → Bool
@@ -607,8 +580,8 @@ leads_of lines = fold (λ leads parts. leads_after leads parts) no_leads lines
 -- how many words behind it a line may lead to: the four ways of CCS; behind others that may skip, and routines that may, two
 abbrev pub skipping : Parts → ℕ
 skipping parts =
-    if has_operator (codes "CCS" ∷ []) parts then 4
-    else if is_call parts.role || is_index parts.role || has_operator (codes "TS" ∷ codes "OVSK" ∷ []) parts then 2
+    if has_four_ways parts.role then 4
+    else if is_call parts.role || is_index parts.role || may_skip parts.role then 2
     else 0
 
 -- how many more words may be led to so, after a line
@@ -621,7 +594,7 @@ skips_after skips parts =
 -- TCF, RETURN or RESUME stands last, after a line
 abbrev pub behind_after : Bool → Parts → Bool
 behind_after behind parts =
-    if gives_word parts then is_jump parts.role || has_operator (codes "RETURN" ∷ codes "RESUME" ∷ []) parts
+    if gives_word parts then is_jump parts.role || goes_back parts.role
     else if moves_location parts.role || is_some parts.label then false
     else behind
 
@@ -632,7 +605,7 @@ may_enter None bank = option_map_or (λ b. b == 2) bank true
 
 -- an instruction that is no part of a table of jumps, and nothing that fills room
 abbrev pub is_work : Parts → Bool
-is_work parts = is_instruction parts && not (is_jump parts.role || is_call parts.role || has_operator (codes "NOOP" ∷ []) parts)
+is_work parts = is_instruction parts && not (is_jump parts.role || is_call parts.role || is_idle parts.role)
 
 abbrev pub unreached_warnings : Bool → Before → ℕ → Parts → List Warning
 unreached_warnings unnamed before line parts =

@@ -1,7 +1,7 @@
 //! What is wrong with a line of a feed in words, by why one of its fields is refused.
 
-ghost use Rattle.std.specs.Prelude.{◌≡◌, map, is_some};
-ghost use Rattle.faults.specs.FeedCauses.{is_decimal, input_names, taken_words, slip_cause, cycle_cause, first_cause};
+ghost use Rattle.std.specs.Prelude.{◌≡◌, is_some};
+ghost use Rattle.faults.specs.FeedCauses.{is_decimal, taken_words, slip_cause, cycle_cause, first_cause};
 ghost use Rattle.faults.specs.FeedCauses.{factor_cause, name_cause, channel_cause, word_cause, request_cause};
 ghost use Rattle.faults.specs.FeedCauses.{missing_cause, surplus_cause, not_taken};
 ghost use Rattle.faults.specs.Views.{cause_in};
@@ -11,7 +11,7 @@ use crate::names::is_among;
 use crate::nearness::{is_in_capitals, near_in};
 use crate::refusals::meaning;
 use agc_text::decimal_value;
-use feed::{Counter, Sequence, Why};
+use feed::{Counter, Sequence, Why, input_names};
 
 /// The most digits of NUM, DEN and COUNT of a series.
 const FACTOR_DIGITS: usize = 9;
@@ -178,17 +178,4 @@ fn is_decimal(text: &[u8]) -> bool
     ensures { result ≡ is_decimal text.now }
 {
     decimal_value(text).is_some()
-}
-
-/// What begins an input.
-const INPUT_NAMES: [&str; 17] = [
-    "CHAN", "RUPT", "TIME1", "TIME2", "TIME3", "TIME4", "TIME5", "TIME6", "CDUX", "CDUY", "CDUZ",
-    "OPTY", "OPTX", "PIPAX", "PIPAY", "PIPAZ", "INLINK",
-];
-
-#[tactic(auto, unfolding(feed::specs::Names::counters))]
-fn input_names() -> &'static [&'static str]
-    ensures { map (λ name. name.now) result.now ≡ input_names }
-{
-    &INPUT_NAMES
 }

@@ -9,14 +9,12 @@ ghost use Rattle.faults.specs.Warnings.{is_among, is_same_known, start_warnings}
 ghost use Rattle.agc_text.specs.Digits.{digits_value};
 ghost use Rattle.agc_text.specs.Tables.{value_in};
 ghost use Rattle.agc_text.specs.Views.{piece};
-ghost use Rattle.faults.specs.Registers.{registers};
+ghost use Rattle.symbols.specs.Registers.{registers};
 ghost use Rattle.std.specs.Option.{option_map, option_map_or};
 
-use crate::causes::value_in;
 use crate::handlers::{Handlers, Unkept};
 use crate::mistakes::{has_alone, indexed_after, is_register_number, warn_if};
 use crate::names::NameSet;
-use crate::registers::registers;
 use crate::roles::{
     gives_two, is_constant, is_leaving, is_setloc, keeps_location, moves_location, stores,
 };
@@ -26,6 +24,7 @@ use crate::told::Warning;
 use crate::unreached::{behind_after, skips_after};
 use agc_text::{Field, Number, octal_value};
 use std::alloc::AllocError;
+use symbols::register_place;
 use yayul::Reading;
 
 /// How many words a vector has.
@@ -289,7 +288,7 @@ fn names_jump_place(field: Option<Field<'_>>) -> bool
 pub(crate) fn is_jump_name(text: &[u8]) -> bool
     ensures { result ≡ option_map_or is_jump_register (value_in registers text.now) false }
 {
-    match value_in(registers(), text) {
+    match register_place(text) {
         Some(place) => is_jump_register(place),
         None => false,
     }

@@ -1,28 +1,30 @@
 //! Likely mistakes in routines of interrupts: what they do not keep, that they do not end, and a program that runs over
 //! the places where they are entered.
 
-ghost use Rattle.std.specs.Prelude.{◌≡◌, ◌++◌, ◌&&◌, not, false, map, Some, OnOk};
+ghost use Rattle.std.specs.Prelude.{◌≡◌, ◌++◌, ◌&&◌, not, false, Some, OnOk};
 ghost use Rattle.std.specs.Option.{option_map, option_map_or};
 ghost use Rattle.agc_text.specs.Views.{piece};
 ghost use Rattle.yayul.specs.Readings.{parts_in};
-ghost use Rattle.faults.specs.Warnings.{all_unkept, none_unkept, keeping_a, keeping_l, changing_a, changing_l};
+ghost use Rattle.faults.specs.Warnings.{all_unkept, none_unkept};
 ghost use Rattle.faults.specs.Warnings.{is_register_field, calls, is_way_register, stores_way, goes_elsewhere};
 ghost use Rattle.faults.specs.Warnings.{unkept_after, unkept_at, unkept_less, on_straight};
-ghost use Rattle.faults.specs.Warnings.{closes_a, closes_l, closes_q};
+ghost use Rattle.faults.specs.Warnings.{closes_a, closes_l};
 ghost use Rattle.faults.specs.Warnings.{with_target, is_resume_number, may_resume, no_handlers, handlers_after};
 ghost use Rattle.faults.specs.Warnings.{has_label, loses, kept_warnings, is_begun, handler_warnings};
-ghost use Rattle.faults.specs.Warnings.{crossing_warnings, is_same_known, has_operator};
+ghost use Rattle.faults.specs.Warnings.{crossing_warnings, is_same_known};
 
-use crate::causes::value_in;
 use crate::flow::{gives_word, is_instruction, is_jump_name, sets_vector};
-use crate::mistakes::{add_field, has_alone, has_operator, is_register_number, warn_if};
+use crate::mistakes::{add_field, has_alone, is_register_number, warn_if};
 use crate::names::NameSet;
-use crate::registers::registers;
-use crate::roles::{is_call, is_leaving, keeps_location, leads_to_fixed, moves_location, stores};
+use crate::roles::{
+    changes_a, changes_l, is_call, is_leaving, keeps_a, keeps_l, keeps_location, keeps_q,
+    leads_to_fixed, moves_location, releases, resumes, stores,
+};
 use crate::switched::{BankRegister, is_bank_number};
 use crate::told::Warning;
 use agc_text::{Field, Number, octal_value};
 use std::alloc::{AllocError, Global};
+use symbols::register_place;
 use yayul::Reading;
 
 /// Of A, L and Q those that a routine of an interrupt has neither kept nor changed, on the straight way from its
@@ -94,7 +96,7 @@ impl Unkept {
         Unkept {
             a: and_not(self.a, closes_a(parts)),
             l: and_not(self.l, closes_l(parts)),
-            q: and_not(self.q, closes_q(parts)),
+            q: and_not(self.q, keeps_q(parts.role)),
         }
     }
 
@@ -102,7 +104,7 @@ impl Unkept {
     fn is_lost(self, parts: &Reading<'_>) -> bool
         ensures { result ≡ loses self (parts_in parts.now) }
     {
-        self.a && changes_a(parts) || self.l && changes_l(parts) || self.q && calls(parts)
+        self.a && changes_a(parts.role) || self.l && changes_l(parts.role) || self.q && calls(parts)
     }
 }
 
@@ -152,9 +154,9 @@ impl Handlers {
         add_target(way.a, &mut self.a, parts)?;
         add_target(way.l, &mut self.l, parts)?;
         add_target(way.q, &mut self.q, parts)?;
-        self.resumes = self.resumes || has_operator(&["RESUME"], parts);
+        self.resumes = self.resumes || resumes(parts.role);
         self.may_resume = self.may_resume || may_resume(parts);
-        self.relints = self.relints || has_operator(&["RELINT"], parts);
+        self.relints = self.relints || releases(parts.role);
         self.vectors = self.vectors || sets_vector(parts);
         self.unkept = way.after(parts);
         Ok(())
@@ -285,7 +287,7 @@ fn is_first_vector(place: Option<u32>) -> bool
 fn may_resume(parts: &Reading<'_>) -> bool
     ensures { result ≡ may_resume (parts_in parts.now) }
 {
-    has_operator(&["RESUME"], parts) || names_resume(parts.operand)
+    resumes(parts.role) || names_resume(parts.operand)
 }
 
 fn names_resume(field: Option<Field<'_>>) -> bool
@@ -317,7 +319,7 @@ fn calls(parts: &Reading<'_>) -> bool
 fn is_register_field(text: &[u8]) -> bool
     ensures { result ≡ is_register_field text.now }
 {
-    value_in(registers(), text).is_some() || is_register_number(text)
+    register_place(text).is_some() || is_register_number(text)
 }
 
 /// Whether the next word is not reached from this one, or is another than it names.
@@ -355,69 +357,12 @@ fn and_not(one: bool, other: bool) -> bool
 fn closes_a(parts: &Reading<'_>) -> bool
     ensures { result ≡ closes_a (parts_in parts.now) }
 {
-    has_operator(keeping_a(), parts) || changes_a(parts)
+    keeps_a(parts.role) || changes_a(parts.role)
 }
 
 // Whether L is.
 fn closes_l(parts: &Reading<'_>) -> bool
     ensures { result ≡ closes_l (parts_in parts.now) }
 {
-    has_operator(keeping_l(), parts) || changes_l(parts)
-}
-
-// Whether Q is stored.
-fn closes_q(parts: &Reading<'_>) -> bool
-    ensures { result ≡ closes_q (parts_in parts.now) }
-{
-    has_operator(&["QXCH"], parts)
-}
-
-fn changes_a(parts: &Reading<'_>) -> bool
-    ensures { result ≡ has_operator changing_a (parts_in parts.now) }
-{
-    has_operator(changing_a(), parts)
-}
-
-fn changes_l(parts: &Reading<'_>) -> bool
-    ensures { result ≡ has_operator changing_l (parts_in parts.now) }
-{
-    has_operator(changing_l(), parts)
-}
-
-const KEEPING_A: [&str; 3] = ["TS", "XCH", "DXCH"];
-
-fn keeping_a() -> &'static [&'static str]
-    ensures { map (λ name. name.now) result.now ≡ keeping_a }
-{
-    &KEEPING_A
-}
-
-const KEEPING_L: [&str; 2] = ["LXCH", "DXCH"];
-
-fn keeping_l() -> &'static [&'static str]
-    ensures { map (λ name. name.now) result.now ≡ keeping_l }
-{
-    &KEEPING_L
-}
-
-const CHANGING_A: [&str; 27] = [
-    "CA", "CAE", "CAF", "CS", "AD", "SU", "MASK", "MSK", "CCS", "MP", "DV", "MSU", "DCA", "DCS",
-    "ADS", "DAS", "READ", "RAND", "ROR", "RXOR", "WAND", "WOR", "COM", "DCOM", "DOUBLE", "DDOUBL",
-    "SQUARE",
-];
-
-fn changing_a() -> &'static [&'static str]
-    ensures { map (λ name. name.now) result.now ≡ changing_a }
-{
-    &CHANGING_A
-}
-
-const CHANGING_L: [&str; 9] = [
-    "MP", "DV", "DCA", "DCS", "DAS", "ZL", "DCOM", "DDOUBL", "SQUARE",
-];
-
-fn changing_l() -> &'static [&'static str]
-    ensures { map (λ name. name.now) result.now ≡ changing_l }
-{
-    &CHANGING_L
+    keeps_l(parts.role) || changes_l(parts.role)
 }

@@ -31,6 +31,7 @@ mod switched;
 mod texts;
 mod told;
 mod unreached;
+mod warning_causes;
 
 pub use cautions::warning_of;
 pub use explaining::{all_headings, explanation, warning_explanation};

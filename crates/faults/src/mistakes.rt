@@ -1,13 +1,10 @@
 //! What in a source is likely a mistake, though it is no fault.
 
-ghost use Rattle.std.specs.Prelude.{◌≡◌, ◌+◌, ◌<◌, ◌≤◌, ◌++◌, [], map, length, drop, IfOk, OnOk};
-ghost use Rattle.std.specs.List.{fold};
+ghost use Rattle.std.specs.Prelude.{◌≡◌, ◌+◌, ◌<◌, ◌≤◌, ◌++◌, map, length, drop, IfOk, OnOk};
 ghost use Rattle.std.specs.Option.{option_map};
-ghost use Rattle.agc_text.specs.Fields.{fields, label_of};
 ghost use Rattle.agc_text.specs.Views.{piece};
-ghost use Rattle.yayul.specs.Survey.{field_at, span_of};
 ghost use Rattle.yayul.specs.Readings.{parts_in};
-ghost use Rattle.faults.specs.Warnings.{is_among, has_operator, has_alone, warned_if, at_field, label_warnings};
+ghost use Rattle.faults.specs.Warnings.{is_among, has_operator, has_alone, warned_if, label_warnings};
 ghost use Rattle.faults.specs.Warnings.{is_register_number, indexed_after, number_warnings, reserves_one, with_field};
 ghost use Rattle.faults.specs.Warnings.{with_single, pair_warnings, unused_warnings, name_warnings, flow_warnings};
 ghost use Rattle.faults.specs.Warnings.{operand_warnings, erasable_warnings, fixed_warnings, with_read, banks_after};

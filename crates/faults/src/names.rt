@@ -3,8 +3,6 @@
 ghost use Rattle.std.specs.Prelude.{◌≡◌, ◌<◌, [], Some, length, map, find, slice_get, OnOk};
 ghost use Rattle.std.specs.Option.{option_map};
 ghost use Rattle.faults.specs.Causes.{near_name, is_close};
-ghost use Rattle.std.specs.List.{list_any};
-ghost use Rattle.agc_text.specs.Tables.{same_name};
 ghost use Rattle.faults.specs.Warnings.{is_among, is_short, with_name};
 
 use crate::nearness::{Closeness, SHORTEST, is_close};

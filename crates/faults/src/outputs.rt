@@ -1,10 +1,11 @@
 //! Words that are written on a channel which is a register, and so do not go out.
 
-ghost use Rattle.std.specs.Prelude.{◌≡◌, ◌++◌, map, OnOk};
-ghost use Rattle.faults.specs.Warnings.{is_register_channel, output_operators, output_warnings};
+ghost use Rattle.std.specs.Prelude.{◌≡◌, ◌++◌, OnOk};
+ghost use Rattle.faults.specs.Warnings.{is_register_channel, output_warnings};
 ghost use Rattle.yayul.specs.Readings.{parts_in};
 
-use crate::mistakes::{has_alone, has_operator, warn_if};
+use crate::mistakes::{has_alone, warn_if};
+use crate::roles::writes_channel;
 use crate::told::Warning;
 use agc_text::{Number, octal_value};
 use std::alloc::AllocError;
@@ -20,8 +21,8 @@ pub(crate) fn warn_of_output(
 {
     match parts.operand {
         Some(operand) => {
-            let writes = has_operator(output_operators(), parts);
-            let stays = has_alone(writes, parts) && is_register_channel(operand.text);
+            let stays = has_alone(writes_channel(parts.role), parts)
+                && is_register_channel(operand.text);
             warn_if(stays, line, 10, operand, found)
         }
         None => Ok(()),
@@ -33,12 +34,4 @@ fn is_register_channel(text: &[u8]) -> bool
     ensures { result ≡ is_register_channel text.now }
 {
     matches!(octal_value(text), Some(Number::Small(number)) if 1 <= number && number <= 2)
-}
-
-const OUTPUT_OPERATORS: [&str; 3] = ["WRITE", "WAND", "WOR"];
-
-fn output_operators() -> &'static [&'static str]
-    ensures { map (λ name. name.now) result.now ≡ output_operators }
-{
-    &OUTPUT_OPERATORS
 }

@@ -1,20 +1,19 @@
-//! The registers and the counters by their names, and such a name that stands for another place.
+//! A register's or a counter's name that stands for another place.
 
-ghost use Rattle.std.specs.Prelude.{◌≡◌, ◌++◌, false, map, OnOk};
+ghost use Rattle.std.specs.Prelude.{◌≡◌, ◌++◌, false, OnOk};
 ghost use Rattle.std.specs.Option.{option_map_or};
 ghost use Rattle.agc_text.specs.Tables.{value_in};
 ghost use Rattle.yayul.specs.Readings.{parts_in};
-ghost use Rattle.faults.specs.Registers.{registers};
-ghost use Rattle.faults.specs.Views.{entries};
+ghost use Rattle.symbols.specs.Registers.{registers};
 ghost use Rattle.faults.specs.Warnings.{is_same_number, is_zero, is_elsewhere, register_warnings};
 
-use crate::causes::value_in;
 use crate::mistakes::{has_alone, warn_if};
 use crate::roles::is_equals;
 use crate::standing::{is_same_known, small_number};
 use crate::told::Warning;
 use agc_text::{Number, octal_value};
 use std::alloc::AllocError;
+use symbols::register_place;
 use yayul::Reading;
 
 /// A register's name that stands for another place.
@@ -40,7 +39,7 @@ fn is_taken(place: Option<u32>, name: &[u8], parts: &Reading<'_>) -> bool
     ensures { result ≡ option_map_or (λ register. is_elsewhere place register (parts_in parts.now))
         (value_in registers name.now) false }
 {
-    match value_in(registers(), name) {
+    match register_place(name) {
         Some(register) => is_elsewhere(place, register, parts),
         None => false,
     }
@@ -73,54 +72,9 @@ fn is_same_number(a: &[u8], b: &[u8]) -> bool
     }
 }
 
-const REGISTERS: [(&str, &str); 36] = [
-    ("A", "0"),
-    ("L", "1"),
-    ("Q", "2"),
-    ("EBANK", "3"),
-    ("EB", "3"),
-    ("FBANK", "4"),
-    ("FB", "4"),
-    ("Z", "5"),
-    ("BBANK", "6"),
-    ("BB", "6"),
-    ("ZERO", "7"),
-    ("ARUPT", "10"),
-    ("LRUPT", "11"),
-    ("QRUPT", "12"),
-    ("ZRUPT", "15"),
-    ("BBRUPT", "16"),
-    ("BRUPT", "17"),
-    ("CYR", "20"),
-    ("SR", "21"),
-    ("CYL", "22"),
-    ("EDOP", "23"),
-    ("TIME2", "24"),
-    ("TIME1", "25"),
-    ("TIME3", "26"),
-    ("TIME4", "27"),
-    ("TIME5", "30"),
-    ("TIME6", "31"),
-    ("CDUX", "32"),
-    ("CDUY", "33"),
-    ("CDUZ", "34"),
-    ("OPTY", "35"),
-    ("OPTX", "36"),
-    ("PIPAX", "37"),
-    ("PIPAY", "40"),
-    ("PIPAZ", "41"),
-    ("INLINK", "45"),
-];
-
 // ZERO, which is often a constant.
 fn is_zero(text: &[u8]) -> bool
     ensures { result ≡ is_zero text.now }
 {
     text == b"ZERO".as_slice()
-}
-
-pub(crate) fn registers() -> &'static [(&'static str, &'static str)]
-    ensures { entries result.now ≡ registers }
-{
-    &REGISTERS
 }

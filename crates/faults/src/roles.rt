@@ -8,6 +8,8 @@ ghost use Rattle.faults.specs.Roles.{leads_to_fixed, moves_location, names_bank,
 ghost use Rattle.faults.specs.Roles.{refuses_label, sets_bank, stores, takes_channel, takes_decimal};
 ghost use Rattle.faults.specs.Roles.{takes_erasable_place, takes_fixed_place, takes_low_bank, takes_nothing};
 ghost use Rattle.faults.specs.Roles.{is_call, is_jump, takes_pair, writes_erasable};
+ghost use Rattle.faults.specs.Roles.{changes_a, changes_l, computes_way, goes_back, has_four_ways, is_idle, keeps_a};
+ghost use Rattle.faults.specs.Roles.{keeps_l, keeps_q, may_skip, releases, resumes, writes_channel};
 
 use yayul::Role;
 
@@ -148,14 +150,32 @@ pub(crate) fn gives_two(role: Option<Role>) -> bool
 pub(crate) fn takes_nothing(role: Option<Role>) -> bool
     ensures { result ≡ takes_nothing role }
 {
-    matches!(role, Some(Role::Leave | Role::LeaveBank | Role::Implied))
+    matches!(
+        role,
+        Some(
+            Role::Leave
+                | Role::Return
+                | Role::Resume
+                | Role::LeaveBank
+                | Role::Implied
+                | Role::Release
+                | Role::ChangeA
+                | Role::ChangeL
+                | Role::ChangeBoth
+                | Role::Skip
+                | Role::Idle
+        )
+    )
 }
 
 /// It takes a channel.
 pub(crate) fn takes_channel(role: Option<Role>) -> bool
     ensures { result ≡ takes_channel role }
 {
-    matches!(role, Some(Role::Channel | Role::DownlistChannel))
+    matches!(
+        role,
+        Some(Role::ReadChannel | Role::WriteChannel | Role::CombineChannel | Role::DownlistChannel)
+    )
 }
 
 /// It takes an erasable place.
@@ -205,7 +225,7 @@ pub(crate) fn is_leaving(role: Option<Role>) -> bool
 {
     matches!(
         role,
-        Some(Role::Call | Role::Jump | Role::Leave | Role::LeaveBank)
+        Some(Role::Call | Role::Jump | Role::Leave | Role::Return | Role::Resume | Role::LeaveBank)
     )
 }
 
@@ -220,7 +240,17 @@ pub(crate) fn sets_bank(role: Option<Role>) -> bool
 pub(crate) fn reads(role: Option<Role>) -> bool
     ensures { result ≡ reads role }
 {
-    matches!(role, Some(Role::Read | Role::ReadErasable | Role::Subtract))
+    matches!(
+        role,
+        Some(
+            Role::Read
+                | Role::Multiply
+                | Role::ReadErasable
+                | Role::Count
+                | Role::Divide
+                | Role::Subtract
+        )
+    )
 }
 
 /// It reads a word, an instruction as well as any.
@@ -231,8 +261,11 @@ pub(crate) fn reads_word(role: Option<Role>) -> bool
         role,
         Some(
             Role::Read
+                | Role::Multiply
                 | Role::ReadFixed
                 | Role::ReadErasable
+                | Role::Count
+                | Role::Divide
                 | Role::Subtract
                 | Role::ReadPair
                 | Role::Index
@@ -246,7 +279,14 @@ pub(crate) fn reads_erasable(role: Option<Role>) -> bool
 {
     matches!(
         role,
-        Some(Role::ReadErasable | Role::Subtract | Role::ReadCounter | Role::Index)
+        Some(
+            Role::ReadErasable
+                | Role::Count
+                | Role::Divide
+                | Role::Subtract
+                | Role::ReadCounter
+                | Role::Index
+        )
     )
 }
 
@@ -263,7 +303,16 @@ pub(crate) fn writes_erasable(role: Option<Role>) -> bool
 {
     matches!(
         role,
-        Some(Role::Store | Role::StorePair | Role::Modify | Role::ModifyPair)
+        Some(
+            Role::Transfer
+                | Role::ExchangeA
+                | Role::ExchangeL
+                | Role::ExchangeQ
+                | Role::StorePair
+                | Role::Modify
+                | Role::Accumulate
+                | Role::ModifyPair
+        )
     )
 }
 
@@ -271,7 +320,10 @@ pub(crate) fn writes_erasable(role: Option<Role>) -> bool
 pub(crate) fn stores(role: Option<Role>) -> bool
     ensures { result ≡ stores role }
 {
-    matches!(role, Some(Role::Store | Role::StorePair))
+    matches!(
+        role,
+        Some(Role::Transfer | Role::ExchangeA | Role::ExchangeL | Role::ExchangeQ | Role::StorePair)
+    )
 }
 
 /// It takes two words.
@@ -310,4 +362,127 @@ pub(crate) fn is_jump(role: Option<Role>) -> bool
     ensures { result ≡ is_jump role }
 {
     matches!(role, Some(Role::Jump))
+}
+
+/// It stores A.
+pub(crate) fn keeps_a(role: Option<Role>) -> bool
+    ensures { result ≡ keeps_a role }
+{
+    matches!(
+        role,
+        Some(Role::Transfer | Role::ExchangeA | Role::StorePair)
+    )
+}
+
+/// It stores L.
+pub(crate) fn keeps_l(role: Option<Role>) -> bool
+    ensures { result ≡ keeps_l role }
+{
+    matches!(role, Some(Role::ExchangeL | Role::StorePair))
+}
+
+/// It stores Q.
+pub(crate) fn keeps_q(role: Option<Role>) -> bool
+    ensures { result ≡ keeps_q role }
+{
+    matches!(role, Some(Role::ExchangeQ))
+}
+
+/// It leaves another word in A, and stores A nowhere first.
+pub(crate) fn changes_a(role: Option<Role>) -> bool
+    ensures { result ≡ changes_a role }
+{
+    matches!(
+        role,
+        Some(
+            Role::Read
+                | Role::Multiply
+                | Role::ReadFixed
+                | Role::ReadErasable
+                | Role::Count
+                | Role::Divide
+                | Role::Subtract
+                | Role::ReadCounter
+                | Role::ReadPair
+                | Role::Accumulate
+                | Role::ModifyPair
+                | Role::ReadChannel
+                | Role::CombineChannel
+                | Role::ChangeA
+                | Role::ChangeBoth
+        )
+    )
+}
+
+/// So too in L.
+pub(crate) fn changes_l(role: Option<Role>) -> bool
+    ensures { result ≡ changes_l role }
+{
+    matches!(
+        role,
+        Some(
+            Role::Multiply
+                | Role::Divide
+                | Role::ReadPair
+                | Role::ModifyPair
+                | Role::ChangeL
+                | Role::ChangeBoth
+        )
+    )
+}
+
+/// It writes a channel.
+pub(crate) fn writes_channel(role: Option<Role>) -> bool
+    ensures { result ≡ writes_channel role }
+{
+    matches!(role, Some(Role::WriteChannel | Role::CombineChannel))
+}
+
+/// It goes on where A, L or another word says.
+pub(crate) fn computes_way(role: Option<Role>) -> bool
+    ensures { result ≡ computes_way role }
+{
+    matches!(role, Some(Role::Leave))
+}
+
+/// RESUME.
+pub(crate) fn resumes(role: Option<Role>) -> bool
+    ensures { result ≡ resumes role }
+{
+    matches!(role, Some(Role::Resume))
+}
+
+/// RETURN and RESUME.
+pub(crate) fn goes_back(role: Option<Role>) -> bool
+    ensures { result ≡ goes_back role }
+{
+    matches!(role, Some(Role::Return | Role::Resume))
+}
+
+/// RELINT.
+pub(crate) fn releases(role: Option<Role>) -> bool
+    ensures { result ≡ releases role }
+{
+    matches!(role, Some(Role::Release))
+}
+
+/// It goes on at one of four words.
+pub(crate) fn has_four_ways(role: Option<Role>) -> bool
+    ensures { result ≡ has_four_ways role }
+{
+    matches!(role, Some(Role::Count))
+}
+
+/// It may skip a word where A has overflow.
+pub(crate) fn may_skip(role: Option<Role>) -> bool
+    ensures { result ≡ may_skip role }
+{
+    matches!(role, Some(Role::Transfer | Role::Skip))
+}
+
+/// NOOP.
+pub(crate) fn is_idle(role: Option<Role>) -> bool
+    ensures { result ≡ is_idle role }
+{
+    matches!(role, Some(Role::Idle))
 }

@@ -1,6 +1,6 @@
 //! Where a line stands, as far as the fields of the lines before it tell.
 
-ghost use Rattle.std.specs.Prelude.{◌≡◌, ◌||◌, map, option_and_then};
+ghost use Rattle.std.specs.Prelude.{◌≡◌, ◌||◌};
 ghost use Rattle.std.specs.Option.{option_map};
 ghost use Rattle.agc_text.specs.Views.{piece};
 ghost use Rattle.yayul.specs.Readings.{parts_in};

@@ -10,10 +10,11 @@ ghost use Rattle.faults.specs.Views.{cause_in, place_in};
 ghost use Rattle.faults.specs.Report.{margin_byte, numbered, shown_part, row_text, marks_text, place_text, kind_text};
 ghost use Rattle.faults.specs.Report.{caused_text, message_text, cure_text, error_text, told_in, warning_text};
 
-use crate::causes::{Cause, caution_cause, text_of};
+use crate::causes::{Cause, text_of};
 use crate::flight_causes::told_cause;
 use crate::objects::{Place, push_object};
 use crate::told::{Severity, Told, Warning};
+use crate::warning_causes::caution_cause;
 use agc_text::is_text;
 use arrayvec::ArrayVec;
 use json_text::Notation;

@@ -1,26 +1,26 @@
 //! Words behind a jump, to which nothing leads.
 
-ghost use Rattle.std.specs.Prelude.{◌≡◌, ◌++◌, not, codes, false, map, OnOk};
+ghost use Rattle.std.specs.Prelude.{◌≡◌, ◌++◌, not, codes, false, OnOk};
 ghost use Rattle.std.specs.Option.{option_map, option_map_or};
 ghost use Rattle.agc_text.specs.Tables.{same_name, value_in};
 ghost use Rattle.agc_text.specs.Views.{piece};
 ghost use Rattle.yayul.specs.Readings.{parts_in};
-ghost use Rattle.faults.specs.Registers.{registers};
-ghost use Rattle.faults.specs.Warnings.{is_signed_text, is_unnamed, computing, leads_unnamed, no_leads, leads_after};
+ghost use Rattle.symbols.specs.Registers.{registers};
+ghost use Rattle.faults.specs.Warnings.{is_signed_text, is_unnamed, leads_unnamed, no_leads, leads_after};
 ghost use Rattle.faults.specs.Warnings.{jumps_unnamed, names_beyond, goes_by_register};
 ghost use Rattle.faults.specs.Warnings.{skipping, skips_after, behind_after, may_enter, is_work, unreached_warnings};
 
-use crate::causes::value_in;
 use crate::flow::{Before, gives_word, is_instruction, is_vector_place};
 use crate::handlers::stores_way;
-use crate::mistakes::{has_operator, indexed_after, warn_if};
-use crate::registers::registers;
+use crate::mistakes::{indexed_after, warn_if};
 use crate::roles::{
-    is_call, is_constant, is_equals, is_index, is_jump, leads_on_to, moves_location, sets_bank,
+    computes_way, goes_back, has_four_ways, is_call, is_constant, is_equals, is_idle, is_index,
+    is_jump, leads_on_to, may_skip, moves_location, sets_bank,
 };
 use crate::told::Warning;
 use agc_text::{Field, octal_value};
 use std::alloc::AllocError;
+use symbols::register_place;
 use yayul::Reading;
 
 /// What the lines say of where jumps lead.
@@ -79,15 +79,7 @@ fn names_beyond(parts: &Reading<'_>) -> bool
 fn goes_by_register(parts: &Reading<'_>) -> bool
     ensures { result ≡ goes_by_register (parts_in parts.now) }
 {
-    sets_bank(parts.role) || has_operator(computing(), parts) || stores_way(parts)
-}
-
-const COMPUTING: [&str; 3] = ["XXALQ", "XLQ", "TCAA"];
-
-fn computing() -> &'static [&'static str]
-    ensures { map (λ name. name.now) result.now ≡ computing }
-{
-    &COMPUTING
+    sets_bank(parts.role) || computes_way(parts.role) || stores_way(parts)
 }
 
 // Whether a field stands, and names no label.
@@ -118,7 +110,7 @@ fn is_signed(text: &[u8]) -> bool
 fn is_other_register(text: &[u8]) -> bool
     ensures { result ≡ option_map_or (λ place. not (same_name place (codes "2"))) (value_in registers text.now) false }
 {
-    match value_in(registers(), text) {
+    match register_place(text) {
         Some(place) => place != b"2".as_slice(),
         None => false,
     }
@@ -128,9 +120,9 @@ fn is_other_register(text: &[u8]) -> bool
 fn skipping(parts: &Reading<'_>) -> u8
     ensures { result ≡ skipping (parts_in parts.now) }
 {
-    if has_operator(&["CCS"], parts) {
+    if has_four_ways(parts.role) {
         4
-    } else if is_call(parts.role) || is_index(parts.role) || has_operator(&["TS", "OVSK"], parts) {
+    } else if is_call(parts.role) || is_index(parts.role) || may_skip(parts.role) {
         2
     } else {
         0
@@ -154,7 +146,7 @@ pub(crate) fn behind_after(behind: bool, parts: &Reading<'_>) -> bool
     ensures { result ≡ behind_after behind (parts_in parts.now) }
 {
     if gives_word(parts) {
-        is_jump(parts.role) || has_operator(&["RETURN", "RESUME"], parts)
+        is_jump(parts.role) || goes_back(parts.role)
     } else if moves_location(parts.role) || parts.label.is_some() {
         false
     } else {
@@ -177,8 +169,7 @@ fn may_enter(place: Option<u32>, bank: Option<u32>) -> bool
 fn is_work(parts: &Reading<'_>) -> bool
     ensures { result ≡ is_work (parts_in parts.now) }
 {
-    is_instruction(parts)
-        && !(is_jump(parts.role) || is_call(parts.role) || has_operator(&["NOOP"], parts))
+    is_instruction(parts) && !(is_jump(parts.role) || is_call(parts.role) || is_idle(parts.role))
 }
 
 /// A word behind a jump, to which nothing leads.

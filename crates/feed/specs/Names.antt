@@ -23,3 +23,7 @@ sequences =
     ∷ (codes "SHINC", Shinc)
     ∷ (codes "SHANC", Shanc)
     ∷ []
+
+-- what begins an input behind its cycle
+abbrev pub input_names : List (List ℕ)
+input_names = codes "CHAN" ∷ codes "RUPT" ∷ map (λ row. row.0) counters

@@ -23,7 +23,7 @@ pub use input::{Counter, Input, Sequence};
 pub use interrupt::{INTERRUPTS, Interrupt};
 pub use list::{AddFault, Feed};
 pub use merge::MOST_SERIES;
-pub use names::counter_of;
+pub use names::{counter_of, input_names};
 pub use reading::read;
 pub use slip::{Slip, Why, is_cycle, line_slip};
 pub use statement::{long_input, parse_line, short_input, word_in};

@@ -1,8 +1,8 @@
 //! The names of counters and of their sequences.
 
-ghost use Rattle.std.specs.Prelude.{◌≡◌};
+ghost use Rattle.std.specs.Prelude.{◌≡◌, map};
 ghost use Rattle.agc_text.specs.Tables.{value_in, named};
-ghost use Rattle.feed.specs.Names.{by_name, counters, sequences};
+ghost use Rattle.feed.specs.Names.{by_name, counters, input_names, sequences};
 
 use crate::input::{Counter, Sequence};
 
@@ -35,6 +35,20 @@ const SEQUENCES: [(&str, Sequence); 7] = [
     ("SHINC", Sequence::Shinc),
     ("SHANC", Sequence::Shanc),
 ];
+
+/// What begins an input behind its cycle.
+const INPUT_NAMES: [&str; 17] = [
+    "CHAN", "RUPT", "TIME1", "TIME2", "TIME3", "TIME4", "TIME5", "TIME6", "CDUX", "CDUY", "CDUZ",
+    "OPTY", "OPTX", "PIPAX", "PIPAY", "PIPAZ", "INLINK",
+];
+
+/// What begins an input behind its cycle: CHAN, RUPT and the names of the counters.
+#[tactic(auto, unfolding(crate::specs::Names::counters))]
+pub fn input_names() -> &'static [&'static str]
+    ensures { map (λ name. name.now) result.now ≡ input_names }
+{
+    &INPUT_NAMES
+}
 
 /// The counter of a name.
 #[tactic(auto, unfolding(crate::specs::Names::counters))]

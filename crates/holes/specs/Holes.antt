@@ -1,6 +1,6 @@
 -- The places of lines of the interpretive language: those whose words differ with the word that is put in place of such lines; and
 -- their words of another fixed memory.
-use Rattle.std.specs.Prelude.{◌≡◌, ℕ, zero, suc, ◌==◌, ◌&&◌, ◌⊎◌, not, Bool, List, ◌++◌, length, decimal, codes}
+use Rattle.std.specs.Prelude.{◌≡◌, ℕ, zero, suc, ◌==◌, ◌&&◌, ◌⊎◌, not, Bool, true, false, List, ◌++◌, length, decimal, codes}
 use Rattle.std.specs.Prelude.{Result, Ok, Err, if◌then◌else◌}
 use Rattle.std.specs.List.{flat_map}
 use Rattle.rope.specs.Places.{banks, bank_words, Words, stands, with_word, word_at}
@@ -16,6 +16,11 @@ use Rattle.holes.specs.HoleLines.{source_with_holes}
 -- the program of a source with a word in place of each line of the interpretive language, or its least fault
 abbrev pub program_with : List ℕ → List ℕ → Result Program Fault
 program_with word source = program Flight (source_with_holes word source)
+
+-- the same where lines of the interpretive language are holes, and else the program of the source as it stands
+abbrev pub program_as : Bool → List ℕ → List ℕ → Result Program Fault
+program_as true word source = program_with word source
+program_as false word source = program Flight source
 
 -- a program with 0 in its holes, and fixed memory with 1 in them; or the least fault of either, unless memory ran out
 abbrev pub GivesHoles : Result Program Fault → Result Program Fault → Result (Program × Words) Fault → Type 0

@@ -12,4 +12,4 @@ mod source;
 
 pub use filling::filled;
 pub use hole_rows::write_holes;
-pub use program::assemble_with_holes;
+pub use program::{assemble_as, assemble_with_holes};

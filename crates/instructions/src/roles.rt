@@ -18,7 +18,22 @@ fn is_jump(role: Option<Role>) -> bool
 {
     matches!(
         role,
-        Some(Role::Call | Role::Jump | Role::Branch | Role::Leave | Role::LeaveBank | Role::Implied)
+        Some(
+            Role::Call
+                | Role::Jump
+                | Role::Branch
+                | Role::Leave
+                | Role::Return
+                | Role::Resume
+                | Role::LeaveBank
+                | Role::Implied
+                | Role::Release
+                | Role::ChangeA
+                | Role::ChangeL
+                | Role::ChangeBoth
+                | Role::Skip
+                | Role::Idle
+        )
     )
 }
 
@@ -30,8 +45,11 @@ fn is_reading(role: Option<Role>) -> bool
         role,
         Some(
             Role::Read
+                | Role::Multiply
                 | Role::ReadFixed
                 | Role::ReadErasable
+                | Role::Count
+                | Role::Divide
                 | Role::Subtract
                 | Role::ReadCounter
                 | Role::ReadPair
@@ -46,6 +64,18 @@ fn is_writing(role: Option<Role>) -> bool
 {
     matches!(
         role,
-        Some(Role::Store | Role::StorePair | Role::Modify | Role::ModifyPair | Role::Channel)
+        Some(
+            Role::Transfer
+                | Role::ExchangeA
+                | Role::ExchangeL
+                | Role::ExchangeQ
+                | Role::StorePair
+                | Role::Modify
+                | Role::Accumulate
+                | Role::ModifyPair
+                | Role::ReadChannel
+                | Role::WriteChannel
+                | Role::CombineChannel
+        )
     )
 }

@@ -6,12 +6,13 @@ use Rattle.std.specs.Option.{option_map, option_or}
 use Rattle.words.specs.Numerals.{octal_text}
 use Rattle.space.specs.declared.place.Linear.{Linear}
 use Rattle.space.specs.declared.place.Linear.TheVariants.{Erasable, Fixed}
-use Rattle.rope.specs.Places.{banks, bank_words, Words, word_at}
+use Rattle.rope.specs.Places.{bank_words, Words, word_at}
 use Rattle.symbols.specs.Values.{SymbolTable}
 use Rattle.yayul.specs.Listing.{place_text}
 use Rattle.cpu.specs.Codes.{Code, row_of, code_of}
 use Rattle.cpu.specs.Operands.{address_of}
 use Rattle.cpu.specs.Texts.{instruction_text}
+use Rattle.audit.specs.ByBank.{by_bank}
 use Rattle.audit.specs.WordLines.{extracode_at}
 use Rattle.trace.specs.TraceLines.{place_name, short_octal, symbol_at}
 
@@ -86,5 +87,4 @@ named_bank_lines names words bank = flat_map (named_line names words bank) (rang
 
 -- the lines of one bank, or of all by their numbers
 abbrev pub named_lines : SymbolTable → Words → Option ℕ → List ℕ
-named_lines names words None = flat_map (named_bank_lines names words) (range_with_len 0 banks)
-named_lines names words (Some bank) = named_bank_lines names words bank
+named_lines names words bank = by_bank (named_bank_lines names words) bank

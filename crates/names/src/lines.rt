@@ -1,19 +1,17 @@
 //! The words of fixed memory with names, a line for each.
 
 ghost use Rattle.std.specs.Prelude.{◌≡◌, ◌+◌, ◌<◌, ◌≤◌, ◌++◌, true};
-ghost use Rattle.std.specs.List.{range_with_len, flat_map};
 ghost use Rattle.arrayvec.specs.ArrayVec.{array_vec_len};
 ghost use Rattle.words.specs.Devices.{Writes, failures_after};
-ghost use Rattle.rope.specs.Places.{banks};
 ghost use Rattle.audit.specs.WordLines.{extracode_at};
 ghost use Rattle.names.specs.NamedLines.{named_bank_lines, named_instruction, named_line, named_lines};
 
 use crate::near::push_address;
 use arrayvec::ArrayVec;
-use audit::{bank_of, offset_of};
+use audit::{BankText, offset_of, write_by_bank};
 use cpu::{disassemble, extracode_after, instruction_name, named_address};
 use rope::Rope;
-use space::{BANK_WORDS, Bank, FIXED_BANKS, Linear, Offset};
+use space::{BANK_WORDS, Bank, Linear, Offset};
 use trace::{Names, PlaceNames, place_text};
 use words::{Write, WriteFailed, push_all, push_octal, write_all};
 
@@ -38,40 +36,35 @@ pub fn write_named_words<W: Write>(
         (named_lines names.now rope.now bank) result }
     ensures failures { W.failures out.new ≡ failures_after (W.failures out.old) result }
 {
-    match bank {
-        Some(bank) => write_bank(rope, names, bank, out),
-        None => write_banks(rope, names, out),
-    }
+    write_by_bank(&NamedTexts { names }, rope, bank, out)
 }
 
-fn write_banks<W: Write>(rope: &Rope, names: &PlaceNames, out: &mut W) -> Result<(), WriteFailed>
-    ensures written { W.told ≡ true → Writes (W.written out.old) (W.written out.new)
-        (flat_map (named_bank_lines names.now rope.now) (range_with_len 0 banks)) result }
-    ensures failures { W.failures out.new ≡ failures_after (W.failures out.old) result }
-{
-    for bank in 0..FIXED_BANKS {
-        write_bank(rope, names, bank_of(bank), out)?;
-    }
-    Ok(())
+/// The lines of the words of a bank, with names.
+#[derive(Drop)]
+struct NamedTexts<'a> {
+    names: &'a PlaceNames,
 }
 
-fn write_bank<W: Write>(
-    rope: &Rope,
-    names: &PlaceNames,
-    bank: Bank,
-    out: &mut W,
-) -> Result<(), WriteFailed>
-    ensures written { W.told ≡ true → Writes (W.written out.old) (W.written out.new)
-        (named_bank_lines names.now rope.now bank) result }
-    ensures failures { W.failures out.new ≡ failures_after (W.failures out.old) result }
-{
-    let mut extra = false;
-    for number in 0..BANK_WORDS {
-        let offset = offset_of(number);
-        write_all(out, named_line(rope, names, bank, offset, extra).as_slice())?;
-        extra = extracode_after(rope.word(bank, offset), extra);
+impl<'a> BankText for NamedTexts<'a> {
+    ghost text = { λ texts words bank. named_bank_lines texts.names.now words bank };
+
+    fn write_bank<W: Write>(
+        &self,
+        rope: &Rope,
+        bank: Bank,
+        out: &mut W,
+    ) -> Result<(), WriteFailed> {
+        let mut extra = false;
+        for number in 0..BANK_WORDS {
+            let offset = offset_of(number);
+            write_all(
+                out,
+                named_line(rope, self.names, bank, offset, extra).as_slice(),
+            )?;
+            extra = extracode_after(rope.word(bank, offset), extra);
+        }
+        Ok(())
     }
-    Ok(())
 }
 
 /// The line of a word.

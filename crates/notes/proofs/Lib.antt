@@ -6,6 +6,7 @@ mod Exact
 mod FirstSteps
 pub mod Listing
 pub mod LongWaits
+pub mod Plain
 pub mod Quietly
 mod OneKind
 mod Rows

@@ -11,13 +11,14 @@ use Rattle.notes.specs.declared.kind.Kind.TheVariants.{Overwritten, Shared, Fixe
 use Rattle.notes.specs.declared.noted.Note.{Note}
 use Rattle.notes.specs.Notes.{is_quiet_step}
 use Rattle.notes.specs.Noted.{Noted, kind_noted, noted_by, noted_more, spot_of, step_notes, with_kind}
-use Rattle.notes.proofs.Counting.{quiet_past, step_none}
+use Rattle.notes.proofs.Plain.{quiet_past, step_none}
 
 -- a kind that does not happen adds nothing
 kind_none : (named : Named) (rope : Words) (s : State) (step : NextStep) (a : Noted) → is_quiet_step named rope s a.past step ≡ true
     → (kind : Kind) (notes : List Note) → kind_noted named rope s step a kind notes ≡ notes
 unfolding kind_noted
-kind_none named rope s step a quiet kind notes = ap (λ b. with_kind notes kind (spot_of step) b) (step_none named rope s step a.past quiet kind)
+kind_none named rope s step a quiet kind notes = ap (λ b. with_kind notes kind (spot_of step) b)
+    (step_none named rope s step a.past quiet kind)
 
 notes_stay : (named : Named) (rope : Words) (s : State) (step : NextStep) (a : Noted) → is_quiet_step named rope s a.past step ≡ true
     → step_notes named rope s step a ≡ a.notes
@@ -42,4 +43,5 @@ pub quiet_is_noted : (named : Named) (scenario : Scenario) (s : State) (step : N
 quiet_is_noted named scenario s step a was quiet =
     let e : is_quiet_step named scenario.rope s a.past (next_step scenario s) ≡ true = rw was at quiet in
     ap (λ p. record { past = p; notes = a.notes }) (quiet_past named scenario.rope s (next_step scenario s) a.past e)
-    ∙ ap (λ n. record { past = (noted_more named scenario s a).past; notes = n }) (sym (notes_stay named scenario.rope s (next_step scenario s) a e))
+    ∙ ap (λ n. record { past = (noted_more named scenario s a).past; notes = n })
+    (sym (notes_stay named scenario.rope s (next_step scenario s) a e))

@@ -4,4 +4,5 @@ pub mod Unread
 pub mod RunNotes
 pub mod Waits
 pub mod Counted
+pub mod Reached
 pub mod Noted

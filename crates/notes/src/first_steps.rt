@@ -42,6 +42,7 @@ pub(crate) const NO_FIRSTS: Firsts = Firsts {
 
 impl Firsts {
     /// Whether some do.
+    #[inline(always)]
     pub(crate) fn has_some(&self) -> bool
         ensures { result ≡ some_first self.now }
     {
@@ -94,6 +95,7 @@ impl FirstSteps {
     }
 
     /// Lists a step of some kinds, where there are any.
+    #[inline(always)]
     pub(crate) fn list(&mut self, kinds: Firsts, number: u64)
         ensures { Lists kinds number self.old self.new }
     {
@@ -103,6 +105,7 @@ impl FirstSteps {
     }
 
     /// Adds a step behind all others, where there is room.
+    #[inline(never)]
     fn add(&mut self, step: FirstStep)
         ensures { AddsFirst step self.old self.new }
     {

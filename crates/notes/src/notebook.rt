@@ -1,23 +1,31 @@
 //! How often each kind has happened, by where.
 
-ghost use Rattle.std.specs.Prelude.{◌≡◌, ◌<◌, ◌≤◌, ◌^◌, IfOk, if◌then◌else◌, true};
+ghost use Rattle.std.specs.Prelude.{◌≡◌, ◌+◌, ◌-◌, ◌<◌, ◌≤◌, ◌^◌, IfOk, None, if◌then◌else◌, false, true};
+ghost use Rattle.cpu.specs.declared.account.Account.TheVariants.{Place};
+ghost use Rattle.cpu.specs.declared.next_step.NextStep.TheVariants.{Executes};
+ghost use Rattle.cpu.specs.Bursts.{IsQuiet};
+ghost use Rattle.cpu.specs.Next.{next};
 ghost use Rattle.cpu.specs.NextStep.{next_step};
+ghost use Rattle.cpu.specs.Run.{run};
+ghost use Rattle.cpu.specs.Silent.{IsSilent};
 ghost use Rattle.cpu.specs.State.{FitsRun, Scenario};
-ghost use Rattle.cover.specs.Tallies.{account_count};
+ghost use Rattle.cover.specs.Tallies.{account_count, account_number};
 ghost use Rattle.notes.specs.Counted.{AreSmall, Counted, Notes, Takes, counts_of, first_of, rewound, taken, taken_at};
 ghost use Rattle.notes.specs.Counted.{told_of};
-ghost use Rattle.notes.specs.Notes.{is_plain_step, reaches_in};
+ghost use Rattle.notes.specs.Notes.{is_erasable, is_plain, is_plain_step, place_named, reaches_in};
+ghost use Rattle.notes.specs.Reached.{CountsPlain};
 
 use crate::first_steps::{FirstSteps, Firsts, NO_FIRSTS};
 use crate::kind::Kind;
 use crate::ledger::Ledger;
-use crate::other_bank::names_erasable_in;
+use crate::other_bank::{names_erasable, names_erasable_in, reaches_other};
 use crate::past::Past;
-use crate::quiet::{is_plain_step, plain_step, reaches_in};
+use crate::quiet::{is_plain, is_plain_step, plain_fetched, reaches_in};
 use crate::step::{account_of, happens};
 use crate::waits::Waits;
 use cover::number_of;
-use cpu::{Machine, NextStep, Processor};
+use cpu::{Account, Fetched, Machine, NextStep, Processor};
+use space::Linear;
 use std::alloc::{AllocError, Global};
 use std::marker::Model;
 use yayul::NamedPlaces;
@@ -127,8 +135,8 @@ impl Notebook {
         requires small { AreSmall self.old }
         ensures { Notes processor.now.scenario machine.now self.old self.new }
     {
-        match plain_step(processor, machine, &self.past) {
-            Some(step) => self.note_plain(processor, machine, &step),
+        match plain_fetched(processor, machine, &self.past) {
+            Some(fetched) => self.note_plain(processor, machine, &fetched),
             None => self.note_other(processor, machine),
         }
     }
@@ -142,39 +150,49 @@ impl Notebook {
         ensures { Notes processor.now.scenario machine.now self.old self.new }
     {
         let step = processor.next_step(machine);
-        if is_plain_step(processor, machine, &self.past, &step) {
-            self.note_plain(processor, machine, &step);
-        } else {
-            self.note_step(processor, machine, &step);
+        match step {
+            NextStep::Executes(fetched) if is_plain(processor, machine, &self.past, &fetched) => {
+                self.note_plain(processor, machine, &fetched)
+            }
+            _ => self.note_step(processor, machine, &step),
         }
     }
 
     /// Notes what happens in the next step, where that is nothing but that another bank is reached.
     #[inline(always)]
-    fn note_plain(&mut self, processor: &Processor, machine: &Machine, step: &NextStep)
-        requires step { step.now ≡ next_step processor.now.scenario machine.now }
-        requires plain { is_plain_step processor.now.scenario.rope machine.now self.old.past step.now ≡ true }
+    fn note_plain(&mut self, processor: &Processor, machine: &Machine, fetched: &Fetched)
+        requires step { Executes fetched.now ≡ next_step processor.now.scenario machine.now }
+        requires plain { is_plain processor.now.scenario.rope machine.now self.old.past fetched.now ≡ true }
         requires small { AreSmall self.old }
         ensures { Notes processor.now.scenario machine.now self.old self.new }
     {
-        if reaches_in(&self.named, machine, step) {
-            self.note_reach(processor, machine, *step);
+        let _ = processor;
+        let reaches = reaches_other(&self.named, machine, fetched);
+        self.count_plain(fetched.place, reaches);
+    }
+
+    /// Counts a step at a place, of which nothing is told but, it may be, that it reaches another bank.
+    #[inline(always)]
+    fn count_plain(&mut self, place: Linear, reaches: bool)
+        requires small { AreSmall self.old }
+        ensures { CountsPlain (account_number (Place place)) reaches
+            (is_erasable (place_named self.old.named place)) self.old self.new }
+    {
+        if reaches {
+            self.count_reach(place);
         } else {
             self.steps += 1;
         }
     }
 
-    /// Notes that the next step reaches another bank, where nothing else happens there.
-    fn note_reach(&mut self, processor: &Processor, machine: &Machine, step: NextStep)
-        requires step { step ≡ next_step processor.now.scenario machine.now }
-        requires plain { is_plain_step processor.now.scenario.rope machine.now self.old.past step ≡ true }
-        requires reaches { reaches_in self.old.named machine.now step ≡ true }
+    /// Counts a step at a place that reaches another bank.
+    fn count_reach(&mut self, place: Linear)
         requires small { AreSmall self.old }
-        ensures { Notes processor.now.scenario machine.now self.old self.new }
+        ensures { CountsPlain (account_number (Place place)) true
+            (is_erasable (place_named self.old.named place)) self.old self.new }
     {
-        let (_processor, _machine) = (processor, machine);
-        let number = number_of(account_of(&step));
-        let is_erasable = names_erasable_in(&self.named, &step);
+        let number = number_of(Account::Place(place));
+        let is_erasable = names_erasable(&self.named, &place);
         let first_other_bank = self.other_banks.count(number, is_erasable);
         let first_fixed_bank = self.fixed_banks.count(number, !is_erasable);
         let kinds = Firsts {
@@ -186,6 +204,95 @@ impl Notebook {
         let is_first = kinds.has_some();
         self.last = latest(is_first, self.steps, self.last);
         self.firsts.list(kinds, self.steps);
+    }
+
+    /// Makes more steps of a run of which some are done, and notes them, as long as they are plain ones that come one
+    /// after another, of which nothing is told but that another bank is reached. They put nothing out. Answers how many
+    /// the run has made then.
+    pub fn note_plain_steps(
+        &mut self,
+        processor: &mut Processor,
+        machine: &mut Machine,
+        done: u64,
+        stop: u64,
+    ) -> u64
+        requires within { done ≤ stop }
+        requires few { stop ≤ 2 ^ 40 }
+        requires state { machine.old ≡ run processor.old.scenario done }
+        requires counted { Counted self.old.named processor.old.scenario done self.old }
+        ensures past { done ≤ result }
+        ensures within { result ≤ stop }
+        ensures scenario { processor.new.scenario ≡ processor.old.scenario }
+        ensures meter { processor.new.meter + done ≤ processor.old.meter + result }
+        ensures state { machine.new ≡ run processor.old.scenario result }
+        ensures silent { IsSilent processor.old.scenario done result }
+        ensures counted { Counted self.old.named processor.old.scenario result self.new }
+    {
+        match processor.quiet_steps(machine) {
+            Some(room) => {
+                let end = done + room.min(stop - done);
+                let at = self.note_quiet_steps(processor, machine, done, end);
+                processor.count(at - done);
+                at
+            }
+            None => done,
+        }
+    }
+
+    /// The same up to a step before which all are quiet.
+    #[inline(always)]
+    fn note_quiet_steps(
+        &mut self,
+        processor: &Processor,
+        machine: &mut Machine,
+        done: u64,
+        end: u64,
+    ) -> u64
+        requires within { done ≤ end }
+        requires few { end ≤ 2 ^ 40 }
+        requires quiet { IsQuiet processor.now.scenario machine.old (end - done) }
+        requires state { machine.old ≡ run processor.now.scenario done }
+        requires counted { Counted self.old.named processor.now.scenario done self.old }
+        ensures past { done ≤ result }
+        ensures within { result ≤ end }
+        ensures state { machine.new ≡ run processor.now.scenario result }
+        ensures silent { IsSilent processor.now.scenario done result }
+        ensures counted { Counted self.old.named processor.now.scenario result self.new }
+    {
+        let mut at = done;
+        while at < end {
+            if !self.make_plain(processor, machine, end - at) {
+                return at;
+            }
+            at += 1;
+        }
+        at
+    }
+
+    /// Makes the next step, of so many quiet ones, and notes it, where it is plain, and nothing is told of it but that
+    /// another bank is reached; else leaves all as it is.
+    #[inline(always)]
+    fn make_plain(&mut self, processor: &Processor, machine: &mut Machine, quiet: u64) -> bool
+        requires quiet { IsQuiet processor.now.scenario machine.old quiet }
+        requires some { 1 ≤ quiet }
+        requires cycles { machine.old.cycles ≤ 2 ^ 62 }
+        requires small { AreSmall self.old }
+        ensures left { result ≡ false → machine.new ≡ machine.old }
+        ensures same { result ≡ false → self.new ≡ self.old }
+        ensures made { result ≡ true → (machine.new, None) ≡ next processor.now.scenario machine.old }
+        ensures notes { result ≡ true → Notes processor.now.scenario machine.old self.old self.new }
+        ensures quiet { result ≡ true → IsQuiet processor.now.scenario machine.new (quiet - 1) }
+    {
+        let fetched = processor.fetched(machine, quiet);
+        if !is_plain(processor, machine, &self.past, &fetched) {
+            return false;
+        }
+        let reaches = reaches_other(&self.named, machine, &fetched);
+        if !processor.make_plain(machine, fetched.word, quiet) {
+            return false;
+        }
+        self.count_plain(fetched.place, reaches);
+        true
     }
 
     /// Notes what happens in the next step, which may be any.
@@ -303,8 +410,8 @@ impl Notebook {
         ensures takes { Takes processor.now.scenario machine.now self.old self.new }
         ensures told { (kind : Kind) → told_of result kind ≡ taken_at processor.now.scenario machine.now self.old kind }
     {
-        match plain_step(processor, machine, &self.past) {
-            Some(step) => self.take_plain(processor, machine, &step),
+        match plain_fetched(processor, machine, &self.past) {
+            Some(fetched) => self.take_plain(processor, machine, &NextStep::Executes(fetched)),
             None => self.take_other(processor, machine),
         }
     }

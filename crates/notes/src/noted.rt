@@ -98,7 +98,8 @@ impl NotedSteps {
         machine: &Machine,
         step: &NextStep,
     ) -> Result<(), AllocError>
-        ensures { OnOk result (self.new ≡ noted_by named.now processor.now.scenario.rope machine.now step.now self.old) }
+        ensures { OnOk result (self.new ≡ noted_by named.now processor.now.scenario.rope machine.now step.now
+            self.old) }
     {
         self.note_kinds(named, processor, machine, step)?;
         self.past.note(machine, step);

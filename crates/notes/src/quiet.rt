@@ -21,21 +21,24 @@ use space::Linear;
 use words::Word;
 use yayul::NamedPlaces;
 
-/// The next step, where that surely is an instruction of which no note is made but that it reaches another bank. It is
-/// not asked for by `next_step`, so that it need not be written to memory. Where there is none, the step may still be
-/// such.
+/// What the next step executes, where that surely is an instruction of which no note is made but that it reaches
+/// another bank. It is not asked for by `next_step`, so that it need not be written to memory. Where there is none, the
+/// step may still be such.
 #[inline(always)]
-pub(crate) fn plain_step(processor: &Processor, machine: &Machine, past: &Past) -> Option<NextStep>
+pub(crate) fn plain_fetched(
+    processor: &Processor,
+    machine: &Machine,
+    past: &Past,
+) -> Option<Fetched>
     requires fits { FitsRun processor.now.scenario machine.now }
-    ensures is { IfSome result (λ step. step ≡ next_step processor.now.scenario machine.now) }
-    ensures plain { IfSome result
-        (λ step. is_plain_step processor.now.scenario.rope machine.now past.now step ≡ true) }
+    ensures is { IfSome result (λ f. NextStep.Executes f ≡ next_step processor.now.scenario machine.now) }
+    ensures plain { IfSome result (λ f. is_plain processor.now.scenario.rope machine.now past.now f ≡ true) }
 {
     match processor.account(machine) {
         Account::Place(place) => {
             let fetched = fetched_at(processor, machine, place);
             if is_plain(processor, machine, past, &fetched) {
-                Some(NextStep::Executes(fetched))
+                Some(fetched)
             } else {
                 None
             }
@@ -126,7 +129,12 @@ pub(crate) fn reaches_in(named: &NamedPlaces, machine: &Machine, step: &NextStep
 /// Whether no note is made of an instruction but that it reaches another bank: it stands in fixed memory, reads no
 /// channel, and is none of the few that are told; where an interrupt is entered, the program came by before.
 #[inline(always)]
-fn is_plain(processor: &Processor, machine: &Machine, past: &Past, fetched: &Fetched) -> bool
+pub(crate) fn is_plain(
+    processor: &Processor,
+    machine: &Machine,
+    past: &Past,
+    fetched: &Fetched,
+) -> bool
     ensures { result ≡ is_plain processor.now.scenario.rope machine.now past.now fetched.now }
 {
     !fetched.waited

@@ -1,5 +1,5 @@
 -- What is to be done where a command line gives some arguments.
-use Rattle.std.specs.Prelude.{ℕ, ◌-◌, ◌^◌, Bool, true, false, List, Option, Some, None, min, nat_lt, nat_le, if◌then◌else◌}
+use Rattle.std.specs.Prelude.{ℕ, ◌-◌, ◌^◌, Bool, true, false, List, Option, Some, None, min, nat_lt, nat_le, ◌||◌, is_some, if◌then◌else◌}
 use Rattle.std.specs.Borrow.{Bor}
 use Rattle.json_text.specs.declared.notation.Notation.{Notation}
 use Rattle.json_text.specs.declared.notation.Notation.TheVariants.{Text, Json}
@@ -40,6 +40,7 @@ use Rattle.plans.specs.declared.plan.Plan.TheVariants.{Check, Explain, Upgrade, 
 use Rattle.plans.specs.declared.plan.Plan.TheVariants.{ShowDamages, ShowMended, NoSteps, TooManySteps, Access, Bound}
 use Rattle.plans.specs.declared.plan.Plan.TheVariants.{Delays, Differ, Align, Carry}
 use Rattle.plans.specs.declared.plan.Plan.TheVariants.{AssembleWithHoles, Find, Expect, WhatIf}
+use Rattle.plans.specs.declared.plan.Plan.TheVariants.{AssembleFilledWithSums, CompareBanks, SumsOfHoles}
 use Rattle.arguments.specs.declared.AlignArguments.{AlignArguments}
 use Rattle.arguments.specs.declared.FindArguments.{FindArguments}
 use Rattle.plans.specs.declared.plan.Assembly.{Assembly}
@@ -229,23 +230,32 @@ debug_of a = if a.is_extended then DebugExtended (program_of a.program) else Deb
 -- a source to be assembled
 abbrev pub assembly_of : AsmArguments → Assembly
 assembly_of a = record {
-  source = record { path = a.source; language = language_of a.is_flight };
+  source = record { path = a.source; language = language_of a.is_flight; assumed = a.assumed };
   rope = a.rope;
   version = version_named a.version;
   tells_uses = a.has_xref;
 }
 
--- an assembly: with --holes with holes, which take their words of the image of --fill, and with --sums with check words
+-- check words beside holes: a bank with a hole has no sum until an image fills it
+abbrev pub summed_of : Assembly → Option (Bor (List ℕ)) → Plan
+summed_of assembly (Some file) = AssembleFilledWithSums assembly file
+summed_of assembly None = SumsOfHoles
+
+-- an assembly with holes, which take their words of the image of --fill, and with --sums with check words
+abbrev pub holed_of : AsmArguments → Plan
+holed_of a = if a.has_sums then summed_of (assembly_of a) a.filling else AssembleWithHoles (assembly_of a) a.filling
+
+-- an assembly: with --holes with holes, and with --sums with check words
 abbrev pub asm_of : AsmArguments → Plan
 asm_of a =
-    if a.has_holes then AssembleWithHoles (assembly_of a) a.filling
+    if a.has_holes then holed_of a
     else if a.has_sums then AssembleWithSums (assembly_of a)
     else Assemble (assembly_of a)
 
 -- a check
 abbrev pub check_of : CheckArguments → Plan
 check_of a = Check (record {
-  source = record { path = a.source; language = language_of a.is_flight };
+  source = record { path = a.source; language = language_of a.is_flight; assumed = a.assumed };
   feeds = a.feeds;
   tells_unused = a.tells_unused;
   notation = notation_of a.is_json;
@@ -275,11 +285,17 @@ words_of a = record {
   tells_where = a.tells_where;
 }
 
+-- a comparison of a source: with --holes, --banks or --assume with an account of each bank
+abbrev pub compare_only_of : CompareArguments → Plan
+compare_only_of a =
+    if a.has_holes || a.has_banks || is_some a.assumed
+    then CompareBanks (record { path = a.old.path; language = language_of a.is_flight; assumed = a.assumed }) (image_of a.new)
+    a.has_holes
+    else CompareOnly (record { path = a.old.path; language = language_of a.is_flight; assumed = a.assumed }) (image_of a.new)
+
 -- a comparison: with --only of a source
 abbrev pub compare_of : CompareArguments → Plan
-compare_of a =
-    if a.is_source then CompareOnly (record { path = a.old.path; language = language_of a.is_flight }) (image_of a.new)
-    else Compare (image_of a.old) (image_of a.new)
+compare_of a = if a.is_source then compare_only_of a else Compare (image_of a.old) (image_of a.new)
 
 -- an alignment, with --symbols of names
 abbrev pub aligned : Option (Bor (List ℕ)) → Image → Image → Plan
@@ -291,7 +307,7 @@ align_of a = aligned a.symbols (image_of a.old) (image_of a.new)
 
 -- a passage that is found
 abbrev pub find_of : FindArguments → Plan
-find_of a = Find (record { path = a.passage; language = language_of a.is_flight }) (image_of a.image)
+find_of a = Find (record { path = a.passage; language = language_of a.is_flight; assumed = None }) (image_of a.image)
 
 -- sums: with --forms in both orders
 abbrev pub sums_of : SumsArguments → Plan

@@ -1,7 +1,8 @@
 //! From what is asked for to what is to be done.
 
-ghost use Rattle.std.specs.Prelude.{◌≡◌};
+ghost use Rattle.std.specs.Prelude.{◌≡◌, if◌then◌else◌};
 ghost use Rattle.std.specs.Option.{option_map};
+ghost use Rattle.plans.specs.declared.plan.Plan.TheVariants.{AssembleWithHoles};
 ghost use Rattle.plans.specs.Plans.{
   access_of,
   align_of,
@@ -27,6 +28,7 @@ ghost use Rattle.plans.specs.Plans.{
   run_of_listed,
   run_of,
   shown_of,
+  summed_of,
   sums_of,
   trace_of,
   verdicts_of,
@@ -72,6 +74,7 @@ pub fn planned<'a>(arguments: Arguments<'a>) -> Plan<'a>
             source: Original {
                 path: asked.source,
                 language: language(asked.is_flight),
+                assumed: asked.assumed,
             },
             feeds: asked.feeds,
             tells_unused: asked.tells_unused,
@@ -112,17 +115,30 @@ fn asm<'a>(asked: AsmArguments<'a>) -> Plan<'a>
         source: Original {
             path: asked.source,
             language: language(asked.is_flight),
+            assumed: asked.assumed,
         },
         rope: asked.rope,
         version: version_named(asked.version),
         tells_uses: asked.has_xref,
     };
     if asked.has_holes {
-        Plan::AssembleWithHoles(assembly, asked.filling)
+        holed(assembly, asked.has_sums, asked.filling)
     } else if asked.has_sums {
         Plan::AssembleWithSums(assembly)
     } else {
         Plan::Assemble(assembly)
+    }
+}
+
+/// Assembles a source with holes: with check words where an image fills them.
+fn holed<'a>(assembly: Assembly<'a>, has_sums: bool, filling: Option<&'a str>) -> Plan<'a>
+    ensures { result ≡ (if has_sums then summed_of assembly.entry filling.entry
+        else AssembleWithHoles assembly.entry filling.entry) }
+{
+    match filling {
+        Some(file) if has_sums => Plan::AssembleFilledWithSums(assembly, file),
+        None if has_sums => Plan::SumsOfHoles,
+        _ => Plan::AssembleWithHoles(assembly, filling),
     }
 }
 
@@ -347,8 +363,13 @@ fn compare<'a>(asked: CompareArguments<'a>) -> Plan<'a>
         let source = Original {
             path: asked.old.path,
             language: language(asked.is_flight),
+            assumed: asked.assumed,
         };
-        Plan::CompareOnly(source, new)
+        if asked.has_holes || asked.has_banks || asked.assumed.is_some() {
+            Plan::CompareBanks(source, new, asked.has_holes)
+        } else {
+            Plan::CompareOnly(source, new)
+        }
     } else {
         Plan::Compare(image(asked.old), new)
     }
@@ -372,6 +393,7 @@ fn find<'a>(asked: FindArguments<'a>) -> Plan<'a>
     let passage = Original {
         path: asked.passage,
         language: language(asked.is_flight),
+        assumed: None,
     };
     Plan::Find(passage, image(asked.image))
 }

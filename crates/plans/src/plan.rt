@@ -17,6 +17,8 @@ pub enum Plan<'a> {
     /// A source with lines of the interpretive language is assembled, which have their words of an image, where its
     /// file is given.
     AssembleWithHoles(Assembly<'a>, Option<&'a str>),
+    /// Such a source is assembled to an image with check words, and has those words of an image, whose file is given.
+    AssembleFilledWithSums(Assembly<'a>, &'a str),
     /// A program is run.
     Run(Run<'a>),
     /// A run is traced.
@@ -55,6 +57,9 @@ pub enum Plan<'a> {
     Compare(Image<'a>, Image<'a>),
     /// A source is compared with an image, at the places that it fills.
     CompareOnly(Original<'a>, Image<'a>),
+    /// The same of a source of the language of flight programs, with an account of each bank, where lines of the
+    /// interpretive language are holes, or not.
+    CompareBanks(Original<'a>, Image<'a>, bool),
     /// Two images are aligned.
     Align(Image<'a>, Image<'a>),
     /// The names of a table of the first of two images are carried to the second.
@@ -75,6 +80,8 @@ pub enum Plan<'a> {
     NoSteps,
     /// Nothing: a run may not have so many steps.
     TooManySteps,
+    /// Nothing: a bank with a hole has no sum, and nothing fills the holes.
+    SumsOfHoles,
 }
 
 /// A source that is read.
@@ -84,6 +91,8 @@ pub struct Original<'a> {
     pub path: &'a str,
     /// Its language.
     pub language: Language,
+    /// What is assumed of forms that are not certain.
+    pub assumed: Option<&'a str>,
 }
 
 /// An image that is read.

@@ -1,14 +1,13 @@
 -- What is found of steps, searched a segment at a time.
-use Rattle.std.proofs.Common.{◌≡◌, ℕ, zero, suc, ◌+◌, ◌-◌, ◌*◌, ◌^◌, ◌<◌, ◌≤◌, Option, Some, None, IfSome, refl, sym, ap, ◌∙◌, arith}
+use Rattle.std.proofs.Common.{◌≡◌, ℕ, zero, suc, ◌+◌, ◌-◌, ◌^◌, ◌<◌, ◌≤◌, Bool, true, false, cond, Option, Some, None, IfSome}
+use Rattle.std.proofs.Common.{refl, ap, ◌∙◌, arith}
 use Rattle.std.specs.Option.{IfNone, option_map}
 use Rattle.std.specs.List.{Contains}
-use Rattle.cpu.specs.State.{State, Scenario, FitsRun}
-use Rattle.cpu.specs.Run.{run}
-use Rattle.cpu.proofs.TakenLaws.{run-fits}
+use Rattle.cpu.specs.State.{Scenario}
 use Rattle.replay.specs.Images.{Image, steps}
 use Rattle.replay.specs.View.{SessionView, IsOfRun, IsSound}
-use Rattle.replay.specs.LastHit.{HasSought}
-use Rattle.replay.specs.Found.{or_other, last_between, last_found, first_found, found_by}
+use Rattle.replay.specs.LastHit.{HasSought, last_hit, first_hit}
+use Rattle.replay.specs.Found.{or_other, last_between, last_found, first_found, found_if}
 use Rattle.replay.proofs.StayingLemmas.{stays_covers}
 use Rattle.replay.proofs.SessionLemmas.{shown_sound}
 
@@ -27,48 +26,13 @@ found_within low at None None order h = tt
 found_within low at (Some r) None order h = (h.0, omega (arith, h.1))
 
 -- a search from step 0 on is the definition
-from_zero : (find : ℕ → Option ℕ) (m : ℕ) → last_between find 0 m ≡ last_found find m
+pub from_zero : (find : ℕ → Option ℕ) (m : ℕ) → last_between find 0 m ≡ last_found find m
 from_zero find zero = refl
 from_zero find (suc m) = let e : 0 + m ≡ m = omega arith in rw e (ap (or_other m (find m)) (from_zero find m))
 
-some_by : (find : ℕ → Option ℕ) (low m : ℕ) (r : ℕ × ℕ) (found : Option ℕ) → or_other (low + m) found (last_between find low m) ≡ Some r
-    → (last_between find low m ≡ Some r → last_found find (low + m) ≡ Some r)
-    → or_other (low + m) found (last_found find (low + m)) ≡ Some r
-some_by find low m r None is rest = rest is
-some_by find low m r (Some x) is rest = is
-
--- what is found of the steps from low up to high is the last of all below, and where nothing is those below low are left
-after_some : (find : ℕ → Option ℕ) (low m : ℕ) (r : ℕ × ℕ) → last_between find low m ≡ Some r → last_found find (low + m) ≡ Some r
-after_some find low zero r is = absurd (let bad : None ≡ Some r = is in cc)
-after_some find low (suc m) r is =
-    let e : low + suc m ≡ suc (low + m) = omega arith in
-    rw e (some_by find low m r (find (low + m)) is (after_some find low m r))
-
-none_by : (find : ℕ → Option ℕ) (low m : ℕ) (found : Option ℕ) → or_other (low + m) found (last_between find low m) ≡ None
-    → (last_between find low m ≡ None → last_found find (low + m) ≡ last_found find low)
-    → or_other (low + m) found (last_found find (low + m)) ≡ last_found find low
-none_by find low m None is rest = rest is
-none_by find low m (Some x) is rest = absurd (let bad : Some (low + m, x) ≡ None = is in cc)
-
-after_none : (find : ℕ → Option ℕ) (low m : ℕ) → last_between find low m ≡ None → last_found find (low + m) ≡ last_found find low
-after_none find low zero is = let e : low + 0 ≡ low = omega arith in rw e refl
-after_none find low (suc m) is =
-    let e : low + suc m ≡ suc (low + m) = omega arith in
-    rw e (none_by find low m (find (low + m)) is (after_none find low m))
-
-pub found_in_segment : (find : ℕ → Option ℕ) (low high p : ℕ) (r : ℕ × ℕ) → low ≤ high → last_found find p ≡ last_found find high
-    → Some r ≡ last_between find low (high - low) → Some r ≡ last_found find p
-found_in_segment find low high p r order same is =
-    let e : low + (high - low) ≡ high = omega arith in
-    let there = after_some find low (high - low) r (sym is) in
-    sym (same ∙ rw e at there)
-
-pub none_in_segment : (find : ℕ → Option ℕ) (low high p : ℕ) → low ≤ high → last_found find p ≡ last_found find high
-    → None ≡ last_between find low (high - low) → last_found find p ≡ last_found find low
-none_in_segment find low high p order same is =
-    let e : low + (high - low) ≡ high = omega arith in
-    let there = after_none find low (high - low) (sym is) in
-    same ∙ rw e at there
+pub below_of : (first p : ℕ) (r : Option (ℕ × ℕ)) → IfSome r (λ t. (first ≤ t.0) × (t.0 < p)) → IfSome r (λ t. t.0 < p)
+below_of first p None h = tt
+below_of first p (Some t) h = h.1
 
 -- the first
 pub first_here : (find : ℕ → Option ℕ) (from high x : ℕ) → from < high → Some x ≡ find from
@@ -114,3 +78,43 @@ has_found old s p (Some t) scenario shown meter is sound early same metered leas
       found = omega (arith, c.3);
       none = tt;
     })
+
+-- where a test is asked of the state before each step, its hits are the steps that are found
+hit_before : (t : ℕ) (b : Bool) (found : Option (ℕ × ℕ)) (hit : Option ℕ) → option_map (λ r. r.0) found ≡ hit
+    → option_map (λ r. r.0) (or_other t (found_if b) found) ≡ cond b (Some t) hit
+hit_before t true found hit same = refl
+hit_before t false found hit same = same
+
+hits_before : (hit : ℕ → Bool) (m : ℕ) → option_map (λ r. r.0) (last_between (λ t. found_if (hit t)) 0 m) ≡ last_hit hit m
+hits_before hit zero = refl
+hits_before hit (suc m) =
+    let e : 0 + m ≡ m = omega arith in
+    rw e (hit_before m (hit m) (last_between (λ t. found_if (hit t)) 0 m) (last_hit hit m) (hits_before hit m))
+
+pub sought_before : (hit : ℕ → Bool) (p : ℕ) (r : Option (ℕ × ℕ)) → r ≡ last_between (λ t. found_if (hit t)) 0 (p - 0)
+    → option_map (λ q. q.0) r ≡ last_hit hit p
+sought_before hit p r is =
+    let all : p - 0 ≡ p = omega arith in
+    ap (option_map (λ q. q.0)) (is ∙ ap (last_between (λ t. found_if (hit t)) 0) all) ∙ hits_before hit p
+
+-- and where of the state after it, they are a step later
+abbrev pub later : Option (ℕ × ℕ) → Option ℕ
+later None = None
+later (Some r) = Some (r.0 + 1)
+
+hit_after : (t : ℕ) (b : Bool) (found : Option (ℕ × ℕ)) (hit : Option ℕ) → later found ≡ hit
+    → later (or_other t (found_if b) found) ≡ cond b (Some (t + 1)) hit
+hit_after t true found hit same = refl
+hit_after t false found hit same = same
+
+hits_after : (hit : ℕ → Bool) (from count : ℕ) → later (first_found (λ t. found_if (hit (t + 1))) from count)
+    ≡ first_hit hit (from + 1) count
+hits_after hit from zero = refl
+hits_after hit from (suc count) = hit_after from (hit (from + 1)) (first_found (λ t. found_if (hit (t + 1))) (from + 1) count)
+    (first_hit hit (from + 1 + 1) count) (hits_after hit (from + 1) count)
+
+pub first_after : (hit : ℕ → Bool) (from count : ℕ) (r : Option (ℕ × ℕ)) → 0 < from
+    → r ≡ first_found (λ t. found_if (hit (t + 1))) (from - 1) count → later r ≡ first_hit hit from count
+first_after hit from count r begun is =
+    let e : from - 1 + 1 ≡ from = omega arith in
+    ap later is ∙ hits_after hit (from - 1) count ∙ ap (λ k. first_hit hit k count) e

@@ -1,5 +1,5 @@
 -- What is found of the steps of a run.
-use Rattle.std.specs.Prelude.{ℕ, ◌+◌, Option, Some, None}
+use Rattle.std.specs.Prelude.{◌≡◌, ℕ, ◌+◌, ◌<◌, Bool, true, false, Option, Some, None}
 use Rattle.std.proofs.Common.{zero, suc}
 use Rattle.cpu.specs.State.{State, Scenario}
 use Rattle.cpu.specs.Run.{run}
@@ -27,3 +27,12 @@ first_found find from (suc count) = or_other from (find from) (first_found find 
 -- what a test finds of the step after t steps
 abbrev pub found_by : (Scenario → State → Option ℕ) → Scenario → ℕ → Option ℕ
 found_by finds scenario t = finds scenario (run scenario t)
+
+-- at the states of the run before step p, what is answered is what is found of the step
+abbrev pub FindsAs : (Scenario → State → Option ℕ → Type 0) → Scenario → ℕ → (ℕ → Option ℕ) → Type 0
+FindsAs answers scenario p find = (t : ℕ) (r : Option ℕ) → t < p → answers scenario (run scenario t) r → r ≡ find t
+
+-- what is found where something holds
+abbrev pub found_if : Bool → Option ℕ
+found_if true = Some 0
+found_if false = None

@@ -2,9 +2,10 @@
 use Rattle.std.specs.Prelude.{◌≡◌, ◌⊎◌, ℕ, List, [], Option, Some, None, Result, Ok, Err, IfOk}
 use Rattle.agc_text.specs.Fields.{runs, texts}
 use Rattle.bound.specs.Asked.{kept_named, limits_named, routine_named}
-use Rattle.bound.specs.Bounds.{IsAnswer}
+use Rattle.bound.specs.Bounds.{IsFound}
 use Rattle.bound.specs.BoundText.{answer_text}
 use Rattle.bound.specs.declared.charge.Limit.{Limit}
+use Rattle.bound.specs.declared.counted.Counted.{Counted}
 use Rattle.bound.specs.declared.finding.Answer.{Answer}
 use Rattle.bound.specs.declared.finding.Answer.TheVariants.{Most}
 use Rattle.bound.specs.declared.finding.Answer.TheVariants as answer
@@ -40,12 +41,13 @@ abbrev pub told_of : Answer → Bounded
 told_of (Most most) = Told
 told_of (answer.Refused p why) = Refused
 
--- a bound of the routine, or a place and a cause why none is found, is written
+-- a bound of the routine with the loops that are counted, or a place and a cause why none is found, is written
 pub record WritesBound (words : Words) (kept : List ℕ) (limits : List Limit) (routine : Site) (before after : Writer)
     (result : Result Bounded WorkshopFault) : Type 0 where
   pub answer : Answer
-  pub is : IsAnswer words kept limits routine answer
-  pub writes : WritesText (answer_text answer) before after result
+  pub loops : List Counted
+  pub is : IsFound words kept limits routine answer loops
+  pub writes : WritesText (answer_text answer loops) before after result
   pub told : IfOk result (λ told. told ≡ told_of answer)
 
 -- a text names nothing, and nothing is written

@@ -1,6 +1,7 @@
 pub mod Addressings
 pub mod Aligning
 pub mod Assemblies
+pub mod Banks
 pub mod Covers
 pub mod RunsUntilIdle
 pub mod AccessRuns

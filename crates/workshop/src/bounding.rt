@@ -6,7 +6,7 @@ ghost use Rattle.workshop.specs.Failures.{reader, writer};
 
 use crate::fault::WorkshopFault;
 use crate::origin::Origin;
-use bound::{Answer, bound, kept_named, limits_named, routine_named, write_answer};
+use bound::{Answer, bound, kept_named, limits_named, routine_named, write_found};
 use rope::Rope;
 use std::alloc::Global;
 use words::{Read, Write};
@@ -74,11 +74,11 @@ fn bound_routine<W: Write>(
     let Some(cells) = cells else {
         return Ok(Bounded::NotNamed);
     };
-    let Ok(answer) = bound(alloc, rope, cells.as_slice(), limits.as_slice(), &site) else {
+    let Ok(found) = bound(alloc, rope, cells.as_slice(), limits.as_slice(), &site) else {
         return Err(WorkshopFault::NoMemory);
     };
-    write_answer(&answer, out)?;
-    Ok(told(&answer))
+    write_found(&found, out)?;
+    Ok(told(&found.answer))
 }
 
 /// Whether a bound is told.

@@ -3,12 +3,17 @@
 ghost use Rattle.std.specs.Prelude.{◌≡◌};
 ghost use Rattle.std.specs.Option.{option_map};
 ghost use Rattle.workshop.specs.Failures.{writer};
-ghost use Rattle.workshop.specs.Holed.{AssemblesWithHoles, FillsAndPrints, PrintsFilled, listing_with, printing};
+ghost use Rattle.holes.specs.Holes.{filled};
+ghost use Rattle.workshop.specs.Holed.{PrintsSummed, PrintsWithRoom};
+ghost use Rattle.workshop.specs.Holed.{AssemblesFilledChecked, AssemblesWithHoles, FillsAndPrints};
+ghost use Rattle.workshop.specs.Holed.{PrintsFilled, listing_with, printing};
 ghost use Rattle.workshop.specs.Ropes.{WritesText};
 
 use crate::fault::WorkshopFault;
+use audit::{NoRoom, add_check_words};
 use holes::{assemble_with_holes, filled, write_holes};
 use rope::{Rope, Version};
+use space::Bank;
 use std::alloc::Global;
 use words::Write;
 use yayul::Program;
@@ -37,6 +42,71 @@ pub fn asm_with_holes<I: Write, L: Write>(
         Some(from) => fill_and_print(alloc, &program, &other, from, image, listing, version),
         None => print_filled(program.rope(), &program, &other, image, listing, version),
     }
+}
+
+/// Assembles a source as `asm_with_holes` does, with a filling, and writes the image with check words: after the last
+/// word of each bank two TC to themselves, and the word that makes the sum of the bank, holes filled, its number or the
+/// complement of it.
+///
+/// Where a bank has no room for them the first such is answered, and nothing is written.
+pub fn asm_filled_with_check_words<I: Write, L: Write>(
+    alloc: Global,
+    source: &[u8],
+    filling: &Rope,
+    image: &mut I,
+    listing: &mut L,
+    version: Version,
+) -> Result<Option<Bank>, WorkshopFault>
+    ensures { AssemblesFilledChecked version filling.now source.now
+        (printing (writer I.told I.written I.failures image.old) (writer L.told L.written L.failures listing.old))
+        (printing (writer I.told I.written I.failures image.new) (writer L.told L.written L.failures listing.new))
+        result }
+{
+    let (program, other) = assemble_with_holes(alloc, source)?;
+    fill_and_sum(alloc, &program, &other, filling, image, listing, version)
+}
+
+/// Writes the image of a program whose holes have their words of a filling, with check words, of a version, and then
+/// the listing with its holes; or answers the first bank without room. Memory may be refused, and then nothing is
+/// written.
+fn fill_and_sum<I: Write, L: Write>(
+    alloc: Global,
+    program: &Program,
+    other: &Rope,
+    from: &Rope,
+    image: &mut I,
+    listing: &mut L,
+    version: Version,
+) -> Result<Option<Bank>, WorkshopFault>
+    ensures { PrintsSummed version program.now other.now (filled program.now.rope other.now from.now)
+        (printing (writer I.told I.written I.failures image.old) (writer L.told L.written L.failures listing.old))
+        (printing (writer I.told I.written I.failures image.new) (writer L.told L.written L.failures listing.new))
+        result }
+{
+    let mut words = filled(alloc, program.rope(), other, from)?;
+    print_summed(&mut words, program, other, image, listing, version)
+}
+
+/// Adds check words to some words, and writes their image, of a version, and then the listing of a program with its
+/// holes; or answers the first bank without room, and writes nothing.
+fn print_summed<I: Write, L: Write>(
+    words: &mut Rope,
+    program: &Program,
+    other: &Rope,
+    image: &mut I,
+    listing: &mut L,
+    version: Version,
+) -> Result<Option<Bank>, WorkshopFault>
+    ensures { PrintsWithRoom version program.now other.now words.old
+        (printing (writer I.told I.written I.failures image.old) (writer L.told L.written L.failures listing.old))
+        (printing (writer I.told I.written I.failures image.new) (writer L.told L.written L.failures listing.new))
+        result }
+{
+    if let Err(NoRoom { bank }) = add_check_words(words) {
+        return Ok(Some(bank));
+    }
+    print_filled(words, program, other, image, listing, version)?;
+    Ok(None)
 }
 
 /// Writes the image of a program whose holes have their words of a filling, of a version, and then the listing with its

@@ -5,6 +5,7 @@ mod accessing;
 mod addressing;
 mod aligning;
 mod assembly;
+mod banks;
 mod bounding;
 mod checking;
 mod commands_end;
@@ -38,6 +39,7 @@ pub use accessing::access_program;
 pub use aligning::{align_engine, carry_engine, find_engine};
 pub use assembly::{asm_engine, asm_with_check_words, report_no_room};
 pub use audit::{Layout, arranged, module_image};
+pub use banks::compare_banks_engine;
 pub use bounding::{Bounded, bound_program};
 pub use checking::{Tally, check_feed, check_source, unread_text, write_tally};
 pub use commands_end::{Counted, tell_commands_end};
@@ -61,7 +63,7 @@ pub use faults::{
     NoteKind, Refusal, all_headings, explanation, near_in, note_explanation, note_kind, refusal_of,
     warning_explanation, warning_of,
 };
-pub use holed::asm_with_holes;
+pub use holed::{asm_filled_with_check_words, asm_with_holes};
 pub use idling::run_until_idle;
 pub use naming::{named_source_engine, read_names};
 pub use noting::run_with_notes;

@@ -233,7 +233,7 @@ fn run_noting<W: Write, T: Write>(
         while done < stop {
             notebook.note(processor, machine);
             step_and_write(processor, machine, &mut outputs, out)?;
-            done += 1;
+            done = notebook.note_plain_steps(processor, machine, done + 1, stop);
         }
         hand_on(out)?;
         told = tell(told, done, progress);

@@ -33,56 +33,69 @@ defines Address = false
 defines Channel = false
 defines Directive = false
 
--- of the operators that store, TS alone reads nothing where it writes
-abbrev pub stored : List ℕ → Use
-stored operator = if same_name operator (codes "TS") then Write else Change
-
--- what an operator does with a symbol that is its operand
-abbrev pub use_by : Role → List ℕ → Option Use
-use_by role.Setloc operator = Some Directive
-use_by role.Bank operator = None
-use_by role.Block operator = None
-use_by role.Erase operator = Some Directive
-use_by role.Equals operator = Some Directive
-use_by role.Ebank operator = Some Directive
-use_by role.Ignored operator = None
-use_by role.Octal operator = None
-use_by role.OctalPair operator = None
-use_by role.VerbNoun operator = None
-use_by role.Decimal operator = None
-use_by role.DecimalPair operator = None
-use_by role.Address operator = Some Address
-use_by role.ErasableAddress operator = Some Address
-use_by role.FixedAddress operator = Some Address
-use_by role.FixedComplement operator = Some Address
-use_by role.FarAddress operator = Some Address
-use_by role.FarComplement operator = Some Address
-use_by role.BankConstant operator = Some Address
-use_by role.CountComplement operator = Some Address
-use_by role.Downlist operator = Some Address
-use_by role.DownlistChannel operator = Some Address
-use_by role.Call operator = Some Jump
-use_by role.Jump operator = Some Jump
-use_by role.Branch operator = Some Jump
-use_by role.Read operator = Some Read
-use_by role.ReadFixed operator = Some Read
-use_by role.ReadErasable operator = Some Read
-use_by role.Subtract operator = Some Read
-use_by role.ReadCounter operator = Some Read
-use_by role.ReadPair operator = Some Read
-use_by role.Index operator = Some Read
-use_by role.Store operator = Some (stored operator)
-use_by role.StorePair operator = Some Change
-use_by role.Modify operator = Some Change
-use_by role.ModifyPair operator = Some Change
-use_by role.Channel operator = Some Channel
-use_by role.Leave operator = None
-use_by role.LeaveBank operator = None
-use_by role.Implied operator = None
+-- what an operator does with a symbol that is its operand: of those that store, TS alone reads nothing where it writes
+abbrev pub use_by : Role → Option Use
+use_by role.Setloc = Some Directive
+use_by role.Bank = None
+use_by role.Block = None
+use_by role.Erase = Some Directive
+use_by role.Equals = Some Directive
+use_by role.Ebank = Some Directive
+use_by role.Ignored = None
+use_by role.Octal = None
+use_by role.OctalPair = None
+use_by role.VerbNoun = None
+use_by role.Decimal = None
+use_by role.DecimalPair = None
+use_by role.Address = Some Address
+use_by role.ErasableAddress = Some Address
+use_by role.FixedAddress = Some Address
+use_by role.FixedComplement = Some Address
+use_by role.FarAddress = Some Address
+use_by role.FarComplement = Some Address
+use_by role.BankConstant = Some Address
+use_by role.CountComplement = Some Address
+use_by role.Downlist = Some Address
+use_by role.DownlistChannel = Some Address
+use_by role.Call = Some Jump
+use_by role.Jump = Some Jump
+use_by role.Branch = Some Jump
+use_by role.Read = Some Read
+use_by role.Multiply = Some Read
+use_by role.ReadFixed = Some Read
+use_by role.ReadErasable = Some Read
+use_by role.Count = Some Read
+use_by role.Divide = Some Read
+use_by role.Subtract = Some Read
+use_by role.ReadCounter = Some Read
+use_by role.ReadPair = Some Read
+use_by role.Index = Some Read
+use_by role.Transfer = Some Write
+use_by role.ExchangeA = Some Change
+use_by role.ExchangeL = Some Change
+use_by role.ExchangeQ = Some Change
+use_by role.StorePair = Some Change
+use_by role.Modify = Some Change
+use_by role.Accumulate = Some Change
+use_by role.ModifyPair = Some Change
+use_by role.ReadChannel = Some Channel
+use_by role.WriteChannel = Some Channel
+use_by role.CombineChannel = Some Channel
+use_by role.Leave = None
+use_by role.Return = None
+use_by role.Resume = None
+use_by role.LeaveBank = None
+use_by role.Implied = None
+use_by role.Release = None
+use_by role.ChangeA = None
+use_by role.ChangeL = None
+use_by role.ChangeBoth = None
+use_by role.Skip = None
+use_by role.Idle = None
 
 -- what the operator of a line does with its operand
 abbrev pub use_in : Parts → Option Use
-use_in parts = option_and_then (λ p. option_and_then (λ r. use_by r p.text) parts.role) parts.operator
+use_in parts = option_and_then use_by parts.role
 
 -- the label of a line, which the line defines
 abbrev pub defined_on : ℕ → Parts → List Told

@@ -2,7 +2,7 @@
 
 ghost use Rattle.std.specs.Prelude.{◌≡◌, ◌≤◌, length};
 ghost use Rattle.yayul.specs.Readings.{parts_in};
-ghost use Rattle.xref.specs.Xref.{defines, stored, use_by, use_in, use_text};
+ghost use Rattle.xref.specs.Xref.{defines, use_by, use_in, use_text};
 
 use yayul::{Reading, Role};
 
@@ -31,14 +31,12 @@ pub enum Use {
 pub(crate) fn use_in(reading: &Reading<'_>) -> Option<Use>
     ensures { result ≡ use_in (parts_in reading.now) }
 {
-    let operator = reading.operator?;
-    let role = reading.role?;
-    use_by(role, operator.text)
+    use_by(reading.role?)
 }
 
-// What an operator does with a symbol that is its operand.
-fn use_by(role: Role, operator: &[u8]) -> Option<Use>
-    ensures { result ≡ use_by role operator.now }
+// What an operator does with a symbol that is its operand: of those that store, TS alone reads nothing where it writes.
+fn use_by(role: Role) -> Option<Use>
+    ensures { result ≡ use_by role }
 {
     match role {
         Role::Setloc | Role::Erase | Role::Equals | Role::Ebank => Some(Use::Directive),
@@ -54,15 +52,24 @@ fn use_by(role: Role, operator: &[u8]) -> Option<Use>
         | Role::DownlistChannel => Some(Use::Address),
         Role::Call | Role::Jump | Role::Branch => Some(Use::Jump),
         Role::Read
+        | Role::Multiply
         | Role::ReadFixed
         | Role::ReadErasable
+        | Role::Count
+        | Role::Divide
         | Role::Subtract
         | Role::ReadCounter
         | Role::ReadPair
         | Role::Index => Some(Use::Read),
-        Role::Store => Some(stored(operator)),
-        Role::StorePair | Role::Modify | Role::ModifyPair => Some(Use::Change),
-        Role::Channel => Some(Use::Channel),
+        Role::Transfer => Some(Use::Write),
+        Role::ExchangeA
+        | Role::ExchangeL
+        | Role::ExchangeQ
+        | Role::StorePair
+        | Role::Modify
+        | Role::Accumulate
+        | Role::ModifyPair => Some(Use::Change),
+        Role::ReadChannel | Role::WriteChannel | Role::CombineChannel => Some(Use::Channel),
         Role::Bank
         | Role::Block
         | Role::Ignored
@@ -72,19 +79,16 @@ fn use_by(role: Role, operator: &[u8]) -> Option<Use>
         | Role::Decimal
         | Role::DecimalPair
         | Role::Leave
+        | Role::Return
+        | Role::Resume
         | Role::LeaveBank
-        | Role::Implied => None,
-    }
-}
-
-// What an operator that stores does: TS alone reads nothing where it writes.
-fn stored(operator: &[u8]) -> Use
-    ensures { result ≡ stored operator.now }
-{
-    if operator == b"TS".as_slice() {
-        Use::Write
-    } else {
-        Use::Change
+        | Role::Implied
+        | Role::Release
+        | Role::ChangeA
+        | Role::ChangeL
+        | Role::ChangeBoth
+        | Role::Skip
+        | Role::Idle => None,
     }
 }
 

@@ -37,6 +37,7 @@ mod LinesOfWords
 mod SurveyByLine
 mod FaultlessLines
 mod LeastTold
+mod ToldKinds
 mod ToldOnce
 mod Sure
 mod NoLabel

@@ -148,12 +148,12 @@ const ROWS_OF_TWO: [(&str, (Operator, Role)); 10] = [
     row!("TC", addressed!(0o0, Twelve, No, Address), Call),
     row!("CA", addressed!(0o30000, Twelve, No, Address), Read),
     row!("CS", addressed!(0o40000, Twelve, No, Address), Read),
-    row!("TS", addressed!(0o54000, Ten, No, Address), Store),
+    row!("TS", addressed!(0o54000, Ten, No, Address), Transfer),
     row!("AD", addressed!(0o60000, Twelve, No, Address), Read),
-    row!("DV", addressed!(0o10000, Ten, Yes, Address), ReadErasable),
+    row!("DV", addressed!(0o10000, Ten, Yes, Address), Divide),
     row!("SU", addressed!(0o60000, Ten, Yes, Address), Subtract),
-    row!("MP", addressed!(0o70000, Twelve, Yes, Address), Read),
-    row!("ZL", plain!(0o22007, No), Implied),
+    row!("MP", addressed!(0o70000, Twelve, Yes, Address), Multiply),
+    row!("ZL", plain!(0o22007, No), ChangeL),
     row!("ZQ", plain!(0o22007, Yes), Implied),
 ];
 
@@ -161,10 +161,10 @@ const ROWS_OF_THREE: [(&str, (Operator, Role)); 22] = [
     row!("OCT", Operator::Octal, Octal),
     row!("DEC", Operator::Decimal, Decimal),
     row!("TCR", addressed!(0o0, Twelve, No, Address), Call),
-    row!("CCS", addressed!(0o10000, Ten, No, Address), ReadErasable),
+    row!("CCS", addressed!(0o10000, Ten, No, Address), Count),
     row!("TCF", addressed!(0o10000, Twelve, No, FixedAddress), Jump),
     row!("DAS", addressed!(0o20000, Ten, No, Pair), ModifyPair),
-    row!("ADS", addressed!(0o26000, Ten, No, Address), Modify),
+    row!("ADS", addressed!(0o26000, Ten, No, Address), Accumulate),
     row!("CAE", addressed!(0o30000, Ten, No, Address), ReadErasable),
     row!(
         "CAF",
@@ -172,10 +172,14 @@ const ROWS_OF_THREE: [(&str, (Operator, Role)); 22] = [
         ReadFixed
     ),
     row!("NDX", addressed!(0o50000, Ten, Either, Address), Index),
-    row!("XCH", addressed!(0o56000, Ten, No, Address), Store),
+    row!("XCH", addressed!(0o56000, Ten, No, Address), ExchangeA),
     row!("MSK", addressed!(0o70000, Twelve, No, Address), Read),
-    row!("ROR", addressed!(0o4000, Nine, Yes, Channel), Channel),
-    row!("WOR", addressed!(0o5000, Nine, Yes, Channel), Channel),
+    row!("ROR", addressed!(0o4000, Nine, Yes, Channel), ReadChannel),
+    row!(
+        "WOR",
+        addressed!(0o5000, Nine, Yes, Channel),
+        CombineChannel
+    ),
     row!(
         "BZF",
         addressed!(0o10000, Twelve, Yes, FixedAddress),
@@ -187,21 +191,25 @@ const ROWS_OF_THREE: [(&str, (Operator, Role)); 22] = [
     row!("DCA", addressed!(0o30000, Twelve, Yes, Pair), ReadPair),
     row!("DCS", addressed!(0o40000, Twelve, Yes, Pair), ReadPair),
     row!("XLQ", plain!(0o1, No), Leave),
-    row!("COM", plain!(0o40000, No), Implied),
+    row!("COM", plain!(0o40000, No), ChangeA),
 ];
 
 const ROWS_OF_FOUR: [(&str, (Operator, Role)); 18] = [
     row!("BANK", Operator::Bank(BankRange::All), Bank),
     row!("CADR", constant!(FixedPlace), FixedAddress),
-    row!("LXCH", addressed!(0o22000, Ten, No, Address), Store),
+    row!("LXCH", addressed!(0o22000, Ten, No, Address), ExchangeL),
     row!("INCR", addressed!(0o24000, Ten, No, Address), Modify),
     row!("DXCH", addressed!(0o52000, Ten, No, Pair), StorePair),
     row!("MASK", addressed!(0o70000, Twelve, No, Address), Read),
-    row!("READ", addressed!(0o0, Nine, Yes, Channel), Channel),
-    row!("RAND", addressed!(0o2000, Nine, Yes, Channel), Channel),
-    row!("WAND", addressed!(0o3000, Nine, Yes, Channel), Channel),
-    row!("RXOR", addressed!(0o6000, Nine, Yes, Channel), Channel),
-    row!("QXCH", addressed!(0o22000, Ten, Yes, Address), Store),
+    row!("READ", addressed!(0o0, Nine, Yes, Channel), ReadChannel),
+    row!("RAND", addressed!(0o2000, Nine, Yes, Channel), ReadChannel),
+    row!(
+        "WAND",
+        addressed!(0o3000, Nine, Yes, Channel),
+        CombineChannel
+    ),
+    row!("RXOR", addressed!(0o6000, Nine, Yes, Channel), ReadChannel),
+    row!("QXCH", addressed!(0o22000, Ten, Yes, Address), ExchangeQ),
     row!(
         "BZMF",
         addressed!(0o60000, Twelve, Yes, FixedAddress),
@@ -209,10 +217,10 @@ const ROWS_OF_FOUR: [(&str, (Operator, Role)); 18] = [
     ),
     row!("DTCF", plain!(0o52005, No), LeaveBank),
     row!("DTCB", plain!(0o52006, No), LeaveBank),
-    row!("OVSK", plain!(0o54000, No), Implied),
+    row!("OVSK", plain!(0o54000, No), Skip),
     row!("TCAA", plain!(0o54005, No), Leave),
-    row!("DCOM", plain!(0o40001, Yes), Implied),
-    row!("NOOP", to_next!(0o10000, Twelve, No, FixedAddress), Implied),
+    row!("DCOM", plain!(0o40001, Yes), ChangeBoth),
+    row!("NOOP", to_next!(0o10000, Twelve, No, FixedAddress), Idle),
 ];
 
 const ROWS_OF_FIVE: [(&str, (Operator, Role)); 9] = [
@@ -223,7 +231,11 @@ const ROWS_OF_FIVE: [(&str, (Operator, Role)); 9] = [
     row!("FCADR", constant!(FixedPlace), FixedAddress),
     row!("2CADR", Operator::FarAddress, FarAddress),
     row!("INDEX", addressed!(0o50000, Ten, Either, Address), Index),
-    row!("WRITE", addressed!(0o1000, Nine, Yes, Channel), Channel),
+    row!(
+        "WRITE",
+        addressed!(0o1000, Nine, Yes, Channel),
+        WriteChannel
+    ),
     row!("XXALQ", plain!(0o0, No), Leave),
 ];
 
@@ -231,14 +243,14 @@ const ROWS_OF_SIX: [(&str, (Operator, Role)); 11] = [
     row!("SETLOC", Operator::Setloc, Setloc),
     row!("EQUALS", Operator::Equals, Equals),
     row!("EBANK=", Operator::Ebank, Ebank),
-    row!("RELINT", plain!(0o3, No), Implied),
+    row!("RELINT", plain!(0o3, No), Release),
     row!("INHINT", plain!(0o4, No), Implied),
     row!("EXTEND", extend!(0o6), Implied),
-    row!("RESUME", plain!(0o50017, No), Leave),
-    row!("RETURN", plain!(0o2, No), Leave),
-    row!("DDOUBL", plain!(0o20001, No), Implied),
-    row!("DOUBLE", plain!(0o60000, No), Implied),
-    row!("SQUARE", plain!(0o70000, Yes), Implied),
+    row!("RESUME", plain!(0o50017, No), Resume),
+    row!("RETURN", plain!(0o2, No), Return),
+    row!("DDOUBL", plain!(0o20001, No), ChangeBoth),
+    row!("DOUBLE", plain!(0o60000, No), ChangeA),
+    row!("SQUARE", plain!(0o70000, Yes), ChangeBoth),
 ];
 
 // Each operator that the standard language lacks, or has with fewer forms.

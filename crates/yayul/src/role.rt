@@ -53,34 +53,68 @@ pub enum Role {
     Jump,
     /// Goes on at an address of fixed memory, or at the next word.
     Branch,
-    /// Reads a word of any memory.
+    /// Reads a word of any memory into A.
     Read,
+    /// Multiplies A by a word of any memory, into A and L.
+    Multiply,
     /// Reads a word of fixed memory.
     ReadFixed,
-    /// Reads a word of erasable memory.
+    /// Reads a word of erasable memory into A.
     ReadErasable,
-    /// Subtracts a word of erasable memory.
+    /// Counts a word of erasable memory down into A, and goes on at one of four words.
+    Count,
+    /// Divides A and L by a word of erasable memory, into both.
+    Divide,
+    /// Subtracts a word of erasable memory from A.
     Subtract,
     /// Reads a counter of erasable memory, whose number is meant.
     ReadCounter,
-    /// Reads two words.
+    /// Reads two words into A and L.
     ReadPair,
     /// Adds a word of erasable memory to the next instruction.
     Index,
-    /// Writes a register to a word of erasable memory.
-    Store,
-    /// Exchanges two words.
+    /// Writes A to a word of erasable memory, and skips a word where A has overflow.
+    Transfer,
+    /// Exchanges A and a word of erasable memory.
+    ExchangeA,
+    /// Exchanges L and such a word.
+    ExchangeL,
+    /// Exchanges Q and such a word.
+    ExchangeQ,
+    /// Exchanges A and L and two words.
     StorePair,
     /// Reads a word of erasable memory, and writes what it becomes.
     Modify,
-    /// Adds to two words.
+    /// Adds A to a word of erasable memory, and leaves the sum in A too.
+    Accumulate,
+    /// Adds A and L to two words.
     ModifyPair,
-    /// Reads or writes a channel.
-    Channel,
-    /// Goes on elsewhere, and takes no operand.
+    /// Reads a channel into A.
+    ReadChannel,
+    /// Writes A to a channel.
+    WriteChannel,
+    /// Combines A and a channel in both.
+    CombineChannel,
+    /// Goes on where A, L or another word says, and takes no operand.
     Leave,
+    /// Goes back to where Q leads.
+    Return,
+    /// Goes back to what an interrupt left.
+    Resume,
     /// Goes on in another bank, and takes no operand.
     LeaveBank,
     /// Takes no operand, and goes on at the next word.
     Implied,
+    /// So too, and lets interrupts in.
+    Release,
+    /// So too, and changes A.
+    ChangeA,
+    /// So too, and changes L.
+    ChangeL,
+    /// So too, and changes A and L.
+    ChangeBoth,
+    /// So too, and skips a word where A has overflow.
+    Skip,
+    /// So too, and does nothing.
+    Idle,
 }

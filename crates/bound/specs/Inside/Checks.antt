@@ -1,12 +1,12 @@
 -- A bound is checked: a number for each word of a routine, and one for each limit.
-use Rattle.std.specs.Prelude.{◌≡◌, ℕ, ◌+◌, ◌*◌, Bool, true, false, not, ◌==◌, ◌&&◌, nat_le, if◌then◌else◌, List, [], ◌∷◌, Option, Some}
-use Rattle.std.specs.Prelude.{None}
-use Rattle.std.specs.Prelude.{find}
+use Rattle.std.specs.Prelude.{◌≡◌, ℕ, ◌+◌, ◌-◌, ◌*◌, Bool, true, false, not, ◌==◌, ◌&&◌, nat_le, nat_lt, if◌then◌else◌, List}
+use Rattle.std.specs.Prelude.{[], ◌∷◌, Option, Some, None, find}
 use Rattle.std.specs.List.{list_all}
 use Rattle.std.specs.Option.{option_map}
 use Rattle.rope.specs.Places.{Words}
 use Rattle.bound.specs.declared.charge.Charge.{Charge}
 use Rattle.bound.specs.declared.charge.Limit.{Limit}
+use Rattle.bound.specs.declared.checking.Count.{Count}
 use Rattle.bound.specs.declared.checking.Row.{Row}
 use Rattle.bound.specs.declared.site.Mode.{Mode}
 use Rattle.bound.specs.declared.site.Site.{Site}
@@ -14,6 +14,7 @@ use Rattle.bound.specs.declared.turn.Leg.{Leg}
 use Rattle.bound.specs.declared.turn.Turn.{Turn}
 use Rattle.bound.specs.declared.turn.Turn.TheVariants.{Back, Through, One, Two, Four, Stop}
 use Rattle.bound.specs.Bounds.{IsBound, stands_at}
+use Rattle.bound.specs.Counting.{is_counted, stands_at_entry, stands_at_head}
 use Rattle.bound.specs.Turns.{turn}
 
 abbrev pub same_bool : Bool → Bool → Bool
@@ -68,13 +69,35 @@ turn_holds known rows base room (Four a b c d) = (leg_holds rows room 0 a && leg
     && (leg_holds rows room 0 c && leg_holds rows room 0 d)
 turn_holds known rows base room (Stop why) = false
 
--- whether the number of a word, with what it costs to stand there, has room for where it leads
-abbrev pub row_holds : Words → List ℕ → List Charge → List Row → List Row → ℕ → Row → Bool
-row_holds words kept charges known rows base row =
-    turn_holds known rows base (row.number + weight_at charges row.site) (turn words kept row.site)
+-- what it costs to stand at a word as the head of a counted loop: the weight of the first loop whose head it is
+abbrev pub gain_at : List Count → Site → ℕ
+gain_at [] p = 0
+gain_at (c ∷ cs) p = if stands_at_head c.counted p then c.weight else gain_at cs p
 
-unfoldable pub all_hold : Words → List ℕ → List Charge → List Row → List Row → ℕ → Bool
-all_hold words kept charges known rows base = list_all (row_holds words kept charges known rows base) rows
+-- what is left of room at a word once each counted loop that it enters has its rounds paid
+abbrev pub room_after : List Count → Site → ℕ → Option ℕ
+room_after [] p room = Some room
+room_after (c ∷ cs) p room =
+    if stands_at_entry c.counted p then
+    (if nat_lt room ((c.counted.from + 1) * c.weight) then None else room_after cs p (room - (c.counted.from + 1) * c.weight))
+    else room_after cs p room
+
+abbrev pub turn_holds_by : List Row → List Row → ℕ → Option ℕ → Turn → Bool
+turn_holds_by known rows base None turn = false
+turn_holds_by known rows base (Some room) turn = turn_holds known rows base room turn
+
+-- whether the number of a word, with what it costs to stand there, has room for where it leads
+abbrev pub row_holds : Words → List ℕ → List Charge → List Count → List Row → List Row → ℕ → Row → Bool
+row_holds words kept charges counts known rows base row =
+    turn_holds_by known rows base (room_after counts row.site (row.number + weight_at charges row.site + gain_at counts row.site))
+    (turn words kept row.site)
+
+unfoldable pub all_hold : Words → List ℕ → List Charge → List Count → List Row → List Row → ℕ → Bool
+all_hold words kept charges counts known rows base = list_all (row_holds words kept charges counts known rows base) rows
+
+-- whether the loops that are counted are counted ones of a routine
+abbrev pub all_count : Words → List ℕ → List Row → Site → List Count → Bool
+all_count words kept rows routine counts = list_all (λ count. is_counted words kept rows routine count.counted) counts
 
 -- each number of a table is a bound of the routine that begins at its word
 abbrev pub AreBounds : Words → List ℕ → List Limit → List Row → Type 0

@@ -11,7 +11,7 @@ use Rattle.bound.specs.declared.site.Site.{Site}
 use Rattle.bound.specs.declared.turn.Turn.{Turn}
 use Rattle.bound.specs.declared.turn.Turn.TheVariants.{Back, Through, One, Two, Four, Stop}
 use Rattle.bound.specs.declared.turn.Why.{Why}
-use Rattle.bound.specs.Bounds.{CallsAt, Has, IsBound, IsCause, stands_at}
+use Rattle.bound.specs.Bounds.{AreCounted, CallsAt, Has, IsBound, IsCause, stands_at}
 use Rattle.bound.specs.Inside.Checks.{same}
 use Rattle.bound.specs.Turns.{turn}
 
@@ -75,7 +75,7 @@ IsExplored words kept r (explored.Stops p why) = (limits : List Limit) → Fails
 
 -- the same of an attempt to find the bound of a routine
 abbrev pub IsAttempt : Words → List ℕ → List Limit → Site → Attempt → Type 0
-IsAttempt words kept limits r (attempt.Most most) = IsBound words kept limits r most
+IsAttempt words kept limits r (attempt.Most most loops) = IsBound words kept limits r most × AreCounted words kept r loops.items
 IsAttempt words kept limits r (attempt.Calls p t) = CallsAt words kept r p t
 IsAttempt words kept limits r (attempt.Stops p why) = Fails words kept limits r p why
 

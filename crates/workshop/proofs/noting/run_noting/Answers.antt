@@ -1,6 +1,7 @@
-use Rattle.std.proofs.Common.{◌≡◌, ◌∙◌, true, refl, sym, ap, arith, rules}
+use Rattle.std.proofs.Common.{◌≡◌, ◌+◌, ◌∙◌, true, refl, sym, ap, arith, rules, subst}
 use Rattle.std.proofs.lemmas.Result.{err_from_is_err_and}
 use Rattle.cpu.specs.Run.{run}
+use Rattle.cpu.specs.State.{Scenario}
 use Rattle.cpu.proofs.RunLaws.{run-zero}
 use Rattle.words.specs.Devices.{one_more}
 use Rattle.workshop.specs.Runs.{BreaksOff}
@@ -9,7 +10,9 @@ use Rattle.workshop.proofs.Telling.{tells_at_start, tells_more, told_after_step,
 use Rattle.workshop.proofs.RunSteps.{few_cycles, fits_after, stands_at_start, stands_breaks_off, stands_broken, stands_whole}
 use Rattle.workshop.proofs.RunSteps.{breaks_off_after, run_text_grows}
 use Rattle.notes.proofs.Counting.{small}
-use Rattle.workshop.proofs.NotedSteps.{noted_after_step}
+use Rattle.notes.specs.Counted.{Counted}
+use Rattle.yayul.specs.Named.{Named}
+use Rattle.workshop.proofs.NotedSteps.{noted_after_plain, noted_after_step}
 use Rattle.workshop.proofs.noting.run_noting.Goals as goal
 
 pub loop-done-init : goal.loop-done-init
@@ -67,20 +70,52 @@ returns-in_err-step_and_write-clause-makes g c =
           ∙ ap one_more (c.loop-done-2.invariant.failures ∙ c.loop-done.invariant.failures),
     )
 
+pub note_plain_steps-done-requires-clause-state : goal.note_plain_steps-done-requires-clause-state
+note_plain_steps-done-requires-clause-state g c =
+    let here = c.loop-done-2.invariant.stands _ _ _ c.loop-done.invariant.scenario c.loop-done.invariant.stands in
+    let same = c.loop-done-2.invariant.scenario ∙ c.loop-done.invariant.scenario in
+    let now = noted_after_step _ _ c.args.processor.now.scenario _ c.loop-done-2.done _ _ _ _ _ c.loop-done-2.outputs
+    c.step_and_write.new.lines _ _ same here c.note.ensures c.in_ok-step_and_write.ensures.state
+    c.in_ok-step_and_write.ensures.written c.in_ok-step_and_write.ensures.count in
+    subst (λ (u : Scenario). c.step_and_write.new.machine ≡ run u (c.loop-done-2.done + 1))
+    (sym (c.in_ok-step_and_write.ensures.scenario ∙ same)) now.run.state
+
+pub note_plain_steps-done-requires-clause-counted : goal.note_plain_steps-done-requires-clause-counted
+note_plain_steps-done-requires-clause-counted g c =
+    let here = c.loop-done-2.invariant.stands _ _ _ c.loop-done.invariant.scenario c.loop-done.invariant.stands in
+    let same = c.loop-done-2.invariant.scenario ∙ c.loop-done.invariant.scenario in
+    let now = noted_after_step _ _ c.args.processor.now.scenario _ c.loop-done-2.done _ _ _ _ _ c.loop-done-2.outputs
+    c.step_and_write.new.lines _ _ same here c.note.ensures c.in_ok-step_and_write.ensures.state
+    c.in_ok-step_and_write.ensures.written c.in_ok-step_and_write.ensures.count in
+    subst (λ (u : Scenario). Counted c.note.new.self.named u (c.loop-done-2.done + 1) c.note.new.self)
+    (sym (c.in_ok-step_and_write.ensures.scenario ∙ same))
+    (subst (λ (w : Named). Counted w c.args.processor.now.scenario (c.loop-done-2.done + 1) c.note.new.self)
+    (sym now.counted.same) now.counted)
+
 pub loop-done-2-preserved : goal.loop-done-2-preserved
 loop-done-2-preserved g c =
     record {
-      scenario = c.in_ok-step_and_write.ensures.scenario ∙ c.loop-done-2.invariant.scenario;
+      scenario = c.note_plain_steps-done.ensures.scenario ∙ c.in_ok-step_and_write.ensures.scenario ∙ c.loop-done-2.invariant.scenario;
       stands = λ named scenario old e before.
-          noted_after_step _ named scenario _ c.loop-done-2.done _ _ old _ _ c.loop-done-2.outputs c.step_and_write.new.lines _ _
-          (c.loop-done-2.invariant.scenario ∙ e)
-          (c.loop-done-2.invariant.stands named scenario old e before) c.note.ensures c.in_ok-step_and_write.ensures.state
-          c.in_ok-step_and_write.ensures.written c.in_ok-step_and_write.ensures.count;
+          let same = c.loop-done-2.invariant.scenario ∙ e in
+          noted_after_plain _ named scenario _ (c.loop-done-2.done + 1) c.note_plain_steps-done.result _ _ old _
+          c.step_and_write.new.lines _ _ (c.in_ok-step_and_write.ensures.scenario ∙ same) c.note_plain_steps-done.ensures.past
+          (noted_after_step _ named scenario _ c.loop-done-2.done _ _ old _ _ c.loop-done-2.outputs c.step_and_write.new.lines _ _
+          same (c.loop-done-2.invariant.stands named scenario old e before) c.note.ensures c.in_ok-step_and_write.ensures.state
+          c.in_ok-step_and_write.ensures.written c.in_ok-step_and_write.ensures.count)
+          c.note_plain_steps-done.ensures.silent c.note_plain_steps-done.ensures.state c.note_plain_steps-done.ensures.counted;
       failures = c.in_ok-step_and_write.ensures.failures ∙ c.loop-done-2.invariant.failures;
-      few_outputs = omega (arith, c.in_ok-step_and_write.ensures.at_most_one, c.loop-done-2.invariant.few_outputs);
-      within = omega arith;
-      further = omega arith;
-      meter = λ m before. (let now = c.loop-done-2.invariant.meter m before in omega (arith, now, c.in_ok-step_and_write.ensures.meter));
+      few_outputs = omega (
+        arith,
+        c.in_ok-step_and_write.ensures.at_most_one,
+        c.loop-done-2.invariant.few_outputs,
+        c.note_plain_steps-done.ensures.past,
+      );
+      within = c.note_plain_steps-done.ensures.within;
+      further = omega (arith, c.loop-done-2.invariant.further, c.note_plain_steps-done.ensures.past);
+      meter = λ m before.
+          (let now = c.loop-done-2.invariant.meter m before in
+          omega (arith, now, c.in_ok-step_and_write.ensures.meter, c.note_plain_steps-done.ensures.meter));
     }
 
 pub returns-in_err-hand_on-clause-makes : goal.returns-in_err-hand_on-clause-makes

@@ -2,7 +2,8 @@ use Rattle.std.proofs.Common.{◌≡◌, ◌∙◌, [], ◌∷◌, sym, subst, r
 use Rattle.notes.specs.declared.kind.Kind.{Kind}
 use Rattle.notes.specs.Notes.{is_plain_step}
 use Rattle.notes.specs.Counted.{Book, Takes, taken_at, told_of}
-use Rattle.notes.proofs.Counting.{of_kinds, quiet_takes, quiet_told}
+use Rattle.notes.proofs.Counting.{of_kinds}
+use Rattle.notes.proofs.Plain.{quiet_takes, quiet_told}
 use Rattle.notes.proofs.notebook.Notebook.take_plain.Goals as goal
 
 pub returns-else-reaches_in-clause-takes : goal.returns-else-reaches_in-clause-takes

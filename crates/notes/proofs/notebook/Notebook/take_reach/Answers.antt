@@ -5,7 +5,9 @@ use Rattle.notes.specs.declared.kind.Kind.TheVariants.{Overwritten, Shared, Fixe
 use Rattle.notes.specs.declared.notebook.Told.{Told}
 use Rattle.notes.specs.Notes.{happens_in, is_plain_step, names_erasable_in, reaches_in}
 use Rattle.notes.specs.Counted.{Book, Takes, counts_of, left_after, taken, taken_at, told_of}
-use Rattle.notes.proofs.Counting.{of_kinds, only_bank, plain_past, step_plain, takes, told_at}
+use Rattle.notes.specs.Reached.{only_bank}
+use Rattle.notes.proofs.Counting.{of_kinds, takes, told_at}
+use Rattle.notes.proofs.Plain.{plain_past, step_plain}
 use Rattle.notes.proofs.notebook.Notebook.take_reach.Goals as goal
 
 pub returns-clause-takes : goal.returns-clause-takes
@@ -57,7 +59,8 @@ returns-clause-takes c =
     (sym (ap (λ b. left_after (counts_of old MinusZero) number b) (plain MinusZero)))
     (sym (ap (λ b. left_after (counts_of old Overwritten) number b) (plain Overwritten)))
     (sym (ap (λ b. left_after (counts_of old Shared) number b) (plain Shared)))
-    (c.take-fixed_banks.ensures.left ∙ ap (λ b. left_after (counts_of old FixedBank) number b) (ap (λ b. not b) is ∙ sym (plain FixedBank))))
+    (c.take-fixed_banks.ensures.left ∙ ap (λ b. left_after (counts_of old FixedBank) number b)
+    (ap (λ b. not b) is ∙ sym (plain FixedBank))))
     refl refl
     (plain_past c.args.processor.now.scenario.rope c.args.machine.now c.args.step.now old.past held))
 

@@ -30,35 +30,17 @@ returns-clause-looked g c =
 
 pub returns-clause-after : goal.returns-clause-after
 returns-clause-after g c =
-    let s = c.self.inside in
-    let view : SessionView = record {
-      scenario = s.processor.scenario;
-      meter = s.processor.meter;
-      images = g.K.Keeper.images s.keeper;
-      present = s.present;
-      shown = (s.shown.step, s.shown.machine);
-      n = s.n;
-    } in
     let n_is = ap (λ (q : SessionView). q.n) c.self.view_is in
     let first = first_is_kept c.self.inside.n (steps (g.K.Keeper.images c.self.inside.keeper)) (omega arith) c.self.invariant.staying in
     let there = c.reach.ensures.most 0 first (omega arith) in
-    has_searched c.args.self.now view c.look_on.new.processor.scenario (c.look_on.new.shown.step, c.look_on.new.shown.machine)
+    has_searched c.args.self.now _ c.look_on.new.processor.scenario (c.look_on.new.shown.step, c.look_on.new.shown.machine)
     c.look_on.new.processor.meter c.self.view_is (c.look_on.ensures.scenario ∙ c.reach.ensures.scenario)
     (omega (arith, c.look_on.ensures.least, c.reach.ensures.least)) (omega (arith, there, c.look_on.ensures.most))
 
 pub invariant_of-self : goal.invariant_of-self
 invariant_of-self g c =
-    let s = c.self.inside in
-    let view : SessionView = record {
-      scenario = s.processor.scenario;
-      meter = s.processor.meter;
-      images = g.K.Keeper.images s.keeper;
-      present = s.present;
-      shown = (s.shown.step, s.shown.machine);
-      n = s.n;
-    } in
     let told = c.look_on.ensures in
     let n_is = ap (λ (q : SessionView). q.n) c.self.view_is in
     let of_run = told.stands ∙ ap (λ (q : Scenario). run q c.look_on.new.shown.step) c.reach.ensures.scenario in
-    shown_sound view c.look_on.new.processor.scenario (c.look_on.new.shown.step, c.look_on.new.shown.machine) c.look_on.new.processor.meter
+    shown_sound _ c.look_on.new.processor.scenario (c.look_on.new.shown.step, c.look_on.new.shown.machine) c.look_on.new.processor.meter
     c.self.invariant (told.scenario ∙ c.reach.ensures.scenario) told.metered (omega (arith, n_is, c.look_on.ensures.there), of_run)

@@ -27,23 +27,14 @@ returns-clause-written g c = λ told.
 
 pub returns-clause-after : goal.returns-clause-after
 returns-clause-after g c =
-    let s = c.self.inside in
-    let view : SessionView = record {
-      scenario = s.processor.scenario;
-      meter = s.processor.meter;
-      images = g.K.Keeper.images s.keeper;
-      present = s.present;
-      shown = (s.shown.step, s.shown.machine);
-      n = s.n;
-    } in
     let n_is = ap (λ (q : SessionView). q.n) c.self.view_is in
     let meter_is = ap (λ (q : SessionView). q.meter) c.self.view_is in
     let told = c.reach.ensures in
-    let shown = has_shown c.args.self.now view c.args.low c.reach.new.processor.scenario (c.reach.new.shown.step, c.reach.new.shown.machine)
+    let shown = has_shown c.args.self.now _ c.args.low c.reach.new.processor.scenario (c.reach.new.shown.step, c.reach.new.shown.machine)
     c.reach.new.processor.meter c.self.view_is c.self.invariant (omega arith) told.scenario told.metered told.least told.most
     told.step told.machine told.on in
     let near = shown.cheap (omega arith) in
-    has_retraced c.args.self.now view c.args.low c.args.count c.write_steps.new.processor.scenario
+    has_retraced c.args.self.now _ c.args.low c.args.count c.write_steps.new.processor.scenario
     (c.write_steps.new.shown.step, c.write_steps.new.shown.machine) c.write_steps.new.processor.meter c.self.view_is
     (c.write_steps.ensures.scenario ∙ told.scenario) (omega (arith, c.write_steps.ensures.least, told.least))
     (omega (arith, near, n_is, meter_is, c.write_steps.ensures.most))
@@ -51,18 +42,9 @@ returns-clause-after g c =
 
 pub invariant_of-self : goal.invariant_of-self
 invariant_of-self g c =
-    let s = c.self.inside in
-    let view : SessionView = record {
-      scenario = s.processor.scenario;
-      meter = s.processor.meter;
-      images = g.K.Keeper.images s.keeper;
-      present = s.present;
-      shown = (s.shown.step, s.shown.machine);
-      n = s.n;
-    } in
     let told = c.write_steps.ensures in
     let n_is = ap (λ (q : SessionView). q.n) c.self.view_is in
     let of_run = told.stands ∙ ap (λ (q : Scenario). run q c.write_steps.new.shown.step) c.reach.ensures.scenario in
-    shown_sound view c.write_steps.new.processor.scenario (c.write_steps.new.shown.step, c.write_steps.new.shown.machine)
+    shown_sound _ c.write_steps.new.processor.scenario (c.write_steps.new.shown.step, c.write_steps.new.shown.machine)
     c.write_steps.new.processor.meter c.self.invariant (told.scenario ∙ c.reach.ensures.scenario) told.metered
     (omega (arith, n_is, c.write_steps.ensures.within), of_run)

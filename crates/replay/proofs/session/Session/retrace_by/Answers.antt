@@ -28,41 +28,23 @@ returns-clause-walked g c =
 
 pub returns-clause-after : goal.returns-clause-after
 returns-clause-after g c =
-    let s = c.self.inside in
-    let view : SessionView = record {
-      scenario = s.processor.scenario;
-      meter = s.processor.meter;
-      images = g.K.Keeper.images s.keeper;
-      present = s.present;
-      shown = (s.shown.step, s.shown.machine);
-      n = s.n;
-    } in
     let n_is = ap (λ (q : SessionView). q.n) c.self.view_is in
     let meter_is = ap (λ (q : SessionView). q.meter) c.self.view_is in
     let told = c.reach.ensures in
     let w = c.walk-end in
-    let shown = has_shown c.args.self.now view c.args.low c.reach.new.processor.scenario (c.reach.new.shown.step, c.reach.new.shown.machine)
+    let shown = has_shown c.args.self.now _ c.args.low c.reach.new.processor.scenario (c.reach.new.shown.step, c.reach.new.shown.machine)
     c.reach.new.processor.meter c.self.view_is c.self.invariant (omega arith) told.scenario told.metered told.least told.most
     told.step told.machine told.on in
     let near = shown.cheap (omega arith) in
-    has_retraced c.args.self.now view c.args.low c.args.count w.new.processor.scenario (w.result.0, w.new.machine) w.new.processor.meter
+    has_retraced c.args.self.now _ c.args.low c.args.count w.new.processor.scenario (w.result.0, w.new.machine) w.new.processor.meter
     c.self.view_is (w.ensures.scenario ∙ told.scenario) (omega (arith, w.ensures.least, told.least, told.metered))
     (omega (arith, near, n_is, meter_is, w.ensures.most, w.ensures.within))
     (λ before. omega (arith, told.on before, w.ensures.most, w.ensures.within))
 
 pub invariant_of-self : goal.invariant_of-self
 invariant_of-self g c =
-    let s = c.self.inside in
-    let view : SessionView = record {
-      scenario = s.processor.scenario;
-      meter = s.processor.meter;
-      images = g.K.Keeper.images s.keeper;
-      present = s.present;
-      shown = (s.shown.step, s.shown.machine);
-      n = s.n;
-    } in
     let w = c.walk-end in
     let n_is = ap (λ (q : SessionView). q.n) c.self.view_is in
     let of_run = w.ensures.machine ∙ ap (λ (q : Scenario). run q w.result.0) c.reach.ensures.scenario in
-    shown_sound view w.new.processor.scenario (w.result.0, w.new.machine) w.new.processor.meter c.self.invariant
+    shown_sound _ w.new.processor.scenario (w.result.0, w.new.machine) w.new.processor.meter c.self.invariant
     (w.ensures.scenario ∙ c.reach.ensures.scenario) w.ensures.metered (omega (arith, n_is, w.ensures.within), of_run)

@@ -1,56 +1,12 @@
-use Rattle.std.proofs.Common.{ap, arith}
-use Rattle.std.specs.Fn.{FnReturnsAt}
-use Rattle.replay.specs.View.{SessionView}
-use Rattle.replay.specs.LastHit.{AnswersAs}
-use Rattle.replay.specs.Images.{steps}
-use Rattle.replay.proofs.StayingLemmas.{first_is_kept}
-use Rattle.replay.proofs.LastHitLemmas.{last_hit_is, has_sought}
-use Rattle.replay.proofs.SessionLemmas.{shown_sound}
+use Rattle.std.proofs.Common.{◌∙◌, ap}
+use Rattle.replay.specs.Found.{found_if}
+use Rattle.replay.proofs.FoundLemmas.{sought_before}
 use Rattle.replay.proofs.session.Session.seek_back.Goals as goal
 
-pub search_back-requires-clause-first : goal.search_back-requires-clause-first
-search_back-requires-clause-first g c = λ some.
-    let n_is = ap (λ (q : SessionView). q.n) c.self.view_is in
-    first_is_kept c.self.inside.n (steps (g.K.Keeper.images c.self.inside.keeper)) (omega (arith, c.requires.past)) c.self.invariant.staying
-
 pub returns-clause-last : goal.returns-clause-last
-returns-clause-last g c = λ is_hit answers.
-    let e = ap (λ (q : SessionView). q.scenario) c.self.view_is in
-    let here : AnswersAs (FnReturnsAt g.F.Fn c.args.hit) c.self.inside.processor.scenario c.args.p is_hit = rw e answers in
-    last_hit_is is_hit c.args.p c.search_back.result (c.search_back.ensures.last is_hit here)
+returns-clause-last g c = λ is_hit answers. c.step_of.ensures
+    ∙ sought_before is_hit c.args.p c.search.result (c.search.ensures.last (λ t. found_if (is_hit t))
+    (λ t r below told. told.2 ∙ ap found_if (answers t told.0 below told.1)))
 
 pub returns-clause-after : goal.returns-clause-after
-returns-clause-after g c =
-    let s = c.self.inside in
-    let view : SessionView = record {
-      scenario = s.processor.scenario;
-      meter = s.processor.meter;
-      images = g.K.Keeper.images s.keeper;
-      present = s.present;
-      shown = (s.shown.step, s.shown.machine);
-      n = s.n;
-    } in
-    let told = c.search_back.ensures in
-    let n_is = ap (λ (q : SessionView). q.n) c.self.view_is in
-    has_sought c.args.self.now view c.args.p c.search_back.result c.search_back.new.processor.scenario
-    (c.search_back.new.shown.step, c.search_back.new.shown.machine) c.search_back.new.processor.meter c.self.view_is c.self.invariant
-    (omega arith) told.scenario told.metered told.least
-    (told.within s.n c.self.invariant.stands.shown.0 (omega (arith, n_is, c.requires.past)), told.stands) told.before told.found
-    told.none
-
-pub invariant_of-self : goal.invariant_of-self
-invariant_of-self g c =
-    let s = c.self.inside in
-    let view : SessionView = record {
-      scenario = s.processor.scenario;
-      meter = s.processor.meter;
-      images = g.K.Keeper.images s.keeper;
-      present = s.present;
-      shown = (s.shown.step, s.shown.machine);
-      n = s.n;
-    } in
-    let told = c.search_back.ensures in
-    let n_is = ap (λ (q : SessionView). q.n) c.self.view_is in
-    shown_sound view c.search_back.new.processor.scenario (c.search_back.new.shown.step, c.search_back.new.shown.machine)
-    c.search_back.new.processor.meter c.self.invariant told.scenario told.metered
-    (told.within s.n c.self.invariant.stands.shown.0 (omega (arith, n_is, c.requires.past)), told.stands)
+returns-clause-after g c = rw c.step_of.ensures c.search.ensures.after

@@ -1,62 +1,21 @@
-use Rattle.std.proofs.Common.{◌≡◌, ◌+◌, ◌-◌, ◌∙◌, refl, ap, arith}
-use Rattle.std.specs.Fn.{FnReturnsAt}
-use Rattle.cpu.specs.State.{Scenario}
-use Rattle.cpu.specs.Run.{run}
-use Rattle.replay.specs.View.{SessionView}
-use Rattle.replay.specs.LastHit.{AnswersAs, first_hit}
-use Rattle.replay.specs.Images.{steps}
-use Rattle.replay.proofs.StayingLemmas.{first_is_kept}
-use Rattle.replay.proofs.LastHitLemmas.{has_searched}
-use Rattle.replay.proofs.SessionLemmas.{shown_sound}
+use Rattle.std.proofs.Common.{◌≡◌, ℕ, ◌+◌, ◌-◌, Some, None, ◌∙◌, ap, arith}
+use Rattle.cpu.proofs.RunLaws.{run-add-one}
+use Rattle.replay.specs.Found.{first_found, found_if}
+use Rattle.replay.proofs.FoundLemmas.{first_after}
 use Rattle.replay.proofs.session.Session.seek_on.Goals as goal
 
-pub reach-requires-clause-first : goal.reach-requires-clause-first
-reach-requires-clause-first g c =
-    let n_is = ap (λ (q : SessionView). q.n) c.self.view_is in
-    first_is_kept c.self.inside.n (steps (g.K.Keeper.images c.self.inside.keeper)) (omega arith) c.self.invariant.staying
+pub returns-in-Some-clause-first : goal.returns-in-Some-clause-first
+returns-in-Some-clause-first g c = λ is_hit answers.
+    let find = (λ (t : ℕ). found_if (is_hit (t + 1))) in
+    let found : Some (c.in-Some.step, c.in-Some.field-0-1) ≡ first_found find (c.args.from - 1) c.args.count = c.in-Some.ensures.first find
+    (λ t r below told. told.2 ∙ ap found_if (answers (t + 1) told.0 (omega (arith, below, c.requires.begun))
+    (rw (run-add-one c.args.self.now.scenario t) told.1))) in
+    first_after is_hit c.args.from c.args.count (Some (c.in-Some.step, c.in-Some.field-0-1)) c.requires.begun found
 
 pub returns-clause-first : goal.returns-clause-first
 returns-clause-first g c = λ is_hit answers.
-    let e = ap (λ (q : SessionView). q.scenario) c.self.view_is in
-    let here : AnswersAs (FnReturnsAt g.F.Fn c.args.hit) c.reach.new.processor.scenario (c.args.from + c.args.count) is_hit = rw
-    (c.reach.ensures.scenario, e) answers in
-    let count : c.args.from + c.args.count - c.args.from ≡ c.args.count = omega arith in
-    c.scan_on.ensures.first is_hit here ∙ ap (first_hit is_hit c.args.from) count
-
-pub returns-clause-after : goal.returns-clause-after
-returns-clause-after g c =
-    let s = c.self.inside in
-    let view : SessionView = record {
-      scenario = s.processor.scenario;
-      meter = s.processor.meter;
-      images = g.K.Keeper.images s.keeper;
-      present = s.present;
-      shown = (s.shown.step, s.shown.machine);
-      n = s.n;
-    } in
-    let n_is = ap (λ (q : SessionView). q.n) c.self.view_is in
-    let first = first_is_kept c.self.inside.n (steps (g.K.Keeper.images c.self.inside.keeper)) (omega arith) c.self.invariant.staying in
-    let there = c.reach.ensures.most 0 first (omega arith) in
-    has_searched c.args.self.now view c.scan_on.new.processor.scenario (c.scan_on.new.shown.step, c.scan_on.new.shown.machine)
-    c.scan_on.new.processor.meter c.self.view_is (c.scan_on.ensures.scenario ∙ c.reach.ensures.scenario)
-    (omega (arith, c.scan_on.ensures.least, c.reach.ensures.least)) (omega (arith, there, c.scan_on.ensures.most))
-
-pub returns-then-count-eq0-clause-after : goal.returns-then-count-eq0-clause-after
-returns-then-count-eq0-clause-after g c = record { same = refl; least = omega arith; most = omega arith }
-
-pub invariant_of-self : goal.invariant_of-self
-invariant_of-self g c =
-    let s = c.self.inside in
-    let view : SessionView = record {
-      scenario = s.processor.scenario;
-      meter = s.processor.meter;
-      images = g.K.Keeper.images s.keeper;
-      present = s.present;
-      shown = (s.shown.step, s.shown.machine);
-      n = s.n;
-    } in
-    let told = c.scan_on.ensures in
-    let n_is = ap (λ (q : SessionView). q.n) c.self.view_is in
-    let of_run = told.stands ∙ ap (λ (q : Scenario). run q c.scan_on.new.shown.step) c.reach.ensures.scenario in
-    shown_sound view c.scan_on.new.processor.scenario (c.scan_on.new.shown.step, c.scan_on.new.shown.machine) c.scan_on.new.processor.meter
-    c.self.invariant (told.scenario ∙ c.reach.ensures.scenario) told.metered (omega (arith, n_is, c.scan_on.ensures.within), of_run)
+    let find = (λ (t : ℕ). found_if (is_hit (t + 1))) in
+    let found : None ≡ first_found find (c.args.from - 1) c.args.count = c.in-None.ensures.first find
+    (λ t r below told. told.2 ∙ ap found_if (answers (t + 1) told.0 (omega (arith, below, c.requires.begun))
+    (rw (run-add-one c.args.self.now.scenario t) told.1))) in
+    first_after is_hit c.args.from c.args.count None c.requires.begun found

@@ -1,53 +1,10 @@
-use Rattle.std.proofs.Common.{◌≡◌, ap, arith}
-use Rattle.replay.specs.View.{SessionView}
-use Rattle.replay.specs.Images.{steps}
-use Rattle.replay.proofs.StayingLemmas.{first_is_kept}
-use Rattle.replay.proofs.FoundLemmas.{has_found}
-use Rattle.replay.proofs.SessionLemmas.{shown_sound}
+use Rattle.std.proofs.Common.{◌≡◌, ◌-◌, ◌∙◌, ap, arith}
+use Rattle.replay.specs.Found.{found_by, last_between}
+use Rattle.replay.proofs.FoundLemmas.{from_zero}
 use Rattle.replay.proofs.session.Session.seek_step_back.Goals as goal
-
-pub search_steps-requires-clause-first : goal.search_steps-requires-clause-first
-search_steps-requires-clause-first g c = λ some.
-    let n_is = ap (λ (q : SessionView). q.n) c.self.view_is in
-    first_is_kept c.self.inside.n (steps (g.K.Keeper.images c.self.inside.keeper)) (omega (arith, c.requires.past)) c.self.invariant.staying
 
 pub returns-clause-last : goal.returns-clause-last
 returns-clause-last g c =
-    let e = ap (λ (q : SessionView). q.scenario) c.self.view_is in
-    rw e at c.search_steps.ensures.last
-
-pub returns-clause-after : goal.returns-clause-after
-returns-clause-after g c =
-    let s = c.self.inside in
-    let view : SessionView = record {
-      scenario = s.processor.scenario;
-      meter = s.processor.meter;
-      images = g.K.Keeper.images s.keeper;
-      present = s.present;
-      shown = (s.shown.step, s.shown.machine);
-      n = s.n;
-    } in
-    let told = c.search_steps.ensures in
-    let n_is = ap (λ (q : SessionView). q.n) c.self.view_is in
-    has_found c.args.self.now view c.args.p c.search_steps.result c.search_steps.new.processor.scenario
-    (c.search_steps.new.shown.step, c.search_steps.new.shown.machine) c.search_steps.new.processor.meter c.self.view_is c.self.invariant
-    (omega arith) told.scenario told.metered told.least
-    (told.within s.n c.self.invariant.stands.shown.0 (omega (arith, n_is, c.requires.past)), told.stands) told.before told.found
-    told.none
-
-pub invariant_of-self : goal.invariant_of-self
-invariant_of-self g c =
-    let s = c.self.inside in
-    let view : SessionView = record {
-      scenario = s.processor.scenario;
-      meter = s.processor.meter;
-      images = g.K.Keeper.images s.keeper;
-      present = s.present;
-      shown = (s.shown.step, s.shown.machine);
-      n = s.n;
-    } in
-    let told = c.search_steps.ensures in
-    let n_is = ap (λ (q : SessionView). q.n) c.self.view_is in
-    shown_sound view c.search_steps.new.processor.scenario (c.search_steps.new.shown.step, c.search_steps.new.shown.machine)
-    c.search_steps.new.processor.meter c.self.invariant told.scenario told.metered
-    (told.within s.n c.self.invariant.stands.shown.0 (omega (arith, n_is, c.requires.past)), told.stands)
+    let find = found_by (g.T.StepTest.finds c.args.test.now) c.args.self.now.scenario in
+    let all : c.args.p - 0 ≡ c.args.p = omega arith in
+    c.search.ensures.last find (λ t r below told. told) ∙ ap (last_between find 0) all ∙ from_zero find c.args.p

@@ -1,56 +1,6 @@
-use Rattle.std.proofs.Common.{◌≡◌, ap, arith}
-use Rattle.replay.specs.View.{SessionView}
-use Rattle.replay.specs.Images.{steps}
-use Rattle.replay.proofs.StayingLemmas.{first_is_kept}
-use Rattle.replay.proofs.SinceLemmas.{has_found_since}
-use Rattle.replay.proofs.SessionLemmas.{shown_sound}
+use Rattle.replay.specs.Found.{found_by}
 use Rattle.replay.proofs.session.Session.seek_step_since.Goals as goal
 
-pub search_steps_since-requires-clause-image : goal.search_steps_since-requires-clause-image
-search_steps_since-requires-clause-image g c = λ some.
-    let n_is = ap (λ (q : SessionView). q.n) c.self.view_is in
-    first_is_kept c.self.inside.n (steps (g.K.Keeper.images c.self.inside.keeper)) (omega (arith, c.requires.past)) c.self.invariant.staying
-
 pub returns-clause-last : goal.returns-clause-last
-returns-clause-last g c =
-    let e = ap (λ (q : SessionView). q.scenario) c.self.view_is in
-    rw e at c.search_steps_since.ensures.last
-
-pub returns-clause-after : goal.returns-clause-after
-returns-clause-after g c =
-    let s = c.self.inside in
-    let view : SessionView = record {
-      scenario = s.processor.scenario;
-      meter = s.processor.meter;
-      images = g.K.Keeper.images s.keeper;
-      present = s.present;
-      shown = (s.shown.step, s.shown.machine);
-      n = s.n;
-    } in
-    let told = c.search_steps_since.ensures in
-    let n_is = ap (λ (q : SessionView). q.n) c.self.view_is in
-    has_found_since c.args.self.now view c.args.first c.args.p c.search_steps_since.result c.search_steps_since.new.processor.scenario
-    (c.search_steps_since.new.shown.step, c.search_steps_since.new.shown.machine) c.search_steps_since.new.processor.meter
-    c.self.view_is c.self.invariant (omega arith) (omega arith) told.scenario told.metered told.least
-    (told.within s.n c.self.invariant.stands.shown.0 (omega (arith, n_is, c.requires.past)), told.stands) told.between told.found
-    told.none
-
-pub invariant_of-self : goal.invariant_of-self
-invariant_of-self g c =
-    let s = c.self.inside in
-    let view : SessionView = record {
-      scenario = s.processor.scenario;
-      meter = s.processor.meter;
-      images = g.K.Keeper.images s.keeper;
-      present = s.present;
-      shown = (s.shown.step, s.shown.machine);
-      n = s.n;
-    } in
-    let told = c.search_steps_since.ensures in
-    let n_is = ap (λ (q : SessionView). q.n) c.self.view_is in
-    shown_sound view c.search_steps_since.new.processor.scenario
-    (c.search_steps_since.new.shown.step, c.search_steps_since.new.shown.machine) c.search_steps_since.new.processor.meter
-    c.self.invariant told.scenario told.metered (
-      told.within s.n c.self.invariant.stands.shown.0 (omega (arith, n_is, c.requires.past)),
-      told.stands,
-    )
+returns-clause-last g c = c.search.ensures.last (found_by (g.T.StepTest.finds c.args.test.now) c.args.self.now.scenario)
+    (λ t r below told. told)

@@ -14,16 +14,8 @@ reach-requires-clause-first g c = first_is_kept c.self.inside.n (steps (g.K.Keep
 pub returns : goal.returns
 returns g c =
     let s = c.self.inside in
-    let view : SessionView = record {
-      scenario = s.processor.scenario;
-      meter = s.processor.meter;
-      images = g.K.Keeper.images s.keeper;
-      present = s.present;
-      shown = (s.shown.step, s.shown.machine);
-      n = s.n;
-    } in
     let told = c.reach.ensures in
-    let shown = has_shown c.args.self.now view c.args.t c.reach.new.processor.scenario (c.reach.new.shown.step, c.reach.new.shown.machine)
+    let shown = has_shown c.args.self.now _ c.args.t c.reach.new.processor.scenario (c.reach.new.shown.step, c.reach.new.shown.machine)
     c.reach.new.processor.meter c.self.view_is c.self.invariant (omega arith) told.scenario told.metered told.least told.most
     told.step told.machine told.on in
     let n_is = ap (λ (q : SessionView). q.n) c.self.view_is in

@@ -1,0 +1,70 @@
+//! The registers and the counters by their names.
+
+ghost use Rattle.std.specs.Prelude.{◌≡◌};
+ghost use Rattle.std.specs.Option.{option_map};
+ghost use Rattle.agc_text.specs.Tables.{value_in};
+ghost use Rattle.symbols.specs.Registers.{entries, registers};
+
+const REGISTERS: [(&str, &str); 36] = [
+    ("A", "0"),
+    ("L", "1"),
+    ("Q", "2"),
+    ("EBANK", "3"),
+    ("EB", "3"),
+    ("FBANK", "4"),
+    ("FB", "4"),
+    ("Z", "5"),
+    ("BBANK", "6"),
+    ("BB", "6"),
+    ("ZERO", "7"),
+    ("ARUPT", "10"),
+    ("LRUPT", "11"),
+    ("QRUPT", "12"),
+    ("ZRUPT", "15"),
+    ("BBRUPT", "16"),
+    ("BRUPT", "17"),
+    ("CYR", "20"),
+    ("SR", "21"),
+    ("CYL", "22"),
+    ("EDOP", "23"),
+    ("TIME2", "24"),
+    ("TIME1", "25"),
+    ("TIME3", "26"),
+    ("TIME4", "27"),
+    ("TIME5", "30"),
+    ("TIME6", "31"),
+    ("CDUX", "32"),
+    ("CDUY", "33"),
+    ("CDUZ", "34"),
+    ("OPTY", "35"),
+    ("OPTX", "36"),
+    ("PIPAX", "37"),
+    ("PIPAY", "40"),
+    ("PIPAZ", "41"),
+    ("INLINK", "45"),
+];
+
+/// The place of the register or the counter of a name, in octal digits.
+pub fn register_place(name: &[u8]) -> Option<&'static [u8]>
+    ensures { option_map (λ place. place.now) result ≡ value_in registers name.now }
+{
+    place_in(registers(), name)
+}
+
+fn registers() -> &'static [(&'static str, &'static str)]
+    ensures { entries result.now ≡ registers }
+{
+    &REGISTERS
+}
+
+// The place that stands beside a name.
+fn place_in(table: &'static [(&'static str, &'static str)], name: &[u8]) -> Option<&'static [u8]>
+    ensures { option_map (λ place. place.now) result ≡ value_in (entries table.now) name.now }
+{
+    for (register, place) in table {
+        if name == register.as_bytes() {
+            return Some(place.as_bytes());
+        }
+    }
+    None
+}
