@@ -92,8 +92,8 @@ def repository(room):
         write_text(f"{room}/crates/{crate}/left-to-tests/{name}.edit", f"file: {path}\nwhy: a try\ntest: {test}\nold: {old}\nnew: {new}\n")
 
 
-def run(room, *words):
-    return subprocess.run([sys.executable, RUNNER, *words], cwd=room, capture_output=True, text=True, check=False)
+def run(room, *words, turn=0):
+    return subprocess.run([sys.executable, RUNNER, *words], cwd=room, capture_output=True, text=True, check=False, env={**os.environ, "GATE_TURN": str(turn)})
 
 
 class Edits(unittest.TestCase):
@@ -104,6 +104,14 @@ class Edits(unittest.TestCase):
         for name, (file, *_, wanted) in EDITS.items():
             self.assertIn(f"edits-at-tests {file.partition('/')[0]}/{name}: {wanted}", ran.stdout, ran.stdout + ran.stderr)
         self.assertEqual((ran.stdout.split("\n")[-2], ran.returncode), ("2 passed, 5 failed", 1), ran.stdout + ran.stderr)
+
+    def test_each_fifth_by_turns(self):
+        with tempfile.TemporaryDirectory() as room:
+            repository(room)
+            for turn, wanted in ((0, {"app/not_there", "small/two_is_four"}), (6, {"app/says_ill", "small/two_is_three"}), (4, {"small/one_field_more"})):
+                with self.subTest(turn=turn):
+                    told = run(room, "--turn", turn=turn).stdout
+                    self.assertEqual({it.split()[1].rstrip(":") for it in told.split("\n") if it.startswith("edits-at-tests ")}, wanted, told)
 
     def test_reads_alone(self):
         with tempfile.TemporaryDirectory() as room:

@@ -45,6 +45,11 @@ class Parts(unittest.TestCase):
         with contextlib.redirect_stdout(io.StringIO()):
             self.assertEqual(check.tell([*parts, part("0 passed, 1 failed", status=1)[0]]), 1)
 
+    def test_when_each_crate_is_proved(self):
+        shown = part("rt: words proved\nrt: words is kept\nrt: feed: its tests are NOT PROVED\n1 passed, 0 failed")[1]
+        for line in (r"    0 s  rt: words proved", r"rt: words is kept", r"    0 s  rt: feed: its tests are NOT PROVED"):
+            self.assertRegex(shown, f"(?m)^{line}$")
+
     def test_some_commands_beside_others(self):
         with contextlib.redirect_stdout(io.StringIO()):
             made = check.beside("some", ["echo", "'1 passed, 0 failed'"], ["false"], ["echo", "'2 passed, 0 failed'"]).end()
