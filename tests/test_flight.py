@@ -1,5 +1,6 @@
 """Assembles forms of flight programs, and compares their words with those worked out by hand."""
 import glob
+import os
 import subprocess
 import unittest
 
@@ -56,6 +57,23 @@ MODULE = (
     " RN -1,2; GOTO; LAB; CADR VSUB; CA RN; SETLOC 20100;TAB DEC 3; DLOAD EXIT; -6D; TS X; NOOP"
 )
 HOLES = ["02,4001", "02,4002", "02,4003", "02,4004"] + [f"04,{address:04o}" for address in (0o2000, 0o2001, 0o2002, 0o2003, 0o2004, 0o2005, 0o2007, 0o2010, 0o2011, 0o2101, 0o2102)]
+
+
+# Programs with holes, a semicolon between two lines, their feeds, the most steps, and by hand the lines put out and the step
+# and row of the hole. CA and WRITE take two cycles, EXTEND and TCF one, and an interrupt that is entered three. After the
+# second's RESUME, TCF ON waits while Z leads to a hole; the third's hole would be kept by an interrupt.
+OUT = " BLOCK 02;START CA FIVE; EXTEND; WRITE 10; VLOAD UNIT; X; EXIT; TC START;FIVE OCT 5;X EQUALS 1400"
+AFTER = " SETLOC 4000; TCF MAIN; SETLOC 4014; RESUME; SETLOC 4100;MAIN CA FIVE; TCF ON; VLOAD UNIT; EXIT;FIVE OCT 5;ON EXTEND; WRITE 10;HERE DLOAD EXIT"
+KEPT = " SETLOC 4000; TCF HERE; SETLOC 4014; RESUME; SETLOC 4100;HERE DLOAD # a comment; EXIT"
+HOLED_RUNS = [
+    ("it comes to no hole", OUT, "", 3, "5 CH 010 00005\n", ""),
+    ("it comes to a hole", OUT, "", 4, "5 CH 010 00005\n", "agcws: HOLE AT STEP 4:     5 02,4003 00000   OCT 0 #  VLOAD UNIT\n"),
+    ("it comes to a hole long before", OUT, "", 99999, "5 CH 010 00005\n", "agcws: HOLE AT STEP 4:     5 02,4003 00000   OCT 0 #  VLOAD UNIT\n"),
+    ("an instruction waits before a hole", AFTER, "3 RUPT 3\n", 8, "12 CH 010 00005\n", ""),
+    ("a hole has a label", AFTER, "3 RUPT 3\n", 9, "12 CH 010 00005\n", "agcws: HOLE AT STEP 9:    13 02,4107 00000  HERE OCT 0 # HERE DLOAD EXIT\n"),
+    ("an input comes at a hole", KEPT, "1 RUPT 3\n", 2, "", ""),
+    ("an interrupt keeps a hole", KEPT, "1 RUPT 3\n", 3, "", "agcws: HOLE AT STEP 3:     6 02,4100 00000  HERE OCT 0 # HERE DLOAD # a comment\n"),
+]
 
 
 class Flight(Case):
@@ -138,6 +156,44 @@ class Flight(Case):
         self.assertEqual(self.compare("--holes"), wanted)
         self.assertEqual(self.compare("--holes", "--banks"), wanted)
         self.assertEqual(self.compare("--banks"), (1, "", "agcws: E15 LINE 7\n"))
+
+    def run_holed(self, text, feed, steps, *options):
+        write(f"{self.room}/flight.agc", text.replace(";", "\n").encode() + b"\n")
+        write(f"{self.room}/flight.feed", feed.encode())
+        ran = subprocess.run([PROGRAM, "run", *options, f"{self.room}/flight.agc", f"{self.room}/flight.feed", str(steps)], capture_output=True, timeout=300)
+        return ran.returncode, ran.stdout.decode(), ran.stderr.decode()
+
+    def test_run_to_a_hole(self):
+        """A run stops before a step that would fetch the word of a hole, and tells it."""
+        for name, text, feed, steps, lines, hole in HOLED_RUNS:
+            with self.subTest(name):
+                self.assertEqual(self.run_holed(text, feed, steps, "--flight", "--holes"), (1 if hole else 0, lines, hole))
+        hole = HOLED_RUNS[1][5]
+        self.assertEqual(self.run_holed(OUT, "", 9, "--flight", "--holes", "--end"), (1, "5 CH 010 00005\n", f"{hole}END STEPS 3 CYCLES 5 OUTPUTS 1 Z 4003\n"))
+        self.assertEqual(self.run_holed(OUT, "", 9, "--flight"), (1, "", "agcws: E15 LINE 5\n"))
+        self.assertEqual(self.run_holed(OUT.replace("START CA", "START CB"), "", 9, "--flight", "--holes"), (1, "", "agcws: E15 LINE 2\n"))
+        self.assertEqual(self.run_holed(OUT, "1 RUPT 11\n", 9, "--flight", "--holes")[:2], (1, ""))
+        for options in (("--holes",), ("--image", "--holes"), ("--flight", "--holes", "--until-idle"), ("--flight", "--holes", "--notes"), ("--flight", "--holes", "--progress")):
+            with self.subTest(options):
+                self.assertEqual(self.run_holed(OUT, "", 9, *options)[0], 2)
+
+    def test_run_of_files(self):
+        """A hole in a file that the source includes is told by the file and its line."""
+        write(f"{self.room}/part.agc", b"        WRITE   10\n        VLOAD   UNIT\n")
+        wanted = (1, "5 CH 010 00005\n", "agcws: HOLE AT STEP 4: part.agc:2 02,4003 00000   OCT 0 #         VLOAD   UNIT\n")
+        self.assertEqual(self.run_holed(" BLOCK 02;START CA FIVE; EXTEND;$part.agc; EXIT;FIVE OCT 5", "", 9, "--flight", "--holes"), wanted)
+
+    def test_run_without_holes(self):
+        """A run of a source without such lines is that of the source."""
+        for path in sorted(glob.glob(f"{EXAMPLES}/flight/*.agc")):
+            feed = path.replace(".agc", ".feed")
+            if not os.path.exists(feed):
+                feed = f"{self.room}/empty.feed"
+                write(feed, b"")
+            ran = [subprocess.run([PROGRAM, "run", "--flight", *options, "--end", path, feed, "2000"], capture_output=True, timeout=300) for options in ((), ("--holes",))]
+            with self.subTest(path):
+                self.assertEqual(ran[0].returncode, 0)
+                self.assertEqual([(it.returncode, it.stdout, it.stderr) for it in ran[:1]], [(it.returncode, it.stdout, it.stderr) for it in ran[1:]])
 
     def test_sums_beside_holes(self):
         """The sums are those of the filled words; without a filling a bank with a hole has none."""

@@ -58,6 +58,19 @@ impl<'a> Located<'a> {
         Ok(())
     }
 
+    /// Writes the line of a text in which the row of a listing follows some bytes, where it has one.
+    pub fn write_behind<W: Write>(
+        self,
+        front: &[u8],
+        text: &[u8],
+        out: &mut W,
+    ) -> Result<(), WorkshopFault> {
+        match next_line(text) {
+            Some((line, _)) => self.write_row(Some(front), 0, line, out),
+            None => Ok(()),
+        }
+    }
+
     /// How long the longest name of a line is.
     fn longest_name(self) -> Result<usize, AllocError> {
         let mut longest = 0;

@@ -51,6 +51,9 @@ const DIFFERENT: u8 = 1;
 /// The exit status where a run does not bear out what is claimed of it.
 const FAILED: u8 = 1;
 
+/// The exit status where a run has stopped at a hole.
+const STOPPED: u8 = 1;
+
 /// The exit status where no bound of a routine was found.
 const NOT_BOUND: u8 = 1;
 

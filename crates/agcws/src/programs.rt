@@ -7,23 +7,28 @@ use crate::files::{
     with_stdout,
 };
 use crate::hints::tell_reached;
+use crate::joining::{SourceText, source_text};
+use crate::located::Located;
 use crate::progress::make_listener;
-use crate::{DONE, NO_CELL, NO_ROUTINE, NO_SERIES, NOT_BOUND, refuse_arguments};
+use crate::{DONE, NO_CELL, NO_ROUTINE, NO_SERIES, NOT_BOUND, STOPPED, refuse_arguments};
 use agc_text::{next_field, next_line};
 use plans::{
     Accesses, Listed, Pair, Profile, Program, Reaching, Routine, Run, Timed, Tracing, Trials,
 };
-use words::{ReadAhead, Std, Write, read_text, write_all};
+use words::{Buffer, ReadAhead, Std, Write, read_text, write_all};
 use workshop::{
-    Bounded, Counted, LineForm, Side, Summary, WorkshopFault, access_program, bound_program,
-    cover_program, debug_program, delays_program, differ_program, reach_program, reach_run,
-    read_trials, run_and_tell, run_until_idle, run_with_notes, tell_commands_end, trace_program,
-    try_notes, try_program, write_end,
+    Bounded, Counted, Language, LineForm, Side, Summary, WorkshopFault, access_program,
+    bound_program, cover_program, debug_program, delays_program, differ_program, reach_program,
+    reach_run, read_trials, run_and_tell, run_to_hole, run_until_idle, run_with_notes,
+    tell_commands_end, trace_program, try_notes, try_program, write_end,
 };
 
 /// `agcws run [--end] [--progress] [--until-idle | --notes [--json]] .. SRC FEED N`. All files are opened before
 /// anything is read.
 pub fn run(rt: &HostRuntime, asked: &Run<'_>) -> Result<u8, WorkshopFault> {
+    if asked.has_holes {
+        return run_holed(rt, asked);
+    }
     let program = opened_program(rt, &asked.program)?;
     let summary = with_stdout(rt, |out| run_told(rt, program, asked, out))?;
     if asked.tells_end {
@@ -32,6 +37,46 @@ pub fn run(rt: &HostRuntime, asked: &Run<'_>) -> Result<u8, WorkshopFault> {
         tell_reached(rt, &summary)?;
     }
     Ok(DONE)
+}
+
+/// `agcws run --flight --holes [--end] SRC FEED N`.
+fn run_holed(rt: &HostRuntime, asked: &Run<'_>) -> Result<u8, WorkshopFault> {
+    let source = source_text(rt, asked.program.path, Language::Flight)?;
+    let mut feed = opened(rt, asked.program.feed)?;
+    let mut told = Buffer::new(rt.alloc());
+    let steps = asked.steps.count();
+    let ended = with_stdout(
+        rt,
+        |out| run_to_hole(rt.alloc(), &source.text, &mut feed, steps, out, &mut told),
+    )?;
+    tell_hole(rt, asked.program.path, &source, &ended.summary, told.as_slice())?;
+    if asked.tells_end {
+        write_end(&ended.summary, &mut Std::new(rt.stderr()))?;
+    } else if !ended.has_stopped {
+        tell_reached(rt, &ended.summary)?;
+    }
+    Ok(if ended.has_stopped {
+        STOPPED
+    } else {
+        DONE
+    })
+}
+
+/// Tells the line of a hole at which a run of a source has stopped, by the file that its row is of.
+fn tell_hole(
+    rt: &HostRuntime,
+    path: &str,
+    source: &SourceText,
+    summary: &Summary,
+    line: &[u8],
+) -> Result<(), WorkshopFault> {
+    let mut stderr = Std::new(rt.stderr());
+    let Some(joined) = &source.joined else {
+        return Ok(write_all(&mut stderr, line)?);
+    };
+    let step = u128::from(summary.steps) + 1;
+    let front = format!(in rt.alloc(); "agcws: HOLE AT STEP {step}: ").map_err(no_memory)?;
+    Located::new(rt.alloc(), path, joined).write_behind(front.as_bytes(), line, &mut stderr)
 }
 
 /// Runs a program, and tells on standard error what is to be told beside its lines.

@@ -126,7 +126,8 @@ pub struct AsmArguments<'a> {
     pub assumed: Option<&'a str>,
 }
 
-/// `agcws run [--end] [--progress] [--until-idle | --notes [--json]] .. SRC FEED N`.
+/// `agcws run [--end] [--progress] [--until-idle | --notes [--json]] .. SRC FEED N`, or `agcws run --flight --holes
+/// [--end] SRC FEED N`.
 #[derive(Clone, Copy)]
 pub struct RunArguments<'a> {
     /// What is run.
@@ -135,6 +136,8 @@ pub struct RunArguments<'a> {
     pub steps: u64,
     /// `--until-idle`: whether fewer steps are made where the program idles before.
     pub until_idle: bool,
+    /// `--holes`: whether lines of the interpretive language are holes, before which it stops.
+    pub has_holes: bool,
     /// `--end`: whether it is told how the run has ended.
     pub tells_end: bool,
     /// `--progress`: whether it is told how many steps are made.

@@ -164,6 +164,7 @@ fn run<'a>(matches: &ArgMatches<'a>) -> Option<RunArguments<'a>> {
         program: program(matches)?,
         steps: matches.get_one(STEPS)?,
         until_idle: matches.get_flag(UNTIL_IDLE),
+        has_holes: matches.get_flag(WITH_HOLES),
         tells_end: matches.get_flag(END),
         tells_progress: matches.get_flag(PROGRESS),
         tells_notes: matches.get_flag(NOTES),

@@ -33,6 +33,11 @@ with the cycles in decimal, and the channel and the word in octal.
 With --until-idle the run ends after a step where all is, but for the cycles,
 as after the last step before whose number is a power of two, no input is to
 come since then and nothing was put out: the same loop goes on for ever.
+With --flight --holes lines of the interpretive language are holes, as with
+agcws asm --holes. The run stops before a step that would execute the word of a
+hole, or enter an interrupt that keeps it: with status 1, and a line to standard
+error of the step, and the hole's row in the listing, as
+  agcws: HOLE AT STEP 4:     5 02,4003 00000   OCT 0 #  VLOAD UNIT
 With --end, when all steps are made, also one line to standard error, as
   END STEPS 4 CYCLES 7 OUTPUTS 1 Z 4004
 with the lines written as OUTPUTS, and in octal Z, where the program stands.
@@ -73,7 +78,7 @@ stands for the place.
 
 Exit status:
   0  done
-  1  the source, or the image, or the feed is refused
+  1  the source, or the image, or the feed is refused, or the run stops at a hole
   2  the command line is wrong
   3  a file, a device or memory failed
 Status 1 and 3 print one line to standard error, as agcws: E14 LINE 9. What the

@@ -1,9 +1,9 @@
 //! The subcommands of runs, and their arguments.
 
 use crate::names::{
-    ACCESS, BOUND, COVER, DEBUG, DELAYS, DIFFER, END, EXTENDED, FROM, JSON, KEPT, LOOPS, NOTES,
-    PLACE, REACH, READS, ROUTINE, RUN, RUN_FEED, RUN_STEPS, SAY, TO, TRACE, TRIALS, UNTIL_IDLE,
-    WHATIF, WHY, WITH,
+    ACCESS, BOUND, COVER, DEBUG, DELAYS, DIFFER, END, EXTENDED, FLIGHT, FROM, JSON, KEPT, LOOPS,
+    NOTES, PLACE, PROGRESS, REACH, READS, ROUTINE, RUN, RUN_FEED, RUN_STEPS, SAY, TO, TRACE, TRIALS,
+    UNTIL_IDLE, WHATIF, WHY, WITH, WITH_HOLES,
 };
 use crate::row::{Row, Subcommand, Value};
 use crate::rows::{
@@ -26,7 +26,7 @@ pub fn run() -> Subcommand {
     }
 }
 
-static RUN_ROWS: [Row; 13] = [
+static RUN_ROWS: [Row; 14] = [
     FLIGHT_OF_PROGRAM,
     IMAGE_OPTION,
     VERSION_OF_PROGRAM,
@@ -39,6 +39,14 @@ static RUN_ROWS: [Row; 13] = [
         name: UNTIL_IDLE,
         long: Some("until-idle"),
         help: "Ends the run where the program idles, if it does before",
+        ..FLAG
+    },
+    Row {
+        name: WITH_HOLES,
+        long: Some("holes"),
+        needs: &[FLIGHT],
+        conflicts: &[UNTIL_IDLE, NOTES, PROGRESS],
+        help: "Interpretive lines are holes, and stop the run",
         ..FLAG
     },
     Row {

@@ -1,3 +1,4 @@
 pub mod HoleLines
 pub mod Holes
 pub mod HoleLaws
+pub mod HoleRuns

@@ -49,8 +49,8 @@ fn fill_place(words: &mut Rope, other: &Rope, from: &Rope, bank: Bank, offset: O
     }
 }
 
-// Whether a place is a hole.
-fn is_hole_at(words: &Rope, other: &Rope, bank: Bank, offset: Offset) -> bool
+/// Whether a place is a hole.
+pub(crate) fn is_hole_at(words: &Rope, other: &Rope, bank: Bank, offset: Offset) -> bool
     ensures { result ≡ is_hole_at words.now other.now bank offset }
 {
     words.has(bank, offset) && words.word(bank, offset) != other.word(bank, offset)

@@ -1,6 +1,6 @@
 //! Lines of the interpretive language in a flight source: each is a word at a place, which is not made. The source is
 //! assembled with a word of its own in place of each, and the places of these words, the holes, may take their words
-//! from another fixed memory.
+//! from another fixed memory. A run may be made up to the first hole.
 #![tactic(auto)]
 
 mod filling;
@@ -8,8 +8,10 @@ mod hole_lines;
 mod hole_rows;
 pub mod laws;
 mod program;
+mod run_to_hole;
 mod source;
 
 pub use filling::filled;
 pub use hole_rows::write_holes;
 pub use program::{assemble_as, assemble_with_holes};
+pub use run_to_hole::{FoundHole, first_hole, write_hole};

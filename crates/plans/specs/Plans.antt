@@ -120,6 +120,7 @@ run_of a = with_steps a.steps (Run (record {
   program = program_of a.program;
   steps = a.steps;
   until_idle = a.until_idle;
+  has_holes = a.has_holes;
   tells_progress = a.tells_progress;
   tells_notes = a.tells_notes;
   notation = notation_of a.is_json;

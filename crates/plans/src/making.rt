@@ -151,6 +151,7 @@ fn run<'a>(asked: RunArguments<'a>) -> Plan<'a>
             program: program(asked.program),
             steps,
             until_idle: asked.until_idle,
+            has_holes: asked.has_holes,
             tells_progress: asked.tells_progress,
             tells_notes: asked.tells_notes,
             notation: notation(asked.is_json),

@@ -202,6 +202,8 @@ pub struct Run<'a> {
     pub steps: Steps,
     /// Whether fewer are made where the program idles before.
     pub until_idle: bool,
+    /// Whether lines of the interpretive language are holes, and fewer are made where one would be executed.
+    pub has_holes: bool,
     /// Whether it is told how many steps are made.
     pub tells_progress: bool,
     /// Whether it is told what is seldom meant.

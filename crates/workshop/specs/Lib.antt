@@ -10,6 +10,7 @@ pub mod DifferRuns
 pub mod Checks
 pub mod Crossing
 pub mod Holed
+pub mod HoledRuns
 pub mod Debugging
 pub mod Executed
 pub mod Expectations

@@ -164,6 +164,7 @@ pub(crate) fn run<W: Write, T: Write>(
     requires { steps ≤ 2 ^ 40 - 2 }
     ensures makes { Makes processor.old.scenario steps
         (writer W.told W.written W.failures out.old) (writer W.told W.written W.failures out.new) result }
+    ensures scenario { OnOk result (processor.new.scenario ≡ processor.old.scenario) }
     ensures handed_on { W.told ≡ true → 0 < steps → OnOk result (W.handed_on out.new ≡ W.written out.new) }
     ensures progress { TellsWritten (run_text processor.old.scenario) steps
         (telling (writer W.told W.written W.failures out.old) (writer T.told T.written T.failures progress.old))

@@ -20,6 +20,7 @@ mod executed;
 mod expecting;
 mod fault;
 mod holed;
+mod holed_run;
 mod idling;
 mod inputs;
 pub mod laws;
@@ -64,6 +65,7 @@ pub use faults::{
     warning_explanation, warning_of,
 };
 pub use holed::{asm_filled_with_check_words, asm_with_holes};
+pub use holed_run::{HoledSummary, run_to_hole};
 pub use idling::run_until_idle;
 pub use naming::{named_source_engine, read_names};
 pub use noting::run_with_notes;
