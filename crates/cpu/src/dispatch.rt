@@ -4,6 +4,7 @@ ghost use Rattle.std.specs.Prelude.{◌≡◌, ◌<◌, ◌/◌, ◌^◌, true, 
 ghost use Rattle.cpu.specs.Codes.{code_of, operand_of, is_apart};
 ghost use Rattle.cpu.specs.Bursts.{is_sure};
 ghost use Rattle.cpu.specs.declared.instruction.Instruction.{Instruction};
+ghost use Rattle.cpu.specs.declared.dispatch.TheConstants.{BASIC};
 
 use crate::instruction::Instruction;
 use crate::instruction::Instruction::{
@@ -15,7 +16,7 @@ use crate::instruction::Instruction::{
 /// How many words an entry of a table serves.
 const SERVED: u16 = 0o1000;
 
-/// What words are where extracode is not in force, but for the four that are set apart.
+/// What words are where extracode is not in force, but for the four that are set apart. `basic_by_digits` says the same.
 const BASIC: [Instruction; 64] = [
     Tc, Tc, Tc, Tc, Tc, Tc, Tc, Tc, Ccs, Ccs, Tcf, Tcf, Tcf, Tcf, Tcf, Tcf, Das, Das, Lxch, Lxch,
     Incr, Incr, Ads, Ads, Ca, Ca, Ca, Ca, Ca, Ca, Ca, Ca, Cs, Cs, Cs, Cs, Cs, Cs, Cs, Cs, Index,
@@ -30,6 +31,17 @@ const EXTRACODES: [Instruction; 64] = [
     Dcs, Dcs, Dcs, Dcs, Dcs, Index, Index, Index, Index, Index, Index, Index, Index, Su, Su, Bzmf,
     Bzmf, Bzmf, Bzmf, Bzmf, Bzmf, Mp, Mp, Mp, Mp, Mp, Mp, Mp, Mp,
 ];
+
+// The instruction of a number, where each number has an arm of its own: LLVM makes one jump of this `match` and of one on
+// the instruction, which a table or several numbers in an arm do not let it do.
+macro_rules! instruction_by_number {
+    ($number:expr; $($($each:literal)+ => $instruction:ident,)+) => {
+        match $number {
+            $($($each => $instruction,)+)+
+            _ => unreachable!(),
+        }
+    };
+}
 
 /// The instruction that a word is, under extracode or not.
 #[inline(always)]
@@ -77,7 +89,32 @@ pub(crate) fn basic_entry(word: u16) -> Instruction
     ensures sure { is_sure result ≡ true → result ≡ (code_of false word).instruction }
     ensures operand { is_sure result ≡ true → operand_of result word ≡ (code_of false word).operand }
 {
-    entry(&BASIC, word)
+    basic_by_digits(word / SERVED)
+}
+
+/// The same, by the first two octal digits of a word.
+#[inline(always)]
+fn basic_by_digits(digits: u16) -> Instruction
+    requires { digits < 0o100 }
+    ensures { (d : Instruction) → result ≡ get_or BASIC digits d }
+{
+    instruction_by_number! { digits;
+        0o00 0o01 0o02 0o03 0o04 0o05 0o06 0o07 => Tc,
+        0o10 0o11 => Ccs,
+        0o12 0o13 0o14 0o15 0o16 0o17 => Tcf,
+        0o20 0o21 => Das,
+        0o22 0o23 => Lxch,
+        0o24 0o25 => Incr,
+        0o26 0o27 => Ads,
+        0o30 0o31 0o32 0o33 0o34 0o35 0o36 0o37 => Ca,
+        0o40 0o41 0o42 0o43 0o44 0o45 0o46 0o47 => Cs,
+        0o50 0o51 => Index,
+        0o52 0o53 => Dxch,
+        0o54 0o55 => Ts,
+        0o56 0o57 => Xch,
+        0o60 0o61 0o62 0o63 0o64 0o65 0o66 0o67 => Ad,
+        0o70 0o71 0o72 0o73 0o74 0o75 0o76 0o77 => Mask,
+    }
 }
 
 /// The instruction that a word is under extracode.

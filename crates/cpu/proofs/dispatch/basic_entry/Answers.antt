@@ -11,7 +11,7 @@ use Rattle.cpu.proofs.dispatch.basic_entry.Goals as goal
 pub returns-clause-entry : goal.returns-clause-entry
 unfolding code_of rows_serving basic_rows
 returns-clause-entry c whole =
-    c.entry.ensures Tc ∙ entry is_apart BASIC basic_rows c.args.word (
+    c.basic_by_digits.ensures Tc ∙ entry is_apart BASIC basic_rows c.args.word (
       (λ _. refl, tt),
       (
         tt,
@@ -86,16 +86,16 @@ returns-clause-entry c whole =
     ) whole (one_row false c.args.word c.requires) Tc
 
 pub returns-clause-relint : goal.returns-clause-relint
-returns-clause-relint c is = c.entry.ensures Tc ∙ ap (λ w. get_or BASIC (w / 512) Tc) is
+returns-clause-relint c is = c.basic_by_digits.ensures Tc ∙ ap (λ w. get_or BASIC (w / 512) Tc) is
 
 pub returns-clause-inhint : goal.returns-clause-inhint
-returns-clause-inhint c is = c.entry.ensures Tc ∙ ap (λ w. get_or BASIC (w / 512) Tc) is
+returns-clause-inhint c is = c.basic_by_digits.ensures Tc ∙ ap (λ w. get_or BASIC (w / 512) Tc) is
 
 pub returns-clause-extend : goal.returns-clause-extend
-returns-clause-extend c is = c.entry.ensures Tc ∙ ap (λ w. get_or BASIC (w / 512) Tc) is
+returns-clause-extend c is = c.basic_by_digits.ensures Tc ∙ ap (λ w. get_or BASIC (w / 512) Tc) is
 
 pub returns-clause-resume : goal.returns-clause-resume
-returns-clause-resume c is = c.entry.ensures Tc ∙ ap (λ w. get_or BASIC (w / 512) Tc) is
+returns-clause-resume c is = c.basic_by_digits.ensures Tc ∙ ap (λ w. get_or BASIC (w / 512) Tc) is
 
 clash : (i j : Instruction) → is_sure i ≡ true → i ≡ j → is_sure j ≡ false → ⊥
 clash i j sure same unsure = let both : true ≡ false = sym sure ∙ ap is_sure same ∙ unsure in absurd (cc)
