@@ -96,19 +96,24 @@ impl Calls {
         !self.marked[usize::from(machine.reg(Eras::Z).to_u16() % 0o400)]
     }
 
-    /// Ends the first that returns to a place, which is answered, and all that it made.
+    /// Ends the first that returns to a place, which is answered, and all that it made. Marks that calls have left are
+    /// taken away where none returns, for one of them told that some may.
     pub(crate) fn leave(&mut self, place: &Linear) -> Option<Call>
         ensures call { result ≡ returned place.now self.old }
         ensures rest { self.new ≡ without place.now self.old }
     {
         let count = depth(self.calls.as_slice(), place);
-        let call = match self.calls.as_slice().get(count) {
-            Some(call) => Some(*call),
-            None => None,
-        };
-        self.calls.truncate(count);
-        self.marked = marked_by(self.calls.as_slice());
-        call
+        match self.calls.as_slice().get(count) {
+            Some(call) => {
+                let call = *call;
+                self.calls.truncate(count);
+                Some(call)
+            }
+            None => {
+                self.marked = marked_by(self.calls.as_slice());
+                None
+            }
+        }
     }
 }
 

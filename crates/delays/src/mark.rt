@@ -97,3 +97,20 @@ pub(crate) fn better(best: &Best, stretch: &Stretch) -> Best
         },
     }
 }
+
+/// The same in its place: the longest, two moments, is written where another comes.
+pub(crate) fn improve(best: &mut Best, stretch: &Stretch)
+    requires { best.old.count ≤ 2 ^ 62 }
+    ensures { best.new ≡ better best.old stretch.now }
+{
+    let cycles = cycles_of(stretch);
+    let is_first = best.count == 0;
+    best.count += 1;
+    best.total = best.total.saturating_add(cycles);
+    if is_first || cycles < best.least {
+        best.least = cycles;
+    }
+    if is_first || cycles_of(&best.longest) < cycles {
+        best.longest = *stretch;
+    }
+}

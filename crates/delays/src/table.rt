@@ -3,7 +3,7 @@
 ghost use Rattle.std.specs.Prelude.{◌≡◌, ◌<◌, ◌≤◌, ◌^◌, IfOk, get_or, length, replicate, set, true};
 ghost use Rattle.delays.specs.Stretches.{better, no_best};
 
-use crate::mark::{Best, NO_BEST, Stretch, better};
+use crate::mark::{Best, NO_BEST, Stretch, improve};
 use std::alloc::{AllocError, Global};
 use std::marker::Model;
 
@@ -54,6 +54,6 @@ impl Table {
         requires small { (get_or self.old row no_best).count ≤ 2 ^ 62 }
         ensures { self.new ≡ set self.old row (better (get_or self.old row no_best) stretch.now) }
     {
-        self.bests[row] = better(&self.bests[row], stretch);
+        improve(&mut self.bests[row], stretch);
     }
 }
