@@ -9,7 +9,7 @@ use Rattle.cpu.specs.State.{Scenario}
 use Rattle.symbols.specs.Values.{SymbolTable}
 use Rattle.yayul.specs.Named.{named_places}
 use Rattle.yayul.specs.Program.{Program, Source}
-use Rattle.note_trials.specs.Here.{noted_here}
+use Rattle.whatif.specs.NotedHere.{noted_here}
 use Rattle.replay.specs.Memory.{step_limit}
 use Rattle.whatif.specs.Here.{here_text}
 use Rattle.whatif.specs.Restarts.{restarts_text}

@@ -10,7 +10,7 @@ ghost use Rattle.replay.specs.View.{HasShown};
 ghost use Rattle.debugger.specs.Executions.{HasLooked, Replies, desk};
 ghost use Rattle.debugger.specs.WhatIfs.{begins_at, is_full, noted_from, program_of, tried_text, tries, tries_from};
 ghost use Rattle.debugger.specs.WhatIfs.{whatif_text};
-ghost use Rattle.note_trials.specs.Here.{noted_here};
+ghost use Rattle.whatif.specs.NotedHere.{noted_here};
 ghost use Rattle.yayul.specs.Named.{named_places};
 
 use crate::desk::Desk;
@@ -18,11 +18,10 @@ use crate::texts::text_line;
 use commands::{Extent, Trial};
 use cpu::{Machine, Processor};
 use feed::Input;
-use note_trials::note_steps;
 use replay::{Keeper, STEP_LIMIT, Session};
 use std::alloc::Global;
 use symbols::Symbols;
-use whatif::{TrialFault, TrialsTold, try_restarts, try_steps};
+use whatif::{TrialFault, TrialsTold, note_steps, try_restarts, try_steps};
 use words::{Buffer, Write, WriteFailed, write_all};
 use yayul::SourceRows;
 

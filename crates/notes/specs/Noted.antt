@@ -1,5 +1,5 @@
 -- Which notes some steps of a run have: what happens in them, each kind at each place once, in the order in which they come.
-use Rattle.std.specs.Prelude.{ℕ, zero, suc, ◌*◌, ◌==◌, ◌&&◌, nat_lt, Bool, true, false, List, [], ◌∷◌, ◌++◌, Option, Some, None}
+use Rattle.std.specs.Prelude.{ℕ, ◌*◌, ◌==◌, ◌&&◌, Bool, true, false, List, [], ◌∷◌, ◌++◌, Option, Some, None}
 use Rattle.std.specs.Prelude.{if◌then◌else◌}
 use Rattle.std.specs.List.{list_any}
 use Rattle.space.specs.Places.{same_place}
@@ -10,7 +10,6 @@ use Rattle.yayul.specs.Named.{Named}
 use Rattle.cpu.specs.declared.next_step.NextStep.{NextStep}
 use Rattle.cpu.specs.declared.next_step.NextStep.TheVariants.{Takes, Enters, Executes}
 use Rattle.cpu.specs.NextStep.{next_step}
-use Rattle.cpu.specs.Run.{run}
 use Rattle.cpu.specs.State.{State, Scenario}
 use Rattle.notes.specs.declared.kind.Kind.{Kind}
 use Rattle.notes.specs.declared.kind.Kind.TheVariants.{Quotient, Skip, NoWord, InErasable, NoHandler, OtherBank, NotKept, MinusZero}
@@ -85,9 +84,3 @@ noted_by named rope s step a = record { past = past_by s a.past step; notes = st
 
 abbrev pub noted_more : Named → Scenario → State → Noted → Noted
 noted_more named scenario s a = noted_by named scenario.rope s (next_step scenario s) a
-
--- n steps, of which those after so many are looked at, as if none were before them
-unfoldable pub noted : Named → ℕ → Scenario → ℕ → Noted
-noted named from scenario zero = nothing_noted
-noted named from scenario (suc n) =
-    if nat_lt n from then nothing_noted else noted_more named scenario (run scenario n) (noted named from scenario n)

@@ -1,15 +1,16 @@
 mod Writing
 mod Same
 mod Stray
-pub mod Alike
+mod Alike
 mod Finding
-pub mod OneMore
-pub mod Steps
-pub mod Given
-pub mod Rising
+mod OneMore
+mod Steps
+mod Given
+mod Rising
 mod Told
+mod NotedTold
 mod Words
 mod Rows
-pub mod Stepwise
-pub mod Holding
+mod Stepwise
+mod Holding
 mod Restarting

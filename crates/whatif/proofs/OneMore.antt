@@ -11,16 +11,12 @@ use Rattle.feed.specs.declared.entry.Plain.{Plain}
 use Rattle.feed.specs.declared.input.Input.{Input}
 use Rattle.cpu.specs.Run.{run}
 use Rattle.cpu.specs.State.{Scenario, State}
-use Rattle.space.specs.Cells.{Cells}
-use Rattle.whatif.specs.declared.finish.Finish.{Finish}
-use Rattle.whatif.specs.declared.sent.Sent.{Sent}
-use Rattle.whatif.specs.Finishes.{finish, finish_of}
-use Rattle.whatif.specs.Outcomes.{Outcome, outcome}
+use Rattle.whatif.specs.Looked.{More, came, looked}
 use Rattle.whatif.specs.Trials.{AreSameBelow, BeginsBefore, IsBefore, line_above, tried}
 use Rattle.whatif.proofs.Given.{due_beside}
-use Rattle.whatif.proofs.Alike.{AreGivenSame, outcomes_alike, runs_alike}
+use Rattle.whatif.proofs.Alike.{AreGivenSame, looked_alike, runs_alike}
 
-pub above_all : (list : List Entry) → LinesBelow list (line_above list)
+above_all : (list : List Entry) → LinesBelow list (line_above list)
 above_all [] x among = absurd among
 above_all (e ∷ more) x (inl is) = let same : e.line ≡ x.line = ap (λ (z : Entry). z.line) is in omega (arith, same)
 above_all (e ∷ more) x (inr later) = omega (arith, above_all more x later)
@@ -57,7 +53,7 @@ inserted_alone : (e : Entry) → inserted e [] ≡ e ∷ []
 unfolding inserted
 inserted_alone e = refl
 
-pub due_same : (list : List Entry) (l m c : ℕ) (x : Input) → LinesBelow list l → LinesBelow list m → (k cycles : ℕ)
+due_same : (list : List Entry) (l m c : ℕ) (x : Input) → LinesBelow list l → LinesBelow list m → (k cycles : ℕ)
     → due (inserted (plain_on l c x) list) k cycles ≡ due (inserted (plain_on m c x) list) k cycles
 due_same [] l m c x below above k cycles = rw (inserted_alone (plain_on l c x), inserted_alone (plain_on m c x))
     (due_first l m c x [] k cycles)
@@ -74,26 +70,26 @@ due_same (y ∷ ys) l m c x below above k cycles =
     ]
 
 -- what runs, with other inputs
-pub with_inputs : (scenario fork : Scenario) → fork.rope ≡ scenario.rope → fork ≡ record scenario { inputs = fork.inputs }
+with_inputs : (scenario fork : Scenario) → fork.rope ≡ scenario.rope → fork ≡ record scenario { inputs = fork.inputs }
 with_inputs scenario fork rope = ap (λ r. record { rope = r; inputs = fork.inputs }) rope
 
-pub given_tried : (scenario fork : Scenario) (t : Plain) → AddsLast scenario.inputs t.cycle t.input fork.inputs → (k cycles : ℕ)
+given_tried : (scenario fork : Scenario) (t : Plain) → AddsLast scenario.inputs t.cycle t.input fork.inputs → (k cycles : ℕ)
     → due fork.inputs k cycles ≡ due (tried scenario t).inputs k cycles
 unfolding tried
 given_tried scenario fork t adds k cycles = rw adds.new_is
     (due_same scenario.inputs adds.line (line_above scenario.inputs) t.cycle t.input adds.after (above_all scenario.inputs) k cycles)
 
-pub tried_rope : (scenario : Scenario) (t : Plain) → (tried scenario t).rope ≡ scenario.rope
+tried_rope : (scenario : Scenario) (t : Plain) → (tried scenario t).rope ≡ scenario.rope
 unfolding tried
 tried_rope scenario t = refl
 
--- with one input more the run comes out as it does with the trial
-outcome_of_trial : (base : List Sent) (from : ℕ) (scenario fork : Scenario) (t : Plain) (n : ℕ) → fork.rope ≡ scenario.rope
-    → AddsLast scenario.inputs t.cycle t.input fork.inputs
-    → outcome base from fork n ≡ outcome base from (tried scenario t) n
-outcome_of_trial base from scenario fork t n rope adds =
+-- with one input more the run is seen as it is with the trial
+looked_of_trial : {A : Type 0} (begun : A) (more : More A) (from : ℕ) (scenario fork : Scenario) (t : Plain) (n : ℕ)
+    → fork.rope ≡ scenario.rope → AddsLast scenario.inputs t.cycle t.input fork.inputs
+    → looked begun more from fork n ≡ looked begun more from (tried scenario t) n
+looked_of_trial begun more from scenario fork t n rope adds =
     rw (with_inputs (tried scenario t) fork (rope ∙ sym (tried_rope scenario t)))
-    (outcomes_alike base from (tried scenario t) fork.inputs n
+    (looked_alike begun more from (tried scenario t) fork.inputs n
     (λ j less. given_tried scenario fork t adds (run (tried scenario t) j).taken (run (tried scenario t) j).cycles))
 
 run_of_trial : (scenario fork : Scenario) (t : Plain) (n : ℕ) → fork.rope ≡ scenario.rope
@@ -103,13 +99,13 @@ run_of_trial scenario fork t n rope adds =
     (runs_alike (tried scenario t) fork.inputs n (λ j less. given_tried scenario fork t adds (run (tried scenario t) j).taken
     (run (tried scenario t) j).cycles))
 
-pub finishes_as_trial : (base : List Sent) (without : Cells) (from : ℕ) (scenario fork : Scenario) (t : Plain) (n : ℕ) (s : State)
-    (a : Outcome) (r : Finish) → fork.rope ≡ scenario.rope
-    → AddsLast scenario.inputs t.cycle t.input fork.inputs → s ≡ run fork n → a ≡ outcome base from fork n → r ≡ finish_of without s a
-    → r ≡ finish base without from (tried scenario t) n
-finishes_as_trial base without from scenario fork t n s a r rope adds at_end of is =
-    is ∙ ap (λ u. finish_of without u a) (at_end ∙ run_of_trial scenario fork t n rope adds)
-    ∙ ap (λ b. finish_of without (run (tried scenario t) n) b) (of ∙ outcome_of_trial base from scenario fork t n rope adds)
+pub came_as_trial : {A C : Type 0} (comes : State → A → C) (begun : A) (more : More A) (from : ℕ) (scenario fork : Scenario) (t : Plain)
+    (n : ℕ) (s : State) (a : A) (r : C)
+    → fork.rope ≡ scenario.rope → AddsLast scenario.inputs t.cycle t.input fork.inputs → s ≡ run fork n → a ≡ looked begun more from fork n
+    → r ≡ comes s a → r ≡ came comes begun more from (tried scenario t) n
+came_as_trial comes begun more from scenario fork t n s a r rope adds at_end of is =
+    is ∙ ap (λ u. comes u a) (at_end ∙ run_of_trial scenario fork t n rope adds)
+    ∙ ap (λ b. comes (run (tried scenario t) n) b) (of ∙ looked_of_trial begun more from scenario fork t n rope adds)
 
 given_at : (scenario : Scenario) (other : List Entry) (j cycle : ℕ) (input : Input) → AreSameBelow cycle scenario.inputs other
     → AddsLast scenario.inputs cycle input other → BeginsBefore scenario (run scenario j) cycle
@@ -117,26 +113,26 @@ given_at : (scenario : Scenario) (other : List Entry) (j cycle : ℕ) (input : I
 given_at scenario other j cycle input same adds (inl below) = same (run scenario j).taken (run scenario j).cycles below
 given_at scenario other j cycle input same adds (inr given) = due_beside scenario other j cycle input adds given.0 given.1
 
-pub given_before : (scenario : Scenario) (other : List Entry) (n cycle : ℕ) (input : Input) → AreSameBelow cycle scenario.inputs other
+given_before : (scenario : Scenario) (other : List Entry) (n cycle : ℕ) (input : Input) → AreSameBelow cycle scenario.inputs other
     → AddsLast scenario.inputs cycle input other → IsBefore scenario n cycle
     → AreGivenSame scenario other n
 given_before scenario other n cycle input same adds before j less = given_at scenario other j cycle input same adds (before j less)
 
 -- up to where it parts from the run without it, it is that
-pub run_before : (scenario fork : Scenario) (n cycle : ℕ) (input : Input) (s : State) → fork.rope ≡ scenario.rope
+run_before : (scenario fork : Scenario) (n cycle : ℕ) (input : Input) (s : State) → fork.rope ≡ scenario.rope
     → AreSameBelow cycle scenario.inputs fork.inputs → AddsLast scenario.inputs cycle input fork.inputs → IsBefore scenario n cycle
     → s ≡ run scenario n → s ≡ run fork n
 run_before scenario fork n cycle input s rope same adds before is =
     rw (with_inputs scenario fork rope) (is ∙ sym
     (runs_alike scenario fork.inputs n (given_before scenario fork.inputs n cycle input same adds before)))
 
-pub outcome_before : (base : List Sent) (from : ℕ) (scenario fork : Scenario) (n cycle : ℕ) (input : Input) (a : Outcome)
+looked_before : {A : Type 0} (begun : A) (more : More A) (from : ℕ) (scenario fork : Scenario) (n cycle : ℕ) (input : Input) (a : A)
     → fork.rope ≡ scenario.rope → AreSameBelow cycle scenario.inputs fork.inputs → AddsLast scenario.inputs cycle input fork.inputs
     → IsBefore scenario n cycle
-    → a ≡ outcome base from scenario n → a ≡ outcome base from fork n
-outcome_before base from scenario fork n cycle input a rope same adds before is =
+    → a ≡ looked begun more from scenario n → a ≡ looked begun more from fork n
+looked_before begun more from scenario fork n cycle input a rope same adds before is =
     rw (with_inputs scenario fork rope) (is ∙ sym
-    (outcomes_alike base from scenario fork.inputs n (given_before scenario fork.inputs n cycle input same adds before)))
+    (looked_alike begun more from scenario fork.inputs n (given_before scenario fork.inputs n cycle input same adds before)))
 
 -- a copy of what stands before a trial, where this parts
 pub state_at : (scenario fork : Scenario) (n m cycle : ℕ) (input : Input) (s t : State) → fork.rope ≡ scenario.rope
@@ -145,9 +141,9 @@ pub state_at : (scenario fork : Scenario) (n m cycle : ℕ) (input : Input) (s t
 state_at scenario fork n m cycle input s t rope same adds before is copied at = rw at
     (copied ∙ run_before scenario fork n cycle input s rope same adds before is)
 
-pub outcome_at : (base : List Sent) (from start : ℕ) (scenario fork : Scenario) (n m cycle : ℕ) (input : Input) (a b : Outcome)
-    → fork.rope ≡ scenario.rope → AreSameBelow cycle scenario.inputs fork.inputs → AddsLast scenario.inputs cycle input fork.inputs
-    → IsBefore scenario n cycle
-    → a ≡ outcome base from scenario n → b ≡ a → start ≡ from → m ≡ n → b ≡ outcome base start fork m
-outcome_at base from start scenario fork n m cycle input a b rope same adds before is copied first at = rw (first, at)
-    (copied ∙ outcome_before base from scenario fork n cycle input a rope same adds before is)
+pub looked_at : {A : Type 0} (begun : A) (more : More A) (from start : ℕ) (scenario fork : Scenario) (n m cycle : ℕ) (input : Input)
+    (a b : A) → fork.rope ≡ scenario.rope → AreSameBelow cycle scenario.inputs fork.inputs
+    → AddsLast scenario.inputs cycle input fork.inputs → IsBefore scenario n cycle
+    → a ≡ looked begun more from scenario n → b ≡ a → start ≡ from → m ≡ n → b ≡ looked begun more start fork m
+looked_at begun more from start scenario fork n m cycle input a b rope same adds before is copied first at = rw (first, at)
+    (copied ∙ looked_before begun more from scenario fork n cycle input a rope same adds before is)

@@ -1,5 +1,5 @@
 -- Runs that go on from a restart, and the restarts that are left.
-use Rattle.std.proofs.Common.{◌≡◌, ℕ, zero, suc, ◌+◌, ◌-◌, ◌*◌, ◌^◌, ◌<◌, ◌≤◌, List, [], ◌∷◌, ◌++◌, Option, Some, None, refl, sym, ap, ◌∙◌}
+use Rattle.std.proofs.Common.{◌≡◌, ℕ, zero, suc, ◌+◌, ◌-◌, ◌*◌, ◌^◌, ◌<◌, ◌≤◌, List, [], ◌∷◌, ◌++◌, None, refl, sym, ap, ◌∙◌}
 use Rattle.std.proofs.Common.{add-one, arith}
 use Rattle.space.specs.Cells.{Cells}
 use Rattle.cpu.specs.Next.{next}
@@ -9,15 +9,13 @@ use Rattle.cpu.specs.State.{FitsRun, Scenario, State}
 use Rattle.cpu.proofs.RunLaws.{cycles-next, cycles-run}
 use Rattle.cpu.proofs.TakenLaws.{fits-next, run-fits}
 use Rattle.whatif.specs.declared.finish.Finish.{Finish}
-use Rattle.whatif.specs.declared.others.Telling.{Telling}
 use Rattle.whatif.specs.declared.sent.Sent.{Sent}
-use Rattle.whatif.specs.declared.span.Span.{Span}
 use Rattle.whatif.specs.Finishes.{finish_of}
 use Rattle.whatif.specs.Here.{own_steps}
 use Rattle.whatif.specs.Outcomes.{Outcome, outcome, seen}
 use Rattle.whatif.specs.Restarts.{finish_restarted, on_from, outcome_on, restart_after, restart_telling, restarted_at, restarts_after}
 use Rattle.whatif.specs.Restarts.{restarts_text}
-use Rattle.whatif.specs.Spans.{closed, open_text, opened, spans_text, without_text}
+use Rattle.whatif.specs.Spans.{spans_text, without_text}
 
 -- ## Steps on from a state
 pub on_none : (scenario : Scenario) (s : State) → s ≡ on_from scenario s 0
@@ -114,24 +112,6 @@ pub all_restarts : (base : List Sent) (without : Cells) (from : ℕ) (scenario :
 all_restarts base without from scenario steps first all further none =
     ap (λ at. Left base without from scenario steps at all) (omega (arith, none))
     ∙ ap (λ n. Left base without from scenario steps (first + further) n) (omega (arith, none))
-
--- what is told of those that are left, of which this is the next
-pub restart_told : (told : Telling) (pending : Option Span) (left more : List (ℕ × Finish)) (cycle : ℕ) (a : Finish)
-    (tried : ℕ × Finish) → left ≡ tried ∷ more → cycle ≡ tried.0 → a ≡ tried.1
-    → spans_text told pending left ≡ closed told pending cycle a ++ spans_text told (Some (opened told pending cycle a)) more
-unfolding spans_text
-restart_told told pending left more cycle a tried is at out = rw (is, at, out) refl
-
-pub restart_span : (told : Telling) (pending : Option Span) (left more : List (ℕ × Finish)) (cycle : ℕ) (a : Finish)
-    (tried : ℕ × Finish) (span : Span) → left ≡ tried ∷ more → cycle ≡ tried.0 → a ≡ tried.1 → span ≡ opened told pending cycle a
-    → spans_text told pending left ≡ closed told pending cycle a ++ spans_text told (Some span) more
-restart_span told pending left more cycle a tried span is at out made = rw made
-    (restart_told told pending left more cycle a tried is at out)
-
-pub none_left : (told : Telling) (pending : Option Span) (left : List (ℕ × Finish)) → left ≡ []
-    → spans_text told pending left ≡ open_text told pending
-unfolding spans_text
-none_left told pending left is = rw is refl
 
 pub restarts_parts : (scenario : Scenario) (first more steps : ℕ) (s : State) (without : Outcome) → s ≡ run scenario steps
     → without ≡ outcome [] first scenario steps

@@ -12,7 +12,8 @@ use Rattle.space.specs.Places.{window}
 use Rattle.whatif.specs.declared.finish.Finish.{Finish}
 use Rattle.whatif.specs.declared.others.Others.TheVariants.{All, First}
 use Rattle.whatif.specs.declared.others.Telling.{Telling}
-use Rattle.whatif.specs.Spans.{end_line, one, span_line, spans_text, without_line}
+use Rattle.whatif.specs.Spans.{end_line, span_line, spans_text, without_line}
+use Rattle.whatif.specs.Together.{one, told_together}
 use Rattle.whatif.specs.Here.{most_steps, own_steps}
 use Rattle.whatif.specs.Trials.{are_rising, line_above}
 use Rattle.whatif.specs.declared.sent.Sent.{Sent}
@@ -81,7 +82,7 @@ abbrev at_5 : Outcome → Finish
 at_5 a = record { answer = a; place = Fixed 2 5; difference = None }
 
 alike : span_line to_the_end
-    (record { first = 850; last = 882; count = 33; finish = at_5 (record { alike = 13; others = []; strays = false }) })
+    (record { first = 850; last = 882; count = 33; came = at_5 (record { alike = 13; others = []; strays = false }) })
     ≡ codes "FROM 850 TO 882 COUNT 33 ALIKE 13 OTHERS 0\n"
 unfolding digits
 alike = refl
@@ -106,14 +107,14 @@ three_trials : spans_text to_the_end None
     ∷ (9, at_5 (record { alike = 0; others = six ∷ five ∷ []; strays = false })) ∷ [])
     ≡ (codes "FROM 7 TO 8 COUNT 2 ALIKE 1 OTHERS 0\nEND 02,4005\nFROM 9 TO 9 COUNT 1 ALIKE 0 OTHERS 2\nCH 010 00006\nCH 010 00005\nEND 02,"
     ++ codes "4005\n")
-unfolding spans_text place_text window octal_text digits
+unfolding told_together place_text window octal_text digits
 three_trials = refl
 
 -- of the other words the first
 first_alone : spans_text (record to_the_end { others = First }) None
     ((9, at_5 (record { alike = 0; others = six ∷ five ∷ []; strays = false })) ∷ [])
     ≡ codes "FROM 9 TO 9 COUNT 1 ALIKE 0 OTHERS 2\nCH 010 00006\nEND 02,4005\n"
-unfolding spans_text place_text window octal_text digits
+unfolding told_together place_text window octal_text digits
 first_alone = refl
 
 -- at the last cycle, and behind it, an input never comes
@@ -123,7 +124,7 @@ behind_the_end : spans_text to_the_end None
     ∷ (1001, at_5 (record { alike = 1; others = []; strays = false })) ∷ [])
     ≡ (codes "FROM 999 TO 999 COUNT 1 ALIKE 1 OTHERS 0\nEND 02,4005\nFROM 1000 TO 1001 COUNT 2 ALIKE 1 OTHERS 0 NEVER\nEND 02,4005"
     ++ codes "\n")
-unfolding spans_text place_text window octal_text digits
+unfolding told_together place_text window octal_text digits
 behind_the_end = refl
 
 -- ## Steps

@@ -1,60 +1,66 @@
 -- What is told of trials, one after another.
-use Rattle.std.proofs.Common.{◌≡◌, ℕ, ◌+◌, ◌<◌, ◌≤◌, List, [], ◌∷◌, ◌++◌, map, Option, Some, None, drop, length, refl, sym, ap, ◌∙◌, arith}
-use Rattle.std.proofs.Common.{inl, inr, append-nil}
+use Rattle.std.proofs.Common.{◌≡◌, ℕ, ◌+◌, ◌≤◌, List, [], ◌∷◌, ◌++◌, Option, Some, None, refl, arith, inl, inr}
 use Rattle.std.proofs.lemmas.Bool.{cases_Bool}
 use Rattle.feed.specs.declared.entry.Plain.{Plain}
-use Rattle.cpu.specs.State.{Scenario, State}
-use Rattle.whatif.specs.declared.sent.Sent.{Sent}
-use Rattle.whatif.specs.Outcomes.{Outcome, outcome}
-use Rattle.whatif.specs.declared.span.Span.{Span}
-use Rattle.whatif.specs.Spans.{closed, joins, number_of, one, open_text, opened, span_text, spans_text, telling, trials_text, without_text}
-use Rattle.space.specs.Cells.{Cells}
 use Rattle.cpu.specs.Run.{run}
-use Rattle.whatif.specs.declared.finish.Finish.{Finish}
+use Rattle.cpu.specs.State.{Scenario, State}
+use Rattle.notes.specs.declared.noted.Note.{Note}
+use Rattle.yayul.specs.Named.{Named}
 use Rattle.whatif.specs.declared.others.Others.{Others}
-use Rattle.whatif.specs.declared.others.Telling.{Telling}
-use Rattle.whatif.specs.Finishes.{finish}
-use Rattle.whatif.specs.Trials.{finishes, tried}
+use Rattle.whatif.specs.declared.span.Span.{Span}
+use Rattle.whatif.specs.Changes.{changes, notes_of}
+use Rattle.whatif.specs.Finishes.{finishes}
+use Rattle.whatif.specs.Looked.{More, all_came, came_with}
+use Rattle.whatif.specs.Outcomes.{Outcome, outcome}
+use Rattle.whatif.specs.Spans.{spans_text, telling, trials_text, without_text}
+use Rattle.whatif.specs.Together.{Joins, Tells, closed, number_of, open_text, opened, told_together}
 
-pub trial_told : (base : List Sent) (without : Cells) (from : ℕ) (scenario : Scenario) (steps : ℕ) (told : Telling) (pending : Option Span)
-    (left : List Plain) (t : Plain) (more : List Plain) (a : Finish)
-    → left ≡ t ∷ more → a ≡ finish base without from (tried scenario t) steps
-    → spans_text told pending (finishes base without from scenario steps left)
-    ≡ closed told pending t.cycle a
-    ++ spans_text told (Some (opened told pending t.cycle a)) (finishes base without from scenario steps more)
-unfolding spans_text
-trial_told base without from scenario steps told pending left t more a is of = rw (is, of) refl
+-- those that are left, of which this is the next
+pub next_told : {C : Type 0} (joins : Joins C) (tells : Tells C) (pending : Option (Span C)) (left more : List (ℕ × C)) (cycle : ℕ) (a : C)
+    (tried : ℕ × C) → left ≡ tried ∷ more → cycle ≡ tried.0 → a ≡ tried.1
+    → told_together joins tells pending left
+    ≡ closed joins tells pending cycle a ++ told_together joins tells (Some (opened joins pending cycle a)) more
+unfolding told_together
+next_told joins tells pending left more cycle a tried is at out = rw (is, at, out) refl
 
-pub last_told : (base : List Sent) (without : Cells) (from : ℕ) (scenario : Scenario) (steps : ℕ) (told : Telling) (pending : Option Span)
-    (left : List Plain) → left ≡ []
-    → spans_text told pending (finishes base without from scenario steps left) ≡ open_text told pending
-unfolding spans_text
-last_told base without from scenario steps told pending left is = rw is refl
+-- and the span that is then open
+pub span_told : {C : Type 0} (joins : Joins C) (tells : Tells C) (pending : Option (Span C)) (left more : List (ℕ × C)) (cycle : ℕ) (a : C)
+    (tried : ℕ × C) (span : Span C) → left ≡ tried ∷ more → cycle ≡ tried.0 → a ≡ tried.1 → span ≡ opened joins pending cycle a
+    → told_together joins tells pending left ≡ closed joins tells pending cycle a ++ told_together joins tells (Some span) more
+span_told joins tells pending left more cycle a tried span is at out made = rw made
+    (next_told joins tells pending left more cycle a tried is at out)
 
--- the span that is then open
-pub span_told : (base : List Sent) (without : Cells) (from : ℕ) (scenario : Scenario) (steps : ℕ) (told : Telling) (pending : Option Span)
-    (left : List Plain) (t : Plain) (more : List Plain) (a : Finish) (span : Span)
-    → left ≡ t ∷ more → a ≡ finish base without from (tried scenario t) steps → span ≡ opened told pending t.cycle a
-    → spans_text told pending (finishes base without from scenario steps left)
-    ≡ closed told pending t.cycle a ++ spans_text told (Some span) (finishes base without from scenario steps more)
-span_told base without from scenario steps told pending left t more a span is of made = rw made
-    (trial_told base without from scenario steps told pending
-    left t more a is of)
+pub none_left : {C : Type 0} (joins : Joins C) (tells : Tells C) (pending : Option (Span C)) (left : List (ℕ × C)) → left ≡ []
+    → told_together joins tells pending left ≡ open_text tells pending
+unfolding told_together
+none_left joins tells pending left is = rw is refl
+
+-- what is left of trials
+pub first_came : {A C : Type 0} (comes : State → A → C) (begun : A) (more : More A) (from : ℕ) (scenario : Scenario) (steps : ℕ)
+    (left : List Plain) (t : Plain) (then : List Plain) → left ≡ t ∷ then
+    → all_came comes begun more from scenario steps left
+    ≡ came_with comes begun more from scenario steps t ∷ all_came comes begun more from scenario steps then
+first_came comes begun more from scenario steps left t then is = rw is refl
+
+pub none_came : {A C : Type 0} (comes : State → A → C) (begun : A) (more : More A) (from : ℕ) (scenario : Scenario) (steps : ℕ)
+    (left : List Plain) → left ≡ [] → all_came comes begun more from scenario steps left ≡ []
+none_came comes begun more from scenario steps left is = rw is refl
 
 -- one trial more is open
-pub few_open : (told : Telling) (pending : Option Span) (cycle : ℕ) (a : Finish) (n : ℕ) → number_of pending ≤ n
-    → (opened told pending cycle a).count ≤ n + 1
-few_open told None cycle a n few = omega arith
-few_open told (Some span) cycle a n few =
-    elim (cases_Bool (joins told span cycle a)) [
+few_open : {C : Type 0} (joins : Joins C) (pending : Option (Span C)) (cycle : ℕ) (a : C) (n : ℕ) → number_of pending ≤ n
+    → (opened joins pending cycle a).count ≤ n + 1
+few_open joins None cycle a n few = omega arith
+few_open joins (Some span) cycle a n few =
+    elim (cases_Bool (joins span cycle a)) [
       | inl holds ↦ rw holds (omega (arith, few))
       | inr fails ↦ rw fails (omega arith)
     ]
 
-pub few_span : (told : Telling) (pending : Option Span) (cycle : ℕ) (a : Finish) (span : Span) (n : ℕ) → number_of pending ≤ n
-    → span ≡ opened told pending cycle a → span.count ≤ n + 1
-few_span told pending cycle a span n few made = rw made (few_open told pending cycle a n few)
+pub few_span : {C : Type 0} (joins : Joins C) (pending : Option (Span C)) (cycle : ℕ) (a : C) (span : Span C) (n : ℕ)
+    → number_of pending ≤ n → span ≡ opened joins pending cycle a → span.count ≤ n + 1
+few_span joins pending cycle a span n few made = rw made (few_open joins pending cycle a n few)
 
+-- what is told of a run, and of trials
 pub trials_parts : (others : Others) (from : ℕ) (scenario : Scenario) (trials : List Plain) (steps : ℕ) (s : State) (without : Outcome)
     → s ≡ run scenario steps → without ≡ outcome [] from scenario steps
     → trials_text others from scenario trials steps

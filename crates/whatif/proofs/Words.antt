@@ -10,9 +10,10 @@ use Rattle.cpu.specs.Next.{next}
 use Rattle.cpu.specs.Run.{out, outs, run}
 use Rattle.cpu.specs.State.{Scenario}
 use Rattle.whatif.specs.declared.sent.Sent.{Sent}
+use Rattle.whatif.specs.Looked.{looked}
 use Rattle.whatif.specs.Laws.{TellsAllWords, TellsTheFirstOther}
-use Rattle.whatif.proofs.Steps.{outcome_next}
-use Rattle.whatif.specs.Outcomes.{Outcome, begun, is_equal, is_next, is_none, is_that, outcome, sent, strays, with_put, with_step}
+use Rattle.whatif.proofs.Steps.{looked_next}
+use Rattle.whatif.specs.Outcomes.{Outcome, begun, is_equal, is_next, is_none, is_that, outcome, see, sent, strays, with_put, with_step}
 use Rattle.whatif.specs.Outcomes.{with_word}
 
 abbrev told : ℕ → List Sent → Bool → Outcome
@@ -68,7 +69,7 @@ map_more [] more = refl
 map_more (o ∷ old) more = ap (λ l. sent o ∷ l) (map_more old more)
 
 none_told : (scenario : Scenario) (base : List Sent) → outcome base 0 scenario 0 ≡ begun
-unfolding outcome
+unfolding looked
 none_told scenario base = refl
 
 pub tells_all_words : (scenario : Scenario) → TellsAllWords scenario
@@ -76,7 +77,7 @@ unfolding outs out
 tells_all_words scenario base zero = rw (none_told scenario base) refl
 tells_all_words scenario base (suc n) =
     let before = outcome base 0 scenario n in
-    rw (outcome_next base 0 scenario n (omega arith)) (
+    rw (looked_next begun (see base) 0 scenario n (omega arith)) (
     words_put base before.alike before.others (with_step before (strays scenario (run scenario n))).strays
     (next scenario (run scenario n)).1 (map sent (outs scenario n)) (tells_all_words scenario base n)
     ∙ sym (map_more (outs scenario n) (option_to_list (next scenario (run scenario n)).1)))
@@ -100,6 +101,6 @@ pub tells_the_first_other : (scenario : Scenario) → TellsTheFirstOther scenari
 tells_the_first_other scenario base zero = rw (none_told scenario base) (λ w next more is there. absurd (cc))
 tells_the_first_other scenario base (suc n) =
     let before = outcome base 0 scenario n in
-    rw (outcome_next base 0 scenario n (omega arith))
+    rw (looked_next begun (see base) 0 scenario n (omega arith))
     (first_put base before.alike before.others (with_step before (strays scenario (run scenario n))).strays
     (next scenario (run scenario n)).1 (tells_the_first_other scenario base n))

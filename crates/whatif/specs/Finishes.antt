@@ -5,13 +5,14 @@ use Rattle.std.specs.Option.{option_map}
 use Rattle.words.specs.Numbers.{correct}
 use Rattle.space.specs.Cells.{Cells, get}
 use Rattle.space.specs.declared.place.Linear.{Linear}
+use Rattle.feed.specs.declared.entry.Plain.{Plain}
 use Rattle.cpu.specs.Effects.{next_address, place_in}
-use Rattle.cpu.specs.Run.{run}
 use Rattle.cpu.specs.State.{Scenario, State}
 use Rattle.whatif.specs.declared.finish.Difference.{Difference}
 use Rattle.whatif.specs.declared.finish.Finish.{Finish}
 use Rattle.whatif.specs.declared.sent.Sent.{Sent}
-use Rattle.whatif.specs.Outcomes.{Outcome, outcome}
+use Rattle.whatif.specs.Looked.{all_came, came}
+use Rattle.whatif.specs.Outcomes.{Outcome, begun, see}
 
 -- the place of the next instruction
 abbrev pub next_place : State → Linear
@@ -41,5 +42,9 @@ first_difference without now = option_map (difference without now) (first_place 
 abbrev pub finish_of : Cells → State → Outcome → Finish
 finish_of without s a = record { answer = a; place = next_place s; difference = first_difference without s.cells }
 
+-- after so many steps, of which those after some are looked at; and with each of some inputs alone
 abbrev pub finish : List Sent → Cells → ℕ → Scenario → ℕ → Finish
-finish base without from scenario steps = finish_of without (run scenario steps) (outcome base from scenario steps)
+finish base without from scenario steps = came (finish_of without) begun (see base) from scenario steps
+
+abbrev pub finishes : List Sent → Cells → ℕ → Scenario → ℕ → List Plain → List (ℕ × Finish)
+finishes base without from scenario steps trials = all_came (finish_of without) begun (see base) from scenario steps trials

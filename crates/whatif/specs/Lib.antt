@@ -1,9 +1,13 @@
+pub mod Looked
 pub mod Outcomes
 pub mod Finishes
 pub mod Trials
 pub mod Failing
+pub mod Together
 pub mod Spans
 pub mod Laws
 pub mod Here
 pub mod Images
 pub mod Restarts
+pub mod Changes
+pub mod NotedHere

@@ -1,5 +1,5 @@
 -- What comes of a run, beside the words that another has put out.
-use Rattle.std.specs.Prelude.{ℕ, zero, suc, ◌+◌, ◌==◌, ◌&&◌, ◌||◌, not, nat_lt, Bool, true, false, List, [], ◌∷◌, ◌++◌, Option, None, Some}
+use Rattle.std.specs.Prelude.{ℕ, ◌+◌, ◌==◌, ◌&&◌, ◌||◌, not, Bool, true, false, List, [], ◌∷◌, ◌++◌, Option, None, Some}
 use Rattle.std.specs.Prelude.{slice_get, if◌then◌else◌}
 use Rattle.space.specs.Cells.{return_address}
 use Rattle.space.specs.declared.place.Linear.{Linear}
@@ -8,11 +8,10 @@ use Rattle.cpu.specs.declared.output.Output.{Output}
 use Rattle.cpu.specs.declared.next_step.NextStep.{NextStep}
 use Rattle.cpu.specs.declared.next_step.NextStep.TheVariants.{Takes, Enters, Executes}
 use Rattle.cpu.specs.Effects.{next_address, place_in}
-use Rattle.cpu.specs.Next.{next}
 use Rattle.cpu.specs.NextStep.{next_step}
-use Rattle.cpu.specs.Run.{run}
 use Rattle.cpu.specs.State.{Scenario, State}
 use Rattle.whatif.specs.declared.sent.Sent.{Sent}
+use Rattle.whatif.specs.Looked.{More, looked, step_more}
 
 -- two words on channels are the same
 abbrev pub is_equal : Sent → Sent → Bool
@@ -95,10 +94,12 @@ abbrev pub strays : Scenario → State → Bool
 strays scenario s = is_in_erasable (place_in s (next_address s)) && executes scenario s
 
 -- what comes of one step more
+abbrev pub see : List Sent → More Outcome
+see base rope s step put a = with_put base (with_step a (is_in_erasable (place_in s (next_address s)) && is_executed step)) put
+
 abbrev pub seen : List Sent → Scenario → State → Outcome → Outcome
-seen base scenario s a = with_put base (with_step a (strays scenario s)) (next scenario s).1
+seen base scenario s a = step_more (see base) scenario s a
 
 -- what comes of n steps, of which those after so many are looked at
-unfoldable pub outcome : List Sent → ℕ → Scenario → ℕ → Outcome
-outcome base from scenario zero = begun
-outcome base from scenario (suc n) = if nat_lt n from then begun else seen base scenario (run scenario n) (outcome base from scenario n)
+abbrev pub outcome : List Sent → ℕ → Scenario → ℕ → Outcome
+outcome base from scenario n = looked begun (see base) from scenario n

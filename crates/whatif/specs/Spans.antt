@@ -1,4 +1,4 @@
--- What is told of trials: those one after another that come to the same, in one line.
+-- What is told of trials: those one after another that come to the same, in one line. Where they have come out is told of the first.
 use Rattle.std.specs.Prelude.{ℕ, ◌+◌, ◌&&◌, nat_le, Bool, true, false, List, [], ◌∷◌, ◌++◌, length, take, codes, decimal, Option}
 use Rattle.std.specs.Prelude.{None, Some, if◌then◌else◌}
 use Rattle.std.specs.List.{flat_map}
@@ -16,9 +16,9 @@ use Rattle.whatif.specs.declared.others.Others.TheVariants.{All, First}
 use Rattle.whatif.specs.declared.others.Telling.{Telling}
 use Rattle.whatif.specs.declared.sent.Sent.{Sent}
 use Rattle.whatif.specs.declared.span.Span.{Span}
-use Rattle.whatif.specs.Finishes.{next_place}
+use Rattle.whatif.specs.Finishes.{finishes, next_place}
 use Rattle.whatif.specs.Outcomes.{Outcome, is_same, is_same_flag, outcome}
-use Rattle.whatif.specs.Trials.{finishes}
+use Rattle.whatif.specs.Together.{told_together}
 
 -- how trials are told beside a run that has ended in a state
 abbrev pub telling : Others → State → Telling
@@ -28,16 +28,9 @@ telling others s = record { others = others; end = s.cycles }
 abbrev pub is_never : Telling → ℕ → Bool
 is_never told cycle = nat_le told.end cycle
 
--- trials one after another that come to the same, or never come, which are those of a span: one trial, and one more. Where they have
--- come out is told of the first
-abbrev pub one : ℕ → Finish → Span
-one cycle a = record { first = cycle; last = cycle; count = 1; finish = a }
-
-abbrev pub with_one : Span → ℕ → Span
-with_one span cycle = record span { last = cycle; count = span.count + 1 }
-
-abbrev pub joins : Telling → Span → ℕ → Finish → Bool
-joins told span cycle a = is_same span.finish.answer a.answer && is_same_flag (is_never told span.first) (is_never told cycle)
+-- trials come to the same, or never come, as those of a span do
+abbrev pub joins : Telling → Span Finish → ℕ → Finish → Bool
+joins told span cycle a = is_same span.came.answer a.answer && is_same_flag (is_never told span.first) (is_never told cycle)
 
 -- the line of a word
 abbrev pub sent_line : Sent → List ℕ
@@ -76,38 +69,19 @@ without_text s a = without_line a ++ end_line (next_place s) None
 
 -- what is told of some trials: how many of the words are those of the run without, how many others then follow, these, and where the
 -- run has come out
-abbrev pub span_line : Telling → Span → List ℕ
+abbrev pub span_line : Telling → Span Finish → List ℕ
 span_line told s =
     codes "FROM " ++ decimal s.first ++ codes " TO " ++ decimal s.last ++ codes " COUNT " ++ decimal s.count
-    ++ codes " ALIKE " ++ decimal s.finish.answer.alike ++ codes " OTHERS " ++ decimal (length s.finish.answer.others)
-    ++ stray_text s.finish.answer ++ never_text told s.first ++ codes "\n"
+    ++ codes " ALIKE " ++ decimal s.came.answer.alike ++ codes " OTHERS " ++ decimal (length s.came.answer.others)
+    ++ stray_text s.came.answer ++ never_text told s.first ++ codes "\n"
 
-abbrev pub span_text : Telling → Span → List ℕ
+abbrev pub span_text : Telling → Span Finish → List ℕ
 span_text told s =
     span_line told s
-    ++ (others_text (others_told told.others s.finish.answer.others) ++ end_line s.finish.place s.finish.difference)
+    ++ (others_text (others_told told.others s.came.answer.others) ++ end_line s.came.place s.came.difference)
 
--- trials that are open, and one more: they are told where it comes to something else
-abbrev pub closed : Telling → Option Span → ℕ → Finish → List ℕ
-closed told None cycle a = []
-closed told (Some span) cycle a = if joins told span cycle a then [] else span_text told span
-
-abbrev pub opened : Telling → Option Span → ℕ → Finish → Span
-opened told None cycle a = one cycle a
-opened told (Some span) cycle a = if joins told span cycle a then with_one span cycle else one cycle a
-
-abbrev pub open_text : Telling → Option Span → List ℕ
-open_text told None = []
-open_text told (Some span) = span_text told span
-
-abbrev pub number_of : Option Span → ℕ
-number_of None = 0
-number_of (Some span) = span.count
-
-unfoldable pub spans_text : Telling → Option Span → List (ℕ × Finish) → List ℕ
-spans_text told pending [] = open_text told pending
-spans_text told pending (tried ∷ more) =
-    closed told pending tried.0 tried.1 ++ spans_text told (Some (opened told pending tried.0 tried.1)) more
+abbrev pub spans_text : Telling → Option (Span Finish) → List (ℕ × Finish) → List ℕ
+spans_text told pending list = told_together (joins told) (span_text told) pending list
 
 -- what is told of a run of so many steps and of some trials, where its steps after so many are looked at. Beside no words a run has
 -- none but others

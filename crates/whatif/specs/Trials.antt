@@ -1,5 +1,5 @@
 -- Inputs that are tried, each of them alone.
-use Rattle.std.specs.Prelude.{◌≡◌, ◌<◌, ◌≤◌, ◌⊎◌, ℕ, ◌+◌, ◌&&◌, nat_le, max, Bool, true, List, [], ◌∷◌, is_some, map}
+use Rattle.std.specs.Prelude.{◌≡◌, ◌<◌, ◌≤◌, ◌⊎◌, ℕ, ◌+◌, ◌&&◌, nat_le, max, Bool, true, List, [], ◌∷◌, is_some}
 use Rattle.feed.specs.Added.{plain_on}
 use Rattle.feed.specs.Merged.{due, inserted}
 use Rattle.feed.specs.declared.entry.Entry.{Entry}
@@ -7,10 +7,6 @@ use Rattle.feed.specs.declared.entry.Plain.{Plain}
 use Rattle.feed.specs.declared.input.Input.{Input}
 use Rattle.cpu.specs.Run.{run}
 use Rattle.cpu.specs.State.{Scenario, State}
-use Rattle.space.specs.Cells.{Cells}
-use Rattle.whatif.specs.declared.sent.Sent.{Sent}
-use Rattle.whatif.specs.declared.finish.Finish.{Finish}
-use Rattle.whatif.specs.Finishes.{finish}
 
 -- a line after those of some inputs
 abbrev pub line_above : List Entry → ℕ
@@ -25,13 +21,6 @@ tried scenario t = record scenario { inputs = inserted (plain_on (line_above sce
 abbrev pub are_rising : ℕ → List Plain → Bool
 are_rising from [] = true
 are_rising from (t ∷ more) = nat_le from t.cycle && are_rising t.cycle more
-
--- how the run of so many steps comes out with each of some inputs alone, beside another run, with the cycle of each
-abbrev pub finish_with : List Sent → Cells → ℕ → Scenario → ℕ → Plain → ℕ × Finish
-finish_with base without from scenario steps t = (t.cycle, finish base without from (tried scenario t) steps)
-
-abbrev pub finishes : List Sent → Cells → ℕ → Scenario → ℕ → List Plain → List (ℕ × Finish)
-finishes base without from scenario steps trials = map (finish_with base without from scenario steps) trials
 
 -- below a cycle two lists of inputs give the same
 abbrev pub AreSameBelow : ℕ → List Entry → List Entry → Type 0

@@ -1,19 +1,25 @@
 //! What comes of a run, beside the words of another.
 
-ghost use Rattle.std.specs.Prelude.{◌≡◌, ◌<◌, length, nat_le, true, IfOk, IfErr, OnOk};
+ghost use Rattle.std.specs.Prelude.{◌≡◌, ◌<◌, ◌&&◌, not, length, nat_le, IfOk, OnOk};
 ghost use Rattle.std.specs.Bool.{OnTrue};
 ghost use Rattle.cpu.specs.Effects.{next_address};
 ghost use Rattle.cpu.specs.State.{FitsRun};
-ghost use Rattle.whatif.specs.Outcomes.{begun, executes, first_switched, is_equal, is_next, is_same, is_same_flag};
+ghost use Rattle.whatif.specs.Finishes.{finish_of};
+ghost use Rattle.whatif.specs.Outcomes.{executes, first_switched, is_equal, is_next, is_same, is_same_flag};
 ghost use Rattle.whatif.specs.Outcomes.{are_same, strays, with_put, with_step, with_word};
 
-use crate::fault::Refused;
+use crate::fault::{Refused, TrialFault};
+use crate::finish::{Finish, finished};
+use crate::going::Going;
+use crate::others::Telling;
+use crate::seen::Seen;
 use crate::sent::Sent;
-use cpu::{Machine, NextStep, Output, Processor};
+use crate::span::{Span, joins, write_span};
+use cpu::{Machine, NextStep, Output, Processor, make_step};
 use space::{Chan, Eras, Linear};
 use std::alloc::Global;
 use std::marker::Model;
-use words::Word;
+use words::{Word, Write};
 
 /// The first address of the switched banks of fixed memory: behind it none leads to erasable memory.
 const FIRST_SWITCHED: u16 = 0o2000;
@@ -35,32 +41,6 @@ impl Model for Answer {
 }
 
 impl Answer {
-    /// Of no step.
-    pub(crate) fn begun(alloc: Global) -> Answer
-        ensures { result ≡ begun }
-    {
-        Answer {
-            alike: 0,
-            others: Vec::new(alloc),
-            strays: false,
-        }
-    }
-
-    /// The same again.
-    pub(crate) fn copied(&self, alloc: Global) -> Result<Answer, Refused>
-        ensures { IfOk result (λ answer. answer ≡ self.now) }
-    {
-        let mut others = Vec::new(alloc);
-        match others.extend_from_slice(&self.others) {
-            Ok(()) => Ok(Answer {
-                alike: self.alike,
-                others,
-                strays: self.strays,
-            }),
-            Err(_) => Err(Refused::NoMemory),
-        }
-    }
-
     /// How many of the words that were put out first are those of the other run.
     pub(crate) fn alike(&self) -> u64
         ensures { result ≡ self.now.alike }
@@ -135,6 +115,90 @@ impl Answer {
             None => false,
         }
     }
+}
+
+impl Seen for Answer {
+    ghost use Rattle.whatif.specs.Outcomes.{begun, see};
+    ghost use Rattle.whatif.specs.Spans.{joins, span_text};
+
+    type Beside = Answer;
+
+    type Came = Finish;
+
+    type Way = Telling;
+
+    ghost begins = { begun };
+
+    ghost more = { λ beside. see beside.others };
+
+    ghost comes = { λ without answer s a. finish_of without.cells s a };
+
+    ghost joins_by = { joins };
+
+    ghost tells = { span_text };
+
+    fn none(alloc: Global) -> Answer {
+        Answer {
+            alike: 0,
+            others: Vec::new(alloc),
+            strays: false,
+        }
+    }
+
+    fn again(&self, alloc: Global) -> Result<Answer, Refused> {
+        let mut others = Vec::new(alloc);
+        match others.extend_from_slice(&self.others) {
+            Ok(()) => Ok(Answer {
+                alike: self.alike,
+                others,
+                strays: self.strays,
+            }),
+            Err(_) => Err(Refused::NoMemory),
+        }
+    }
+
+    #[inline(always)]
+    fn look(
+        &mut self,
+        beside: &Answer,
+        processor: &mut Processor,
+        machine: &mut Machine,
+    ) -> Result<(), Refused> {
+        let is_stray = strays_first(processor, machine, self);
+        let put = make_step(processor, machine);
+        self.see(beside.others(), is_stray, &put)
+    }
+
+    fn compare(
+        _alloc: Global,
+        without: &Going<Answer>,
+        going: Going<Answer>,
+    ) -> Result<Finish, Refused>
+        ensures { IfOk result (λ came. came ≡ finish_of without.now.machine.cells going.machine going.seen) }
+    {
+        Ok(finished(going, without.machine.store()))
+    }
+
+    fn joins(told: Telling, span: &Span<Finish>, cycle: u64, came: &Finish) -> bool {
+        joins(told, span, cycle, came)
+    }
+
+    fn write_span<W: Write>(
+        told: Telling,
+        span: &Span<Finish>,
+        out: &mut W,
+    ) -> Result<(), TrialFault> {
+        write_span(told, span, out)
+    }
+}
+
+/// Whether the next step strays, and none did before: of a program that is lost each step does.
+#[inline(always)]
+fn strays_first(processor: &Processor, machine: &Machine, answer: &Answer) -> bool
+    requires { FitsRun processor.now.scenario machine.now }
+    ensures { result ≡ (not answer.now.strays && strays processor.now.scenario machine.now) }
+{
+    !answer.strays() && strays(processor, machine)
 }
 
 /// Whether two things are both so, or both not.

@@ -34,13 +34,13 @@ pub(crate) struct Finish {
 }
 
 /// How a run has come out beside one with these words.
-pub(crate) fn finished(going: Going, without: &Store) -> Finish
-    ensures { result ≡ finish_of without.now going.machine going.answer }
+pub(crate) fn finished(going: Going<Answer>, without: &Store) -> Finish
+    ensures { result ≡ finish_of without.now going.machine going.seen }
 {
     let place = going.machine.next_place();
     let difference = first_difference(without, going.machine.store());
     Finish {
-        answer: going.answer,
+        answer: going.seen,
         place,
         difference,
     }

@@ -1,54 +1,57 @@
-//! A run on its way, with what has come of it so far.
+//! A run on its way, with what is seen of it so far.
 
-ghost use Rattle.std.specs.Prelude.{◌≡◌, ◌+◌, ◌-◌, ◌^◌, ◌<◌, ◌≤◌, ◌&&◌, not, IfOk, OnOk};
-ghost use Rattle.cpu.specs.Next.{next};
+ghost use Rattle.std.specs.Prelude.{◌≡◌, ◌+◌, ◌-◌, ◌^◌, ◌<◌, ◌≤◌, IfOk, OnOk};
 ghost use Rattle.cpu.specs.Run.{run};
-ghost use Rattle.cpu.specs.State.{FitsRun, start};
+ghost use Rattle.cpu.specs.State.{start};
 ghost use Rattle.whatif.specs.Images.{most_images, with_image};
-ghost use Rattle.whatif.specs.Outcomes.{begun, outcome, seen, strays};
+ghost use Rattle.whatif.specs.Looked.{looked};
 ghost use Rattle.whatif.specs.Trials.{IsBefore};
 
-use crate::answer::{Answer, strays};
 use crate::fault::Refused;
 use crate::images::Images;
-use crate::sent::Sent;
-use cpu::{Machine, Processor, make_step};
+use crate::seen::Seen;
+use cpu::{Machine, Processor};
 use std::alloc::Global;
 
-/// A run after some steps: the machine there, and what has come of those after so many.
+/// A run after some steps: the machine there, and what is seen of those after so many.
 #[derive(Drop)]
-pub(crate) struct Going {
+pub(crate) struct Going<S> {
     pub(crate) machine: Machine,
-    pub(crate) answer: Answer,
+    pub(crate) seen: S,
     pub(crate) from: u64,
     pub(crate) done: u64,
 }
 
-impl Going {
+impl<S: Seen> Going<S> {
     /// A run of no step.
-    pub(crate) fn at_start(alloc: Global, images: &mut Images) -> Going
+    pub(crate) fn at_start(alloc: Global, images: &mut Images) -> Going<S>
         requires room { images.old.held < most_images }
         ensures images { images.new ≡ with_image images.old }
         ensures machine { result.machine ≡ start }
-        ensures answer { result.answer ≡ begun }
+        ensures seen { result.seen ≡ S.begins }
         ensures from { result.from ≡ 0 }
         ensures done { result.done ≡ 0 }
     {
         images.take();
         Going {
             machine: Machine::start(),
-            answer: Answer::begun(alloc),
+            seen: S::none(alloc),
             from: 0,
             done: 0,
         }
     }
 
     /// A run after some steps, of which none is looked at.
-    pub(crate) fn after(alloc: Global, images: &mut Images, machine: &Machine, done: u64) -> Going
+    pub(crate) fn after(
+        alloc: Global,
+        images: &mut Images,
+        machine: &Machine,
+        done: u64,
+    ) -> Going<S>
         requires room { images.old.held < most_images }
         ensures images { images.new ≡ with_image images.old }
         ensures machine { result.machine ≡ machine.now }
-        ensures answer { result.answer ≡ begun }
+        ensures seen { result.seen ≡ S.begins }
         ensures from { result.from ≡ done }
         ensures done { result.done ≡ done }
     {
@@ -57,28 +60,28 @@ impl Going {
         machine.copy_to(&mut copy);
         Going {
             machine: copy,
-            answer: Answer::begun(alloc),
+            seen: S::none(alloc),
             from: done,
             done,
         }
     }
 
     /// The same again.
-    pub(crate) fn copied(&self, alloc: Global, images: &mut Images) -> Result<Going, Refused>
+    pub(crate) fn copied(&self, alloc: Global, images: &mut Images) -> Result<Going<S>, Refused>
         requires room { images.old.held < most_images }
         ensures images { OnOk result (images.new ≡ with_image images.old) }
         ensures machine { IfOk result (λ going. going.machine ≡ self.now.machine) }
-        ensures answer { IfOk result (λ going. going.answer ≡ self.now.answer) }
+        ensures seen { IfOk result (λ going. going.seen ≡ self.now.seen) }
         ensures from { IfOk result (λ going. going.from ≡ self.now.from) }
         ensures done { IfOk result (λ going. going.done ≡ self.now.done) }
     {
-        let answer = self.answer.copied(alloc)?;
+        let seen = self.seen.again(alloc)?;
         images.take();
         let mut machine = Machine::start();
         self.machine.copy_to(&mut machine);
         Ok(Going {
             machine,
-            answer,
+            seen,
             from: self.from,
             done: self.done,
         })
@@ -88,23 +91,25 @@ impl Going {
     pub(crate) fn go_on(
         &mut self,
         processor: &mut Processor,
-        base: &[Sent],
+        beside: &S::Beside,
         steps: u64,
     ) -> Result<(), Refused>
         requires few { steps ≤ 2 ^ 40 - 2 }
         requires begun { self.old.from ≤ self.old.done }
         requires within { self.old.done ≤ steps }
         requires machine { self.old.machine ≡ run processor.old.scenario self.old.done }
-        requires answer { self.old.answer ≡ outcome base.now self.old.from processor.old.scenario self.old.done }
+        requires seen { self.old.seen
+            ≡ looked S.begins (S.more beside.now) self.old.from processor.old.scenario self.old.done }
         ensures scenario { processor.new.scenario ≡ processor.old.scenario }
         ensures once { processor.new.meter + self.old.done ≤ processor.old.meter + steps }
         ensures from { self.new.from ≡ self.old.from }
         ensures machine { OnOk result (self.new.machine ≡ run processor.old.scenario steps) }
-        ensures answer { OnOk result (self.new.answer ≡ outcome base.now self.old.from processor.old.scenario steps) }
+        ensures seen { OnOk result (self.new.seen
+            ≡ looked S.begins (S.more beside.now) self.old.from processor.old.scenario steps) }
         ensures done { OnOk result (self.new.done ≡ steps) }
     {
         for _ in self.done..steps {
-            step_and_see(processor, &mut self.machine, base, &mut self.answer)?;
+            self.seen.look(beside, processor, &mut self.machine)?;
         }
         self.done = steps;
         Ok(())
@@ -114,7 +119,7 @@ impl Going {
     pub(crate) fn go_to(
         &mut self,
         processor: &mut Processor,
-        base: &[Sent],
+        beside: &S::Beside,
         cycle: u64,
         steps: u64,
     ) -> Result<(), Refused>
@@ -122,7 +127,8 @@ impl Going {
         requires begun { self.old.from ≤ self.old.done }
         requires within { self.old.done ≤ steps }
         requires machine { self.old.machine ≡ run processor.old.scenario self.old.done }
-        requires answer { self.old.answer ≡ outcome base.now self.old.from processor.old.scenario self.old.done }
+        requires seen { self.old.seen
+            ≡ looked S.begins (S.more beside.now) self.old.from processor.old.scenario self.old.done }
         requires before { IsBefore processor.old.scenario self.old.done cycle }
         ensures scenario { processor.new.scenario ≡ processor.old.scenario }
         ensures once { OnOk result (processor.new.meter + self.old.done ≤ processor.old.meter + self.new.done) }
@@ -131,45 +137,16 @@ impl Going {
         ensures from { self.new.from ≡ self.old.from }
         ensures begun { self.old.done ≤ self.new.done }
         ensures machine { OnOk result (self.new.machine ≡ run processor.old.scenario self.new.done) }
-        ensures answer { OnOk result (self.new.answer
-            ≡ outcome base.now self.old.from processor.old.scenario self.new.done) }
+        ensures seen { OnOk result (self.new.seen
+            ≡ looked S.begins (S.more beside.now) self.old.from processor.old.scenario self.new.done) }
         ensures before { OnOk result (IsBefore processor.old.scenario self.new.done cycle) }
     {
         let mut done = self.done;
         while done < steps && self.machine.cycles() < cycle {
-            step_and_see(processor, &mut self.machine, base, &mut self.answer)?;
+            self.seen.look(beside, processor, &mut self.machine)?;
             done += 1;
         }
         self.done = done;
         Ok(())
     }
-}
-
-/// Makes a step, and sees what it does.
-#[inline(always)]
-pub(crate) fn step_and_see(
-    processor: &mut Processor,
-    machine: &mut Machine,
-    base: &[Sent],
-    answer: &mut Answer,
-) -> Result<(), Refused>
-    requires cycles { machine.old.cycles ≤ 2 ^ 62 }
-    requires fits { FitsRun processor.old.scenario machine.old }
-    ensures scenario { processor.new.scenario ≡ processor.old.scenario }
-    ensures state { machine.new ≡ (next processor.old.scenario machine.old).0 }
-    ensures answer { OnOk result (answer.new ≡ seen base.now processor.old.scenario machine.old answer.old) }
-    ensures meter { processor.new.meter ≤ processor.old.meter + 1 }
-{
-    let is_stray = strays_first(processor, machine, answer);
-    let put = make_step(processor, machine);
-    answer.see(base, is_stray, &put)
-}
-
-/// Whether the next step strays, and none did before: of a program that is lost each step does.
-#[inline(always)]
-fn strays_first(processor: &Processor, machine: &Machine, answer: &Answer) -> bool
-    requires { FitsRun processor.now.scenario machine.now }
-    ensures { result ≡ (not answer.now.strays && strays processor.now.scenario machine.now) }
-{
-    !answer.strays() && strays(processor, machine)
 }

@@ -1,24 +1,23 @@
 //! Trying one input at each of some steps of a run, as at the one where it stands.
 
-ghost use Rattle.std.specs.Prelude.{◌≡◌, ◌+◌, ◌-◌, ◌*◌, ◌^◌, ◌<◌, ◌≤◌, None, IfOk, OnOk, false, true, if◌then◌else◌};
+ghost use Rattle.std.specs.Prelude.{◌≡◌, ◌+◌, ◌-◌, ◌*◌, ◌^◌, ◌<◌, ◌≤◌, None, IfOk, OnOk, true, if◌then◌else◌};
 ghost use Rattle.words.specs.Devices.{Writes, one_more};
 ghost use Rattle.cpu.specs.Run.{run};
 ghost use Rattle.whatif.specs.Failing.{has_write_failed};
-ghost use Rattle.whatif.specs.Finishes.{finish};
 ghost use Rattle.whatif.specs.Here.{here_text, most_steps, own_steps, trial_after, trials_after};
 ghost use Rattle.whatif.specs.Images.{past_image};
-ghost use Rattle.whatif.specs.Outcomes.{outcome};
-ghost use Rattle.whatif.specs.Spans.{spans_text, telling};
-ghost use Rattle.whatif.specs.declared.others.Others.TheVariants.{First};
-ghost use Rattle.whatif.specs.Trials.{finishes, tried, trial_at};
+ghost use Rattle.whatif.specs.Looked.{all_came, came, looked};
+ghost use Rattle.whatif.specs.Together.{told_together};
+ghost use Rattle.whatif.specs.Trials.{tried, trial_at};
 
 use crate::branch::{Tried, branch};
 use crate::fault::{Refused, TrialFault, told_of};
 use crate::going::Going;
 use crate::images::Images;
 use crate::others::Others;
+use crate::seen::Seen;
 use crate::span::{with_trial, write_open, write_without};
-use crate::trying::{run_without, telling};
+use crate::trying::{run_alone, telling};
 use cpu::{Machine, Processor};
 use feed::{Input, Plain};
 use std::alloc::Global;
@@ -59,16 +58,20 @@ pub fn try_steps(
     };
     let mut images = Images::none();
     let mut trunk = Going::after(alloc, &mut images, machine, first);
-    let without = run_without(alloc, &mut images, &mut copy, &trunk, steps)?;
+    let without = run_alone(alloc, &mut images, &mut copy, &trunk, steps)?;
     let mut text = Buffer::new(alloc);
     write_without(&without, &mut text)?;
+    let told = telling(Others::First, &without);
     let made = write_each(
         alloc,
         &mut images,
         &mut copy,
+        &without.seen,
         &mut trunk,
+        told,
         &without,
         input,
+        first,
         more,
         steps,
         &mut text,
@@ -80,15 +83,17 @@ pub fn try_steps(
     })
 }
 
-/// Tells how the run comes out with an input at each of some steps, from the one where it stands on, and answers how
-/// many steps the trials were.
-fn write_each<W: Write>(
+/// Tells what the run comes to with an input at each of some steps, and answers how many steps the trials were.
+pub(crate) fn write_each<S: Seen, W: Write>(
     alloc: Global,
     images: &mut Images,
     processor: &mut Processor,
-    trunk: &mut Going,
-    without: &Going,
+    beside: &S::Beside,
+    trunk: &mut Going<S>,
+    told: S::Way,
+    without: &Going<S>,
     input: Input,
+    first: u64,
     more: u64,
     steps: u64,
     out: &mut W,
@@ -96,60 +101,63 @@ fn write_each<W: Write>(
     requires held { images.old.held ≡ 2 }
     requires most { images.old.most ≤ 3 }
     requires few { steps ≤ 2 ^ 40 - 2 }
-    requires within { trunk.old.done + more ≤ steps }
+    requires order { trunk.old.done ≤ first }
+    requires within { first + more ≤ steps }
     requires from { trunk.old.from ≡ trunk.old.done }
     requires machine { trunk.old.machine ≡ run processor.old.scenario trunk.old.done }
-    requires answer { trunk.old.answer ≡ outcome without.now.answer.others trunk.old.from processor.old.scenario
-        trunk.old.done }
+    requires seen { trunk.old.seen
+        ≡ looked S.begins (S.more beside.now) trunk.old.from processor.old.scenario trunk.old.done }
     ensures written { W.told ≡ true → Writes (W.written out.old) (W.written out.new)
-        (spans_text (telling First without.now.machine) None (finishes without.now.answer.others
-        without.now.machine.cells trunk.old.from processor.old.scenario steps
-        (trials_after processor.old.scenario input trunk.old.done (more + 1)))) result }
+        (told_together (S.joins_by told) (S.tells told) None (all_came (S.comes without.now.machine without.now.seen)
+        S.begins (S.more beside.now) trunk.old.from processor.old.scenario steps
+        (trials_after processor.old.scenario input first (more + 1)))) result }
     ensures failures { W.failures out.new ≡
         (if has_write_failed result then one_more (W.failures out.old) else W.failures out.old) }
-    ensures own { IfOk result (λ own. own ≤ own_steps trunk.old.done (more + 1) steps) }
+    ensures own { IfOk result (λ own. own ≤ own_steps first (more + 1) steps) }
     ensures small { IfOk result (λ own. own ≤ (more + 1) * 2 ^ 40) }
-    ensures once { OnOk result (processor.new.meter ≤ processor.old.meter + more) }
+    ensures once { OnOk result (processor.new.meter + trunk.old.done ≤ processor.old.meter + (first + more)) }
     ensures images { OnOk result (images.new.most ≤ 3) }
 {
-    let told = telling(Others::First, without);
-    let first = trunk.done;
     let mut pending = None;
     let mut own = 0;
     for further in 0..more + 1 {
         let step = first + further;
-        let tried = match try_at(alloc, images, processor, trunk, input, without, step, steps) {
+        let tried = match try_at(
+            alloc, images, processor, beside, trunk, input, without, step, steps,
+        ) {
             Ok(tried) => tried,
             Err(refused) => return Err(told_of(refused)),
         };
-        pending = Some(with_trial(told, pending, tried.cycle, tried.finish, out)?);
+        pending = Some(with_trial::<S, W>(told, pending, tried.cycle, tried.came, out)?);
         own += tried.made;
     }
-    write_open(told, &pending, out)?;
+    write_open::<S, W>(told, &pending, out)?;
     Ok(own)
 }
 
-/// Goes on to a step, and answers how the run comes out with an input there.
-fn try_at(
+/// Goes on to a step, and answers what the run comes to with an input there.
+fn try_at<S: Seen>(
     alloc: Global,
     images: &mut Images,
     processor: &mut Processor,
-    trunk: &mut Going,
+    beside: &S::Beside,
+    trunk: &mut Going<S>,
     input: Input,
-    without: &Going,
+    without: &Going<S>,
     step: u64,
     steps: u64,
-) -> Result<Tried, Refused>
+) -> Result<Tried<S::Came>, Refused>
     requires room { images.old.held ≡ 2 }
     requires few { steps ≤ 2 ^ 40 - 2 }
     requires begun { trunk.old.from ≤ trunk.old.done }
     requires order { trunk.old.done ≤ step }
     requires within { step ≤ steps }
     requires machine { trunk.old.machine ≡ run processor.old.scenario trunk.old.done }
-    requires answer { trunk.old.answer ≡ outcome without.now.answer.others trunk.old.from processor.old.scenario
-        trunk.old.done }
-    ensures finish { IfOk result (λ r. r.finish ≡ finish without.now.answer.others without.now.machine.cells
-        trunk.old.from (tried processor.old.scenario (trial_after processor.old.scenario input step)) steps) }
+    requires seen { trunk.old.seen
+        ≡ looked S.begins (S.more beside.now) trunk.old.from processor.old.scenario trunk.old.done }
+    ensures came { IfOk result (λ r. r.came ≡ came (S.comes without.now.machine without.now.seen) S.begins
+        (S.more beside.now) trunk.old.from
+        (tried processor.old.scenario (trial_after processor.old.scenario input step)) steps) }
     ensures cycle { IfOk result (λ r. r.cycle ≡ (run processor.old.scenario step).cycles) }
     ensures own { IfOk result (λ r. r.made + step ≤ steps) }
     ensures scenario { processor.new.scenario ≡ processor.old.scenario }
@@ -157,13 +165,15 @@ fn try_at(
     ensures from { trunk.new.from ≡ trunk.old.from }
     ensures done { OnOk result (trunk.new.done ≡ step) }
     ensures machine { OnOk result (trunk.new.machine ≡ run processor.old.scenario step) }
-    ensures answer { OnOk result (trunk.new.answer
-        ≡ outcome without.now.answer.others trunk.old.from processor.old.scenario step) }
+    ensures seen { OnOk result (trunk.new.seen
+        ≡ looked S.begins (S.more beside.now) trunk.old.from processor.old.scenario step) }
     ensures images { OnOk result (images.new ≡ past_image images.old) }
 {
-    trunk.go_on(processor, without.answer.others(), step)?;
+    trunk.go_on(processor, beside, step)?;
     let trial = trial_at(&trunk.machine, input);
-    let tried = branch(alloc, images, processor, trunk, &trial, without, steps)?;
+    let tried = branch(
+        alloc, images, processor, beside, trunk, &trial, without, steps,
+    )?;
     Ok(tried)
 }
 

@@ -15,13 +15,13 @@ ghost use Rattle.whatif.specs.Spans.{spans_text};
 use crate::answer::Answer;
 use crate::fault::{Refused, TrialFault, told_of};
 use crate::finish::{Finish, finished};
-use crate::going::{Going, step_and_see};
+use crate::going::Going;
 use crate::here::TrialsTold;
 use crate::images::Images;
 use crate::others::{Others, Telling};
-use crate::sent::Sent;
+use crate::seen::Seen;
 use crate::span::{with_trial, write_open, write_without};
-use crate::trying::run_without;
+use crate::trying::run_alone;
 use cpu::{Machine, Processor};
 use std::alloc::Global;
 use words::{Buffer, Write};
@@ -52,7 +52,7 @@ pub fn try_restarts(
     };
     let mut images = Images::none();
     let mut trunk = Going::after(alloc, &mut images, machine, first);
-    let without = run_without(alloc, &mut images, &mut copy, &trunk, steps)?;
+    let without = run_alone(alloc, &mut images, &mut copy, &trunk, steps)?;
     let mut text = Buffer::new(alloc);
     write_without(&without, &mut text)?;
     write_restarts(
@@ -92,8 +92,8 @@ fn write_restarts<W: Write>(
     alloc: Global,
     images: &mut Images,
     processor: &mut Processor,
-    trunk: &mut Going,
-    without: &Going,
+    trunk: &mut Going<Answer>,
+    without: &Going<Answer>,
     more: u64,
     steps: u64,
     out: &mut W,
@@ -104,10 +104,10 @@ fn write_restarts<W: Write>(
     requires within { trunk.old.done + more ≤ steps }
     requires from { trunk.old.from ≡ trunk.old.done }
     requires machine { trunk.old.machine ≡ run processor.old.scenario trunk.old.done }
-    requires answer { trunk.old.answer ≡ outcome without.now.answer.others trunk.old.from processor.old.scenario
+    requires seen { trunk.old.seen ≡ outcome without.now.seen.others trunk.old.from processor.old.scenario
         trunk.old.done }
     ensures written { W.told ≡ true → Writes (W.written out.old) (W.written out.new)
-        (spans_text (restart_telling more) None (restarts_after without.now.answer.others
+        (spans_text (restart_telling more) None (restarts_after without.now.seen.others
         without.now.machine.cells trunk.old.from processor.old.scenario steps trunk.old.done (more + 1))) result }
     ensures failures { W.failures out.new ≡
         (if has_write_failed result then one_more (W.failures out.old) else W.failures out.old) }
@@ -125,9 +125,9 @@ fn write_restarts<W: Write>(
             Err(refused) => return Err(told_of(refused)),
         };
         let cycle = trunk.machine.cycles();
-        pending = Some(with_trial(told, pending, cycle, finish, out)?);
+        pending = Some(with_trial::<Answer, W>(told, pending, cycle, finish, out)?);
     }
-    write_open(told, &pending, out)
+    write_open::<Answer, W>(told, &pending, out)
 }
 
 /// Goes on to a step, and answers how the run comes out that is restarted there.
@@ -135,8 +135,8 @@ fn restart_at(
     alloc: Global,
     images: &mut Images,
     processor: &mut Processor,
-    trunk: &mut Going,
-    without: &Going,
+    trunk: &mut Going<Answer>,
+    without: &Going<Answer>,
     step: u64,
     steps: u64,
 ) -> Result<Finish, Refused>
@@ -146,20 +146,20 @@ fn restart_at(
     requires order { trunk.old.done ≤ step }
     requires within { step ≤ steps }
     requires machine { trunk.old.machine ≡ run processor.old.scenario trunk.old.done }
-    requires answer { trunk.old.answer ≡ outcome without.now.answer.others trunk.old.from processor.old.scenario
+    requires seen { trunk.old.seen ≡ outcome without.now.seen.others trunk.old.from processor.old.scenario
         trunk.old.done }
-    ensures finish { IfOk result (λ r. r ≡ finish_restarted without.now.answer.others without.now.machine.cells
+    ensures finish { IfOk result (λ r. r ≡ finish_restarted without.now.seen.others without.now.machine.cells
         trunk.old.from processor.old.scenario steps step) }
     ensures scenario { processor.new.scenario ≡ processor.old.scenario }
     ensures once { OnOk result (processor.new.meter + trunk.old.done ≤ processor.old.meter + steps) }
     ensures from { trunk.new.from ≡ trunk.old.from }
     ensures done { OnOk result (trunk.new.done ≡ step) }
     ensures machine { OnOk result (trunk.new.machine ≡ run processor.old.scenario step) }
-    ensures answer { OnOk result (trunk.new.answer
-        ≡ outcome without.now.answer.others trunk.old.from processor.old.scenario step) }
+    ensures seen { OnOk result (trunk.new.seen
+        ≡ outcome without.now.seen.others trunk.old.from processor.old.scenario step) }
     ensures images { OnOk result (images.new ≡ past_image images.old) }
 {
-    trunk.go_on(processor, without.answer.others(), step)?;
+    trunk.go_on(processor, &without.seen, step)?;
     let finish = restarted(alloc, images, processor, trunk, without, steps)?;
     Ok(finish)
 }
@@ -169,17 +169,17 @@ fn restarted(
     alloc: Global,
     images: &mut Images,
     processor: &mut Processor,
-    trunk: &Going,
-    without: &Going,
+    trunk: &Going<Answer>,
+    without: &Going<Answer>,
     steps: u64,
 ) -> Result<Finish, Refused>
     requires room { images.old.held < most_images }
     requires few { steps ≤ 2 ^ 40 - 2 }
     requires within { trunk.now.done ≤ steps }
     requires machine { trunk.now.machine ≡ run processor.old.scenario trunk.now.done }
-    requires answer { trunk.now.answer ≡ outcome without.now.answer.others trunk.now.from processor.old.scenario
+    requires seen { trunk.now.seen ≡ outcome without.now.seen.others trunk.now.from processor.old.scenario
         trunk.now.done }
-    ensures finish { IfOk result (λ r. r ≡ finish_restarted without.now.answer.others without.now.machine.cells
+    ensures finish { IfOk result (λ r. r ≡ finish_restarted without.now.seen.others without.now.machine.cells
         trunk.now.from processor.old.scenario steps trunk.now.done) }
     ensures scenario { processor.new.scenario ≡ processor.old.scenario }
     ensures once { OnOk result (processor.new.meter + trunk.now.done ≤ processor.old.meter + steps) }
@@ -190,8 +190,8 @@ fn restarted(
     go_further(
         processor,
         &mut going.machine,
-        without.answer.others(),
-        &mut going.answer,
+        &without.seen,
+        &mut going.seen,
         steps - trunk.done,
     )?;
     let finish = finished(going, without.machine.store());
@@ -203,7 +203,7 @@ fn restarted(
 fn go_further(
     processor: &mut Processor,
     machine: &mut Machine,
-    base: &[Sent],
+    base: &Answer,
     answer: &mut Answer,
     steps: u64,
 ) -> Result<(), Refused>
@@ -214,10 +214,10 @@ fn go_further(
     ensures once { processor.new.meter ≤ processor.old.meter + steps }
     ensures machine { OnOk result (machine.new ≡ on_from processor.old.scenario machine.old steps) }
     ensures answer { OnOk result (answer.new
-        ≡ outcome_on base.now processor.old.scenario machine.old answer.old steps) }
+        ≡ outcome_on base.now.others processor.old.scenario machine.old answer.old steps) }
 {
     for _ in 0..steps {
-        step_and_see(processor, machine, base, answer)?;
+        answer.look(base, processor, machine)?;
     }
     Ok(())
 }

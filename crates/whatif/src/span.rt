@@ -7,15 +7,17 @@ ghost use Rattle.words.specs.Devices.{Writes, one_more};
 ghost use Rattle.whatif.specs.Failing.{has_write_failed};
 ghost use Rattle.space.specs.declared.place.Linear.TheVariants.{Erasable};
 ghost use Rattle.yayul.specs.Listing.{place_text};
-ghost use Rattle.whatif.specs.Spans.{closed, difference_text, end_line, is_never, joins, number_of, one, open_text};
-ghost use Rattle.whatif.specs.Spans.{opened, others_text, others_told, sent_line, span_line, span_text, without_line};
+ghost use Rattle.whatif.specs.Spans.{difference_text, end_line, is_never, joins};
+ghost use Rattle.whatif.specs.Spans.{others_text, others_told, sent_line, span_line, span_text, without_line};
 ghost use Rattle.whatif.specs.Spans.{without_text};
+ghost use Rattle.whatif.specs.Together.{closed, number_of, one, open_text, opened};
 
 use crate::answer::{Answer, is_same_flag};
 use crate::fault::TrialFault;
 use crate::finish::{Difference, Finish};
 use crate::going::Going;
 use crate::others::{Others, Telling};
+use crate::seen::Seen;
 use crate::sent::Sent;
 use arrayvec::ArrayVec;
 use space::place::Linear;
@@ -30,47 +32,76 @@ type Line = ArrayVec<u8, LINE>;
 
 /// Trials one after another that come to the same.
 #[derive(Drop)]
-pub(crate) struct Span {
-    first: u64,
-    last: u64,
-    count: u64,
-    finish: Finish,
+pub(crate) struct Span<C> {
+    pub(crate) first: u64,
+    pub(crate) last: u64,
+    pub(crate) count: u64,
+    pub(crate) came: C,
 }
 
 /// One trial more, after those that are open: where it comes to something else, these are told.
-pub(crate) fn with_trial<W: Write>(
-    told: Telling,
-    pending: Option<Span>,
+pub(crate) fn with_trial<S: Seen, W: Write>(
+    told: S::Way,
+    pending: Option<Span<S::Came>>,
     cycle: u64,
-    finish: Finish,
+    came: S::Came,
     out: &mut W,
-) -> Result<Span, TrialFault>
+) -> Result<Span<S::Came>, TrialFault>
     requires few { number_of pending < 2 ^ 63 }
-    ensures written { W.told ≡ true → Writes (W.written out.old) (W.written out.new) (closed told pending cycle finish)
-        result }
+    ensures written { W.told ≡ true → Writes (W.written out.old) (W.written out.new)
+        (closed (S.joins_by told) (S.tells told) pending cycle came) result }
     ensures failures { W.failures out.new ≡
         (if has_write_failed result then one_more (W.failures out.old) else W.failures out.old) }
-    ensures span { IfOk result (λ span. span ≡ opened told pending cycle finish) }
+    ensures span { IfOk result (λ span. span ≡ opened (S.joins_by told) pending cycle came) }
 {
     match pending {
-        None => Ok(one(cycle, finish)),
+        None => Ok(one(cycle, came)),
         Some(mut span) => {
-            if joins(told, &span, cycle, &finish) {
+            if S::joins(told, &span, cycle, &came) {
                 span.last = cycle;
                 span.count += 1;
                 return Ok(span);
             }
-            write_span(told, &span, out)?;
-            Ok(one(cycle, finish))
+            S::write_span(told, &span, out)?;
+            Ok(one(cycle, came))
         }
     }
 }
 
+/// A trial alone.
+fn one<C>(cycle: u64, came: C) -> Span<C>
+    ensures { result ≡ one cycle came }
+{
+    Span {
+        first: cycle,
+        last: cycle,
+        count: 1,
+        came,
+    }
+}
+
+/// Tells the trials that are open at the end.
+pub(crate) fn write_open<S: Seen, W: Write>(
+    told: S::Way,
+    pending: &Option<Span<S::Came>>,
+    out: &mut W,
+) -> Result<(), TrialFault>
+    ensures written { W.told ≡ true → Writes (W.written out.old) (W.written out.new)
+        (open_text (S.tells told) pending.now) result }
+    ensures failures { W.failures out.new ≡
+        (if has_write_failed result then one_more (W.failures out.old) else W.failures out.old) }
+{
+    match pending {
+        None => Ok(()),
+        Some(span) => S::write_span(told, span, out),
+    }
+}
+
 /// Whether a trial comes to the same as those of a span, or never comes as they do not.
-fn joins(told: Telling, span: &Span, cycle: u64, finish: &Finish) -> bool
+pub(crate) fn joins(told: Telling, span: &Span<Finish>, cycle: u64, finish: &Finish) -> bool
     ensures { result ≡ joins told span.now cycle finish.now }
 {
-    span.finish.answer.is_same(&finish.answer)
+    span.came.answer.is_same(&finish.answer)
         && is_same_flag(is_never(told, span.first), is_never(told, cycle))
 }
 
@@ -81,45 +112,20 @@ fn is_never(told: Telling, cycle: u64) -> bool
     told.end <= cycle
 }
 
-/// A trial alone.
-pub(crate) fn one(cycle: u64, finish: Finish) -> Span
-    ensures { result ≡ one cycle finish }
-{
-    Span {
-        first: cycle,
-        last: cycle,
-        count: 1,
-        finish,
-    }
-}
-
-/// Tells the trials that are open at the end.
-pub(crate) fn write_open<W: Write>(
-    told: Telling,
-    pending: &Option<Span>,
-    out: &mut W,
-) -> Result<(), TrialFault>
-    ensures written { W.told ≡ true → Writes (W.written out.old) (W.written out.new) (open_text told pending.now)
-        result }
-    ensures failures { W.failures out.new ≡
-        (if has_write_failed result then one_more (W.failures out.old) else W.failures out.old) }
-{
-    match pending {
-        None => Ok(()),
-        Some(span) => write_span(told, span, out),
-    }
-}
-
 /// Tells some trials: their line, a line for each other word that is told, and the line of where the first of them has
 /// come out.
-fn write_span<W: Write>(told: Telling, span: &Span, out: &mut W) -> Result<(), TrialFault>
+pub(crate) fn write_span<W: Write>(
+    told: Telling,
+    span: &Span<Finish>,
+    out: &mut W,
+) -> Result<(), TrialFault>
     ensures written { W.told ≡ true → Writes (W.written out.old) (W.written out.new) (span_text told span.now) result }
     ensures failures { W.failures out.new ≡
         (if has_write_failed result then one_more (W.failures out.old) else W.failures out.old) }
 {
     write_line(told, span, out)?;
-    write_others(others_told(told.others, span.finish.answer.others()), out)?;
-    write_end(span.finish.place, &span.finish.difference, out)
+    write_others(others_told(told.others, span.came.answer.others()), out)?;
+    write_end(span.came.place, &span.came.difference, out)
 }
 
 /// The other words that are told.
@@ -178,7 +184,7 @@ fn write_sent<W: Write>(sent: &Sent, out: &mut W) -> Result<(), TrialFault>
 }
 
 /// Writes the line of some trials.
-fn write_line<W: Write>(told: Telling, span: &Span, out: &mut W) -> Result<(), TrialFault>
+fn write_line<W: Write>(told: Telling, span: &Span<Finish>, out: &mut W) -> Result<(), TrialFault>
     ensures written { W.told ≡ true → Writes (W.written out.old) (W.written out.new) (span_line told span.now) result }
     ensures failures { W.failures out.new ≡
         (if has_write_failed result then one_more (W.failures out.old) else W.failures out.old) }
@@ -187,18 +193,21 @@ fn write_line<W: Write>(told: Telling, span: &Span, out: &mut W) -> Result<(), T
 }
 
 /// Tells what the run without a trial puts out, and where it has come out.
-pub(crate) fn write_without<W: Write>(without: &Going, out: &mut W) -> Result<(), TrialFault>
+pub(crate) fn write_without<W: Write>(
+    without: &Going<Answer>,
+    out: &mut W,
+) -> Result<(), TrialFault>
     ensures written { W.told ≡ true → Writes (W.written out.old) (W.written out.new)
-        (without_text without.now.machine without.now.answer) result }
+        (without_text without.now.machine without.now.seen) result }
     ensures failures { W.failures out.new ≡
         (if has_write_failed result then one_more (W.failures out.old) else W.failures out.old) }
 {
-    write_text(without_line(&without.answer).as_slice(), out)?;
+    write_text(without_line(&without.seen).as_slice(), out)?;
     write_end(without.machine.next_place(), &None, out)
 }
 
 /// Writes a text.
-fn write_text<W: Write>(text: &[u8], out: &mut W) -> Result<(), TrialFault>
+pub(crate) fn write_text<W: Write>(text: &[u8], out: &mut W) -> Result<(), TrialFault>
     ensures written { W.told ≡ true → Writes (W.written out.old) (W.written out.new) text.now result }
     ensures failures { W.failures out.new ≡
         (if has_write_failed result then one_more (W.failures out.old) else W.failures out.old) }
@@ -226,7 +235,7 @@ fn without_line(answer: &Answer) -> Line
 
 /// The line of some trials.
 #[tactic(auto, using(words::proofs::Digits::short_decimal))]
-fn span_line(told: Telling, span: &Span) -> Line
+fn span_line(told: Telling, span: &Span<Finish>) -> Line
     ensures { result.items ≡ span_line told span.now }
 {
     let mut line = ArrayVec::new();
@@ -237,10 +246,10 @@ fn span_line(told: Telling, span: &Span) -> Line
     push_all(&mut line, b" COUNT ");
     push_decimal(&mut line, span.count);
     push_all(&mut line, b" ALIKE ");
-    push_decimal(&mut line, span.finish.answer.alike());
+    push_decimal(&mut line, span.came.answer.alike());
     push_all(&mut line, b" OTHERS ");
-    push_decimal(&mut line, span.finish.answer.others().len() as u64);
-    if span.finish.answer.strays() {
+    push_decimal(&mut line, span.came.answer.others().len() as u64);
+    if span.came.answer.strays() {
         push_all(&mut line, b" ERASABLE");
     }
     if is_never(told, span.first) {

@@ -4,19 +4,21 @@ ghost use Rattle.std.specs.Prelude.{◌≡◌, ◌+◌, ◌-◌, ◌*◌, ◌^�
 ghost use Rattle.std.specs.Prelude.{if◌then◌else◌};
 ghost use Rattle.words.specs.Devices.{Writes, one_more};
 ghost use Rattle.whatif.specs.Failing.{has_write_failed};
-ghost use Rattle.whatif.specs.Finishes.{finish};
-ghost use Rattle.whatif.specs.Images.{most_images, past_image, with_image};
+ghost use Rattle.whatif.specs.Images.{most_images, with_image};
+ghost use Rattle.whatif.specs.Looked.{all_came, looked};
 ghost use Rattle.whatif.specs.Outcomes.{begun, outcome};
-ghost use Rattle.whatif.specs.Spans.{spans_text, telling, trials_text, whatif_text};
+ghost use Rattle.whatif.specs.Spans.{telling, trials_text, whatif_text};
 ghost use Rattle.cpu.specs.Run.{run};
-ghost use Rattle.whatif.specs.Trials.{IsBefore, are_rising, finishes, tried};
+ghost use Rattle.whatif.specs.Trials.{IsBefore, are_rising};
+ghost use Rattle.whatif.specs.Together.{told_together};
 
+use crate::answer::Answer;
 use crate::branch::try_one;
-use crate::fault::{TrialFault, told_of};
-use crate::finish::Finish;
+use crate::fault::{Refused, TrialFault, told_of};
 use crate::going::Going;
 use crate::images::Images;
 use crate::others::{Others, Telling};
+use crate::seen::Seen;
 use crate::span::{with_trial, write_open, write_without};
 use cpu::Processor;
 use feed::Plain;
@@ -64,7 +66,7 @@ fn try_after<W: Write>(
     alloc: Global,
     images: &mut Images,
     processor: &mut Processor,
-    start: &Going,
+    start: &Going<Answer>,
     first: u64,
     others: Others,
     trials: &[Plain],
@@ -74,7 +76,7 @@ fn try_after<W: Write>(
     requires room { images.old.held ≡ 1 }
     requires few { steps ≤ 2 ^ 40 - 2 }
     requires within { start.now.done ≤ steps }
-    requires begun { start.now.answer ≡ begun }
+    requires begun { start.now.seen ≡ begun }
     requires from { start.now.from ≡ start.now.done }
     requires machine { start.now.machine ≡ run processor.old.scenario start.now.done }
     requires before { IsBefore processor.old.scenario start.now.done first }
@@ -87,16 +89,26 @@ fn try_after<W: Write>(
     if !are_rising(first, trials) {
         return Err(TrialFault::OutOfOrder);
     }
-    let without = run_without(alloc, images, processor, start, steps)?;
+    let without = run_alone(alloc, images, processor, start, steps)?;
     write_without(&without, out)?;
     let told = telling(others, &without);
     write_trials(
-        alloc, images, processor, start, first, told, &without, trials, steps, out,
+        alloc,
+        images,
+        processor,
+        &without.seen,
+        start,
+        first,
+        told,
+        &without,
+        trials,
+        steps,
+        out,
     )
 }
 
 /// How trials are told beside a run.
-pub(crate) fn telling(others: Others, without: &Going) -> Telling
+pub(crate) fn telling(others: Others, without: &Going<Answer>) -> Telling
     ensures { result ≡ telling others without.now.machine }
 {
     Telling {
@@ -106,60 +118,87 @@ pub(crate) fn telling(others: Others, without: &Going) -> Telling
 }
 
 /// How the run without a trial comes out: beside no words it has none but others.
-pub(crate) fn run_without(
+pub(crate) fn run_alone(
     alloc: Global,
     images: &mut Images,
     processor: &mut Processor,
-    start: &Going,
+    start: &Going<Answer>,
     steps: u64,
-) -> Result<Going, TrialFault>
+) -> Result<Going<Answer>, TrialFault>
     requires room { images.old.held < most_images }
     requires few { steps ≤ 2 ^ 40 - 2 }
     requires within { start.now.done ≤ steps }
-    requires begun { start.now.answer ≡ begun }
+    requires begun { start.now.seen ≡ begun }
     requires from { start.now.from ≡ start.now.done }
     requires machine { start.now.machine ≡ run processor.old.scenario start.now.done }
     ensures kept { has_write_failed result ≡ false }
     ensures machine { IfOk result (λ without. without.machine ≡ run processor.old.scenario steps) }
-    ensures answer { IfOk result (λ without. without.answer ≡ outcome [] start.now.from processor.old.scenario steps) }
+    ensures seen { IfOk result (λ without. without.seen ≡ outcome [] start.now.from processor.old.scenario steps) }
     ensures scenario { processor.new.scenario ≡ processor.old.scenario }
     ensures once { processor.new.meter + start.now.done ≤ processor.old.meter + steps }
     ensures images { OnOk result (images.new ≡ with_image images.old) }
 {
-    match start.copied(alloc, images) {
-        Ok(whole) => run_whole(alloc, processor, whole, steps),
+    run_without(alloc, images, processor, &Answer::none(alloc), start, steps)
+}
+
+/// The run without a trial, to its end.
+pub(crate) fn run_without<S: Seen>(
+    alloc: Global,
+    images: &mut Images,
+    processor: &mut Processor,
+    beside: &S::Beside,
+    start: &Going<S>,
+    steps: u64,
+) -> Result<Going<S>, TrialFault>
+    requires room { images.old.held < most_images }
+    requires few { steps ≤ 2 ^ 40 - 2 }
+    requires within { start.now.done ≤ steps }
+    requires begun { start.now.seen ≡ S.begins }
+    requires from { start.now.from ≡ start.now.done }
+    requires machine { start.now.machine ≡ run processor.old.scenario start.now.done }
+    ensures kept { has_write_failed result ≡ false }
+    ensures machine { IfOk result (λ without. without.machine ≡ run processor.old.scenario steps) }
+    ensures seen { IfOk result (λ without. without.seen
+        ≡ looked S.begins (S.more beside.now) start.now.from processor.old.scenario steps) }
+    ensures scenario { processor.new.scenario ≡ processor.old.scenario }
+    ensures once { processor.new.meter + start.now.done ≤ processor.old.meter + steps }
+    ensures images { OnOk result (images.new ≡ with_image images.old) }
+{
+    match run_whole(alloc, images, processor, beside, start, steps) {
+        Ok(whole) => Ok(whole),
         Err(refused) => Err(told_of(refused)),
     }
 }
 
-/// The same, of a run that may go on.
-fn run_whole(
+/// The same, or what refused it.
+fn run_whole<S: Seen>(
     alloc: Global,
+    images: &mut Images,
     processor: &mut Processor,
-    start: Going,
+    beside: &S::Beside,
+    start: &Going<S>,
     steps: u64,
-) -> Result<Going, TrialFault>
+) -> Result<Going<S>, Refused>
+    requires room { images.old.held < most_images }
     requires few { steps ≤ 2 ^ 40 - 2 }
-    requires within { start.done ≤ steps }
-    requires begun { start.answer ≡ begun }
-    requires from { start.from ≡ start.done }
-    requires machine { start.machine ≡ run processor.old.scenario start.done }
-    ensures kept { has_write_failed result ≡ false }
+    requires within { start.now.done ≤ steps }
+    requires begun { start.now.seen ≡ S.begins }
+    requires from { start.now.from ≡ start.now.done }
+    requires machine { start.now.machine ≡ run processor.old.scenario start.now.done }
     ensures machine { IfOk result (λ without. without.machine ≡ run processor.old.scenario steps) }
-    ensures answer { IfOk result (λ without. without.answer ≡ outcome [] start.from processor.old.scenario steps) }
+    ensures seen { IfOk result (λ without. without.seen
+        ≡ looked S.begins (S.more beside.now) start.now.from processor.old.scenario steps) }
     ensures scenario { processor.new.scenario ≡ processor.old.scenario }
-    ensures once { processor.new.meter + start.done ≤ processor.old.meter + steps }
+    ensures once { processor.new.meter + start.now.done ≤ processor.old.meter + steps }
+    ensures images { OnOk result (images.new ≡ with_image images.old) }
 {
-    let none = Vec::new(alloc);
-    let mut whole = start;
-    match whole.go_on(processor, &none, steps) {
-        Ok(()) => Ok(whole),
-        Err(refused) => Err(told_of(refused)),
-    }
+    let mut whole = start.copied(alloc, images)?;
+    whole.go_on(processor, beside, steps)?;
+    Ok(whole)
 }
 
 /// Whether the cycles of some inputs rise from one on.
-fn are_rising(first: u64, trials: &[Plain]) -> bool
+pub(crate) fn are_rising(first: u64, trials: &[Plain]) -> bool
     ensures { result ≡ are_rising first trials.now }
 {
     let mut last = first;
@@ -172,15 +211,16 @@ fn are_rising(first: u64, trials: &[Plain]) -> bool
     true
 }
 
-/// Tells how the run would come out with each of some inputs, beside how it does.
-fn write_trials<W: Write>(
+/// Tells what each of some inputs comes to, beside the run without them.
+pub(crate) fn write_trials<S: Seen, W: Write>(
     alloc: Global,
     images: &mut Images,
     processor: &mut Processor,
-    start: &Going,
+    beside: &S::Beside,
+    start: &Going<S>,
     first: u64,
-    told: Telling,
-    without: &Going,
+    told: S::Way,
+    without: &Going<S>,
     trials: &[Plain],
     steps: u64,
     out: &mut W,
@@ -188,14 +228,14 @@ fn write_trials<W: Write>(
     requires room { images.old.held ≡ 2 }
     requires few { steps ≤ 2 ^ 40 - 2 }
     requires within { start.now.done ≤ steps }
-    requires begun { start.now.answer ≡ begun }
+    requires begun { start.now.seen ≡ S.begins }
     requires from { start.now.from ≡ start.now.done }
     requires machine { start.now.machine ≡ run processor.old.scenario start.now.done }
     requires before { IsBefore processor.old.scenario start.now.done first }
     requires rising { are_rising first trials.now ≡ true }
     ensures written { W.told ≡ true → Writes (W.written out.old) (W.written out.new)
-        (spans_text told None (finishes without.now.answer.others without.now.machine.cells start.now.from
-        processor.old.scenario steps trials.now)) result }
+        (told_together (S.joins_by told) (S.tells told) None (all_came (S.comes without.now.machine without.now.seen)
+        S.begins (S.more beside.now) start.now.from processor.old.scenario steps trials.now)) result }
     ensures failures { W.failures out.new ≡
         (if has_write_failed result then one_more (W.failures out.old) else W.failures out.old) }
     ensures once { processor.new.meter + start.now.done ≤ processor.old.meter + steps }
@@ -206,47 +246,13 @@ fn write_trials<W: Write>(
     };
     let mut pending = None;
     for trial in trials {
-        let finish = try_next(alloc, images, processor, &mut trunk, trial, without, steps)?;
-        pending = Some(with_trial(told, pending, trial.cycle, finish, out)?);
+        let came = match try_one(
+            alloc, images, processor, beside, &mut trunk, trial, without, steps,
+        ) {
+            Ok(came) => came,
+            Err(refused) => return Err(told_of(refused)),
+        };
+        pending = Some(with_trial::<S, W>(told, pending, trial.cycle, came, out)?);
     }
-    write_open(told, &pending, out)
-}
-
-/// Goes on to the next trial, and answers how it comes out: see `try_one`.
-fn try_next(
-    alloc: Global,
-    images: &mut Images,
-    processor: &mut Processor,
-    trunk: &mut Going,
-    trial: &Plain,
-    without: &Going,
-    steps: u64,
-) -> Result<Finish, TrialFault>
-    requires room { images.old.held < most_images }
-    requires few { steps ≤ 2 ^ 40 - 2 }
-    requires begun { trunk.old.from ≤ trunk.old.done }
-    requires within { trunk.old.done ≤ steps }
-    requires machine { trunk.old.machine ≡ run processor.old.scenario trunk.old.done }
-    requires answer { trunk.old.answer ≡ outcome without.now.answer.others trunk.old.from processor.old.scenario
-        trunk.old.done }
-    requires before { IsBefore processor.old.scenario trunk.old.done trial.now.cycle }
-    ensures finish { IfOk result (λ r. r ≡ finish without.now.answer.others without.now.machine.cells trunk.old.from
-        (tried processor.old.scenario trial.now) steps) }
-    ensures scenario { processor.new.scenario ≡ processor.old.scenario }
-    ensures once { OnOk result (processor.new.meter + trunk.old.done ≤ processor.old.meter + trunk.new.done) }
-    ensures most { processor.new.meter + trunk.old.done ≤ processor.old.meter + steps }
-    ensures within { trunk.new.done ≤ steps }
-    ensures from { trunk.new.from ≡ trunk.old.from }
-    ensures begun { trunk.old.done ≤ trunk.new.done }
-    ensures trunk { OnOk result (trunk.new.machine ≡ run processor.old.scenario trunk.new.done) }
-    ensures seen { OnOk result (trunk.new.answer
-        ≡ outcome without.now.answer.others trunk.old.from processor.old.scenario trunk.new.done) }
-    ensures before { OnOk result (IsBefore processor.old.scenario trunk.new.done trial.now.cycle) }
-    ensures kept { has_write_failed result ≡ false }
-    ensures images { OnOk result (images.new ≡ past_image images.old) }
-{
-    match try_one(alloc, images, processor, trunk, trial, without, steps) {
-        Ok(finish) => Ok(finish),
-        Err(refused) => Err(told_of(refused)),
-    }
+    write_open::<S, W>(told, &pending, out)
 }

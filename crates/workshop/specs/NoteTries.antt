@@ -3,7 +3,7 @@ use Rattle.std.specs.Prelude.{◌≡◌, ℕ, ◌⊎◌, List, Result, Ok, Err}
 use Rattle.feed.specs.Feed.{inputs}
 use Rattle.feed.specs.declared.entry.Entry.{Entry}
 use Rattle.feed.specs.declared.entry.Plain.{Plain}
-use Rattle.note_trials.specs.Changes.{note_trials_text}
+use Rattle.whatif.specs.Changes.{note_trials_text}
 use Rattle.workshop.specs.declared.fault.WorkshopFault.{WorkshopFault}
 use Rattle.workshop.specs.declared.fault.WorkshopFault.TheVariants.{NoMemory, Feed}
 use Rattle.feed.specs.declared.fault.FeedFault.TheVariants.{TooMany, OutOfOrder}

@@ -3,21 +3,20 @@
 ghost use Rattle.std.specs.Prelude.{◌≡◌, ◌-◌, ◌≤◌, ◌^◌};
 ghost use Rattle.workshop.specs.Failures.{reader, writer};
 ghost use Rattle.workshop.specs.NoteTries.{TriesNotes, TriesNotesFeed, WritesNotes};
-ghost use Rattle.note_trials.specs.Changes.{note_trials_text};
+ghost use Rattle.whatif.specs.Changes.{note_trials_text};
 
 use crate::fault::WorkshopFault;
 use crate::noting::{NamedCode, read_named};
 use crate::origin::Origin;
 use cpu::Processor;
 use feed::{FeedFault, Plain};
-use note_trials::note_trials;
 use std::alloc::Global;
-use whatif::{TextReader, TrialFault};
+use whatif::{TextReader, TrialFault, note_trials};
 use words::{Read, Write, write_all};
 use yayul::NamedPlaces;
 
 /// Reads a program, and tells which notes its run of some steps over a feed of this text would have with each of some
-/// inputs alone, and has not, and which it would not: see `note_trials::note_trials`.
+/// inputs alone, and has not, and which it would not: see `whatif::note_trials`.
 ///
 /// The first fault of the program is answered, else that of the feed, else that memory ran out, or that of the trials;
 /// and then nothing is written.
@@ -85,7 +84,7 @@ fn try_all<W: Write>(
 {
     match note_trials(alloc, named, processor, trials, steps) {
         Ok(text) => {
-            write_all(out, &text)?;
+            write_all(out, text.as_slice())?;
             Ok(())
         }
         Err(TrialFault::NoMemory) | Err(TrialFault::WriteFailed) => Err(WorkshopFault::NoMemory),

@@ -16,10 +16,10 @@ go_further-requires-clause-fits c =
 
 pub returns-clause-finish : goal.returns-clause-finish
 returns-clause-finish c =
-    comes_out c.args.without.now.answer.others c.args.without.now.machine.cells c.args.trunk.now.from c.args.processor.now.scenario
+    comes_out c.args.without.now.seen.others c.args.without.now.machine.cells c.args.trunk.now.from c.args.processor.now.scenario
     c.args.steps c.args.trunk.now.done _ _ _ _ _ _ _ _ c.requires.machine c.in_ok-going.ensures.machine c.restart.ensures.state
-    c.in_ok-go_further.ensures.machine c.requires.answer c.in_ok-going.ensures.answer
-    (rw c.others.ensures at c.in_ok-go_further.ensures.answer) (rw c.store.ensures at c.finished-finish.ensures)
+    c.in_ok-go_further.ensures.machine c.requires.seen c.in_ok-going.ensures.seen
+    c.in_ok-go_further.ensures.answer (rw c.store.ensures at c.finished-finish.ensures)
 
 pub returns-clause-images : goal.returns-clause-images
 returns-clause-images c = c.give.ensures ∙ ap less_image c.in_ok-going.ensures.images ∙ let_go c.args.images.now

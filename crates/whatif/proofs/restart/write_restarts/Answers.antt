@@ -4,9 +4,10 @@ use Rattle.cpu.specs.State.{State}
 use Rattle.whatif.specs.declared.images.Images.{Images}
 use Rattle.whatif.specs.Here.{own_steps}
 use Rattle.whatif.specs.Restarts.{finish_restarted, restart_after, restart_telling, restarts_after}
-use Rattle.whatif.specs.Spans.{open_text, spans_text}
-use Rattle.whatif.proofs.Restarting.{all_restarts, meter_more, next_restart, no_restart, none_left, restart_span, restart_told}
-use Rattle.whatif.proofs.Told.{few_span}
+use Rattle.whatif.specs.Spans.{joins, span_text, spans_text}
+use Rattle.whatif.specs.Together.{open_text}
+use Rattle.whatif.proofs.Restarting.{all_restarts, meter_more, next_restart, no_restart}
+use Rattle.whatif.proofs.Told.{few_span, next_told, none_left, span_told}
 use Rattle.whatif.proofs.Writing.{so_far_breaks, so_far_last, so_far_more, so_far_same, so_far_start}
 use Rattle.whatif.proofs.restart.write_restarts.Goals as goal
 
@@ -15,7 +16,7 @@ unfolding own_steps
 loop-further-init g c = record {
   written = λ told. so_far_same _ _ _ _ _ (so_far_start _ _)
       (ap (λ left. spans_text (restart_telling c.args.more) None left)
-      (all_restarts c.args.without.now.answer.others c.args.without.now.machine.cells c.args.trunk.now.from
+      (all_restarts c.args.without.now.seen.others c.args.without.now.machine.cells c.args.trunk.now.from
       c.args.processor.now.scenario c.args.steps c.args.trunk.now.done (c.args.more + 1) 0 refl));
   failures = refl;
   scenario = refl;
@@ -24,7 +25,7 @@ loop-further-init g c = record {
   machine = c.requires.machine;
   from = refl;
   begun = omega (arith, c.requires.from);
-  answer = c.requires.answer;
+  seen = c.requires.seen;
   few = omega arith;
   once = omega arith;
   held = c.requires.held;
@@ -34,16 +35,16 @@ loop-further-init g c = record {
 pub restart_at-requires-clause-machine : goal.restart_at-requires-clause-machine
 restart_at-requires-clause-machine g c = rw c.loop-further.invariant.scenario c.loop-further.invariant.machine
 
-pub restart_at-requires-clause-answer : goal.restart_at-requires-clause-answer
-restart_at-requires-clause-answer g c = rw (c.loop-further.invariant.scenario, c.loop-further.invariant.from)
-    c.loop-further.invariant.answer
+pub restart_at-requires-clause-seen : goal.restart_at-requires-clause-seen
+restart_at-requires-clause-seen g c = rw (c.loop-further.invariant.scenario, c.loop-further.invariant.from)
+    c.loop-further.invariant.seen
 
 pub returns-in_err-with_trial-clause-written : goal.returns-in_err-with_trial-clause-written
 returns-in_err-with_trial-clause-written g c = λ told.
     let scenario = c.args.processor.now.scenario in
     let first = c.args.trunk.now.done in
     let further = c.loop-further.further in
-    let base = c.args.without.now.answer.others in
+    let base = c.args.without.now.seen.others in
     let cells = c.args.without.now.machine.cells in
     let from = c.args.trunk.now.from in
     let out : c.in-Ok.finish ≡ finish_restarted base cells from scenario c.args.steps (first + further) =
@@ -53,7 +54,7 @@ returns-in_err-with_trial-clause-written g c = λ told.
     let p = err_from_is_err_and c.from_residual.result c.from_residual.ensures.1 in
     rw p.1
     (so_far_breaks _ _ _ _ _ _ _ (c.loop-further.invariant.written told)
-    (restart_told (restart_telling c.args.more) c.loop-further.pending _ _ c.cycles-cycle.result _
+    (next_told (joins (restart_telling c.args.more)) (span_text (restart_telling c.args.more)) c.loop-further.pending _ _ c.cycles-cycle.result _
     (restart_after base cells from scenario c.args.steps (first + further))
     (next_restart base cells from scenario c.args.steps first further (c.args.more + 1) (omega arith)) at out)
     (rw c.restart_telling-told.ensures at (c.in_err-with_trial.ensures.written told)))
@@ -63,7 +64,7 @@ loop-further-preserved g c =
     let scenario = c.args.processor.now.scenario in
     let first = c.args.trunk.now.done in
     let further = c.loop-further.further in
-    let base = c.args.without.now.answer.others in
+    let base = c.args.without.now.seen.others in
     let cells = c.args.without.now.machine.cells in
     let from = c.args.trunk.now.from in
     let out : c.in-Ok.finish ≡ finish_restarted base cells from scenario c.args.steps (first + further) =
@@ -73,7 +74,7 @@ loop-further-preserved g c =
     record {
       written = λ told.
           so_far_more _ _ _ _ _ _ _ (c.loop-further.invariant.written told)
-          (restart_span (restart_telling c.args.more) c.loop-further.pending _ _
+          (span_told (joins (restart_telling c.args.more)) (span_text (restart_telling c.args.more)) c.loop-further.pending _ _
           c.cycles-cycle.result _ (restart_after base cells from scenario c.args.steps (first + further)) _
           (next_restart base cells from scenario c.args.steps first further (c.args.more + 1) (omega arith)) at out
           (rw c.restart_telling-told.ensures at c.in_ok-with_trial.ensures.span))
@@ -91,9 +92,9 @@ loop-further-preserved g c =
         c.in-Ok.ensures.done,
         c.in-Ok.ensures.from,
       );
-      answer = rw c.in-Ok.ensures.done
-          (rw (c.loop-further.invariant.scenario, c.loop-further.invariant.from) at c.in-Ok.ensures.answer);
-      few = few_span c.restart_telling-told.result c.loop-further.pending c.cycles-cycle.result _ _ c.loop-further.further
+      seen = rw c.in-Ok.ensures.done
+          (rw (c.loop-further.invariant.scenario, c.loop-further.invariant.from) at c.in-Ok.ensures.seen);
+      few = few_span (joins c.restart_telling-told.result) c.loop-further.pending c.cycles-cycle.result _ _ c.loop-further.further
           c.loop-further.invariant.few c.in_ok-with_trial.ensures.span;
       once =
           let made = meter_more first further c.args.steps c.args.processor.now.meter _ c.loop-further.trunk.done _
@@ -107,9 +108,9 @@ loop-further-preserved g c =
 
 pub returns-clause-written : goal.returns-clause-written
 returns-clause-written g c = λ told.
-    so_far_last _ _ _ _ (open_text (restart_telling c.args.more) c.loop-further.pending) _ _
+    so_far_last _ _ _ _ (open_text (span_text (restart_telling c.args.more)) c.loop-further.pending) _ _
     (c.loop-further.invariant.written told)
-    (none_left (restart_telling c.args.more) c.loop-further.pending _
-    (no_restart c.args.without.now.answer.others c.args.without.now.machine.cells c.args.trunk.now.from c.args.processor.now.scenario
+    (none_left (joins (restart_telling c.args.more)) (span_text (restart_telling c.args.more)) c.loop-further.pending _
+    (no_restart c.args.without.now.seen.others c.args.without.now.machine.cells c.args.trunk.now.from c.args.processor.now.scenario
     c.args.steps (c.args.trunk.now.done + c.loop-further.further) ((c.args.more + 1) - c.loop-further.further) (omega arith)))
     (rw c.restart_telling-told.ensures at (c.write_open.ensures.written told))

@@ -1,15 +1,15 @@
 use Rattle.std.proofs.Common.{◌≡◌, ◌+◌, ◌-◌, ◌≤◌}
 use Rattle.cpu.specs.Run.{run}
-use Rattle.whatif.specs.Outcomes.{outcome}
+use Rattle.whatif.specs.Looked.{looked}
 use Rattle.whatif.specs.Trials.{IsBefore}
 use Rattle.whatif.proofs.going.Going.go_to.Given as goal
 
 abbrev pub invariant-loop-done : goal.invariant-loop-done
-invariant-loop-done l = record {
+invariant-loop-done g l = record {
   scenario : l.processor.scenario ≡ l.fn.processor.scenario;
   within : l.done ≤ l.steps;
   machine : l.self.machine ≡ run l.fn.processor.scenario l.done;
-  answer : l.self.answer ≡ outcome l.base l.fn.self.from l.fn.processor.scenario l.done;
+  seen : l.self.seen ≡ looked g.S.Seen.begins (g.S.Seen.more l.beside) l.fn.self.from l.fn.processor.scenario l.done;
   before : IsBefore l.fn.processor.scenario l.done l.cycle;
   meter : l.processor.meter + l.fn.self.done ≤ l.fn.processor.meter + l.done;
   same : l.self.done ≡ l.fn.self.done;
@@ -18,4 +18,4 @@ invariant-loop-done l = record {
 }
 
 abbrev pub decreases-loop-done : goal.decreases-loop-done
-decreases-loop-done l = l.steps - l.done
+decreases-loop-done g l = l.steps - l.done
