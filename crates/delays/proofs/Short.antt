@@ -1,8 +1,8 @@
 -- A word that is no TC of an address of fixed memory makes no call, and none is over where its low bits are not marked.
 use Rattle.std.proofs.Common.{◌≡◌, ◌≢◌, ◌⊎◌, ℕ, ◌+◌, ◌-◌, ◌*◌, ◌%◌, ◌<◌, ◌≤◌, ◌==◌, ◌&&◌, ◌||◌, Bool, true}
-use Rattle.std.proofs.Common.{false, not, List, [], ◌∷◌, length, get_or, set}
+use Rattle.std.proofs.Common.{false, not, zero, suc, List, [], ◌∷◌, length, get_or, set}
 use Rattle.std.proofs.Common.{None, refl, sym, ap, ◌∙◌, arith, inl, inr, find, unwrap_or, ⊎_elim}
-use Rattle.std.specs.Prelude.{codes, nat_le, nat_lt, take, slice_get, if◌then◌else◌}
+use Rattle.std.specs.Prelude.{codes, nat_le, nat_lt, remove, take, slice_get, if◌then◌else◌, ◌++◌}
 use Rattle.std.specs.List.{list_all, list_any}
 use Rattle.std.proofs.lemmas.Bool.{cases_Bool, cases_eq}
 use Rattle.std.proofs.lemmas.Bool.Decides.{nat_tests}
@@ -237,3 +237,42 @@ marked_more marked calls n low within before here k d lt =
   where
     last : (k n : ℕ) → k < n + 1 → k ≢ n → k < n
     last k n lt apart = omega (arith, lt, apart)
+
+-- of marked calls the first are marked, and those after the first one
+taken_are : (calls : List Call) (n k : ℕ) (d : Call) → k < length (take n calls)
+    → (get_or (take n calls) k d ≡ get_or calls k d) × (k < length calls)
+taken_are calls zero k d lt = absurd (omega (arith, lt))
+taken_are [] (suc n) k d lt = absurd (omega (arith, lt))
+taken_are (c ∷ cs) (suc n) zero d lt = (refl, omega arith)
+taken_are (c ∷ cs) (suc n) (suc k) d lt = let rest = taken_are cs n k d (omega (arith, lt)) in (rest.0, omega (arith, rest.1))
+
+pub marked_taken : (marked : List Bool) (calls : List Call) (n : ℕ) → AreMarked marked calls → AreMarked marked (take n calls)
+marked_taken marked calls n are k d lt =
+    let rest = taken_are calls n k d lt in
+    ap (λ (c : Call). get_or marked (low_bits c.back) false) rest.0 ∙ are k d rest.1
+
+pub marked_rest : (marked : List Bool) (calls : List Call) → AreMarked marked calls → AreMarked marked (remove calls 0)
+marked_rest marked [] are k d lt = absurd (omega (arith, lt))
+marked_rest marked (c ∷ cs) are k d lt = are (suc k) d (omega (arith, lt))
+
+-- one more is marked by its own mark
+at_front : (calls : List Call) (c : Call) (k : ℕ) (d : Call) → k < length calls → get_or (calls ++ c ∷ []) k d ≡ get_or calls k d
+at_front [] c k d lt = absurd (omega (arith, lt))
+at_front (e ∷ es) c zero d lt = refl
+at_front (e ∷ es) c (suc k) d lt = at_front es c k d (omega (arith, lt))
+
+at_end : (calls : List Call) (c d : Call) → get_or (calls ++ c ∷ []) (length calls) d ≡ c
+at_end [] c d = refl
+at_end (e ∷ es) c d = at_end es c d
+
+length_one : (calls : List Call) (c : Call) → length (calls ++ c ∷ []) ≡ length calls + 1
+length_one [] c = refl
+length_one (e ∷ es) c = let rest = length_one es c in omega (arith, rest)
+
+pub marked_pushed : (marked : List Bool) (calls : List Call) (c : Call) (low : ℕ) → low < length marked → low ≡ low_bits c.back
+    → AreMarked marked calls → AreMarked (set marked low true) (calls ++ c ∷ [])
+marked_pushed marked calls c low within is are k d lt =
+    marked_more marked (calls ++ c ∷ []) (length calls) low within
+    (λ j e h. ap (λ (x : Call). get_or marked (low_bits x.back) false) (at_front calls c j e h) ∙ are j e h)
+    (λ e. is ∙ ap (λ (x : Call). low_bits x.back) (sym (at_end calls c e))) k d
+    (let long = length_one calls c in omega (arith, lt, long))

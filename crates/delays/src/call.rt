@@ -83,7 +83,7 @@ impl Calls {
             self.calls.remove(0);
         }
         self.calls.push(call);
-        self.marked = marked_by(self.calls.as_slice());
+        self.marked[low_bits(&call.back)] = true;
     }
 
     /// Whether surely none of them returns to where Z leads, as the low bits of its address tell of most steps.
