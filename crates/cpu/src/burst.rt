@@ -12,12 +12,25 @@ use crate::machine::Machine;
 use rope::Rope;
 use space::Eras;
 
+// Executes an instruction whose word the table has among those of TC, three of which are other instructions.
+macro_rules! execute_among_transfers {
+    ($machine:expr, $rope:expr, $word:expr) => {
+        match decode($word, false) {
+            Instruction::Relint => Some($machine.execute_as($rope, Instruction::Relint, $word, false)),
+            Instruction::Inhint => Some($machine.execute_as($rope, Instruction::Inhint, $word, false)),
+            Instruction::Extend => Some($machine.execute_as($rope, Instruction::Extend, $word, false)),
+            Instruction::Tc => Some($machine.execute_as($rope, Instruction::Tc, $word, false)),
+            _ => None,
+        }
+    };
+}
+
 // Executes an instruction outside extracode, where it is plain. Each has code of its own, in which what its row says is
 // known. This is a macro, since a function that several loops call is compiled as a call.
 macro_rules! execute_among_basic {
     ($machine:expr, $rope:expr, $word:expr) => {
         match basic_entry($word) {
-            Instruction::Tc => $machine.execute_transfer($rope, $word),
+            Instruction::Tc => execute_among_transfers!($machine, $rope, $word),
             Instruction::Ccs => Some($machine.execute_as($rope, Instruction::Ccs, $word, false)),
             Instruction::Tcf => Some($machine.execute_as($rope, Instruction::Tcf, $word, false)),
             Instruction::Das => Some($machine.execute_as($rope, Instruction::Das, $word, false)),
@@ -97,27 +110,6 @@ impl Machine {
         ensures still { IsStill self.new }
     {
         execute_among_basic!(self, rope, held)
-    }
-
-    /// The same of a word that the table has among those of TC, three of which are other instructions.
-    #[inline(always)]
-    fn execute_transfer(&mut self, rope: &Rope, word: u16) -> Option<bool>
-        requires still { IsStill self.old }
-        requires few { self.old.cycles ≤ most_cycles }
-        requires basic { self.old.extra ≡ false }
-        requires word { word ≡ word_at_z rope.now self.old }
-        ensures left { result ≡ None → self.new ≡ self.old }
-        ensures made { IfSome result (λ _. (self.new, None) ≡ execute rope.now self.old) }
-        ensures extra { IfSome result (λ extra. self.new.extra ≡ extra) }
-        ensures still { IsStill self.new }
-    {
-        match decode(word, false) {
-            Instruction::Relint => Some(self.execute_as(rope, Instruction::Relint, word, false)),
-            Instruction::Inhint => Some(self.execute_as(rope, Instruction::Inhint, word, false)),
-            Instruction::Extend => Some(self.execute_as(rope, Instruction::Extend, word, false)),
-            Instruction::Tc => Some(self.execute_as(rope, Instruction::Tc, word, false)),
-            _ => None,
-        }
     }
 
     /// The same under extracode, which is not in force afterwards: tells whether the instruction is plain.

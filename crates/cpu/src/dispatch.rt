@@ -16,7 +16,7 @@ use crate::instruction::Instruction::{
 /// How many words an entry of a table serves.
 const SERVED: u16 = 0o1000;
 
-/// What words are where extracode is not in force, but for the four that are set apart. `basic_by_digits` says the same.
+/// What words are where extracode is not in force, but for the four that are set apart, as `basic_by_digits` says too.
 const BASIC: [Instruction; 64] = [
     Tc, Tc, Tc, Tc, Tc, Tc, Tc, Tc, Ccs, Ccs, Tcf, Tcf, Tcf, Tcf, Tcf, Tcf, Das, Das, Lxch, Lxch,
     Incr, Incr, Ads, Ads, Ca, Ca, Ca, Ca, Ca, Ca, Ca, Ca, Cs, Cs, Cs, Cs, Cs, Cs, Cs, Cs, Index,
@@ -32,8 +32,8 @@ const EXTRACODES: [Instruction; 64] = [
     Bzmf, Bzmf, Bzmf, Bzmf, Bzmf, Mp, Mp, Mp, Mp, Mp, Mp, Mp, Mp,
 ];
 
-// The instruction of a number, where each number has an arm of its own: LLVM makes one jump of this `match` and of one on
-// the instruction, which a table or several numbers in an arm do not let it do.
+// The instruction of a number, where each number has an arm of its own: LLVM makes one jump of this `match` and of one
+// on the instruction, which a table or several numbers in an arm do not let it do.
 macro_rules! instruction_by_number {
     ($number:expr; $($($each:literal)+ => $instruction:ident,)+) => {
         match $number {
