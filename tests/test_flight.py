@@ -60,19 +60,19 @@ HOLES = ["02,4001", "02,4002", "02,4003", "02,4004"] + [f"04,{address:04o}" for 
 
 
 # Programs with holes, a semicolon between two lines, their feeds, the most steps, and by hand the lines put out and the step
-# and row of the hole. CA and WRITE take two cycles, EXTEND and TCF one, and an interrupt that is entered three. After the
+# and row of the hole. CA, WRITE and RESUME take two cycles, RELINT, EXTEND and TCF one, and an interrupt that is entered three. After the
 # second's RESUME, TCF ON waits while Z leads to a hole; the third's hole would be kept by an interrupt.
 OUT = " BLOCK 02;START CA FIVE; EXTEND; WRITE 10; VLOAD UNIT; X; EXIT; TC START;FIVE OCT 5;X EQUALS 1400"
-AFTER = " SETLOC 4000; TCF MAIN; SETLOC 4014; RESUME; SETLOC 4100;MAIN CA FIVE; TCF ON; VLOAD UNIT; EXIT;FIVE OCT 5;ON EXTEND; WRITE 10;HERE DLOAD EXIT"
-KEPT = " SETLOC 4000; TCF HERE; SETLOC 4014; RESUME; SETLOC 4100;HERE DLOAD # a comment; EXIT"
+AFTER = " SETLOC 4000; RELINT; TCF MAIN; SETLOC 4014; RESUME; SETLOC 4100;MAIN CA FIVE; TCF ON; VLOAD UNIT; EXIT;FIVE OCT 5;ON EXTEND; WRITE 10;HERE DLOAD EXIT"
+KEPT = " SETLOC 4000; RELINT; TCF HERE; SETLOC 4014; RESUME; SETLOC 4100;HERE DLOAD # a comment; EXIT"
 HOLED_RUNS = [
     ("it comes to no hole", OUT, "", 3, "5 CH 010 00005\n", ""),
     ("it comes to a hole", OUT, "", 4, "5 CH 010 00005\n", "agcws: HOLE AT STEP 4:     5 02,4003 00000   OCT 0 #  VLOAD UNIT\n"),
     ("it comes to a hole long before", OUT, "", 99999, "5 CH 010 00005\n", "agcws: HOLE AT STEP 4:     5 02,4003 00000   OCT 0 #  VLOAD UNIT\n"),
-    ("an instruction waits before a hole", AFTER, "3 RUPT 3\n", 8, "12 CH 010 00005\n", ""),
-    ("a hole has a label", AFTER, "3 RUPT 3\n", 9, "12 CH 010 00005\n", "agcws: HOLE AT STEP 9:    13 02,4107 00000  HERE OCT 0 # HERE DLOAD EXIT\n"),
-    ("an input comes at a hole", KEPT, "1 RUPT 3\n", 2, "", ""),
-    ("an interrupt keeps a hole", KEPT, "1 RUPT 3\n", 3, "", "agcws: HOLE AT STEP 3:     6 02,4100 00000  HERE OCT 0 # HERE DLOAD # a comment\n"),
+    ("an instruction waits before a hole", AFTER, "4 RUPT 3\n", 9, "13 CH 010 00005\n", ""),
+    ("a hole has a label", AFTER, "4 RUPT 3\n", 10, "13 CH 010 00005\n", "agcws: HOLE AT STEP 10:    14 02,4107 00000  HERE OCT 0 # HERE DLOAD EXIT\n"),
+    ("an input comes at a hole", KEPT, "2 RUPT 3\n", 3, "", ""),
+    ("an interrupt keeps a hole", KEPT, "2 RUPT 3\n", 4, "", "agcws: HOLE AT STEP 4:     7 02,4100 00000  HERE OCT 0 # HERE DLOAD # a comment\n"),
 ]
 
 
@@ -258,6 +258,9 @@ class Flight(Case):
         self.asm(text, "--flight", "--assume", "NV=VN,MM=DEC")
         write(f"{self.room}/rope.img", read(f"{self.room}/flight.img"))
         told = "COUNT 0\nUNCERTAIN 0 OF 2\nFORM VN CONFIRMED 2 DENIED 0\nBANK 02 CERTAIN 1 EQUAL 1 UNCERTAIN 2 HOLES 0\nASSUMED NV=VN CONFIRMED 1 DENIED 0\nASSUMED MM=DEC CONFIRMED 1 DENIED 0\n"
+        self.assertEqual(self.compare("--assume", "NV=VN,MM=DEC"), (0, told, ""))
+        # A comment of the source assumes nothing.
+        self.asm(text.replace(" VN 0509;", " VN 0509 # ASSUMED NV=VN;"), "--flight", "--assume", "NV=VN,MM=DEC")
         self.assertEqual(self.compare("--assume", "NV=VN,MM=DEC"), (0, told, ""))
         self.asm(text.replace("37#", "36#"), "--flight", "--assume", "NV=VN,MM=DEC")
         status, out, _ = self.compare("--assume", "NV=VN,MM=DEC")

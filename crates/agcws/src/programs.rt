@@ -49,17 +49,19 @@ fn run_holed(rt: &HostRuntime, asked: &Run<'_>) -> Result<u8, WorkshopFault> {
         rt,
         |out| run_to_hole(rt.alloc(), &source.text, &mut feed, steps, out, &mut told),
     )?;
-    tell_hole(rt, asked.program.path, &source, &ended.summary, told.as_slice())?;
+    tell_hole(
+        rt,
+        asked.program.path,
+        &source,
+        &ended.summary,
+        told.as_slice(),
+    )?;
     if asked.tells_end {
         write_end(&ended.summary, &mut Std::new(rt.stderr()))?;
     } else if !ended.has_stopped {
         tell_reached(rt, &ended.summary)?;
     }
-    Ok(if ended.has_stopped {
-        STOPPED
-    } else {
-        DONE
-    })
+    Ok(if ended.has_stopped { STOPPED } else { DONE })
 }
 
 /// Tells the line of a hole at which a run of a source has stopped, by the file that its row is of.

@@ -1,6 +1,6 @@
 -- A source under assumptions: each line of a form for which a wording is assumed is edited, and tells so in a comment at its end.
 use Rattle.std.specs.Prelude.{◌≡◌, ℕ, ◌+◌, decimal, List, [], ◌∷◌, ◌++◌, take, drop, codes, Option, None, Some}
-use Rattle.std.specs.Option.{option_map_or}
+use Rattle.std.specs.Option.{option_map, option_map_or}
 use Rattle.agc_text.specs.Lines.{lines}
 use Rattle.yayul.specs.declared.language.Language.TheVariants.{Flight}
 use Rattle.yayul.specs.Readings.{Parts, parts_for}
@@ -15,6 +15,10 @@ taken_by (wording ∷ more) parts = option_map_or (λ e. Some (wording, e)) (edi
 
 abbrev pub taken_on : List Wording → List ℕ → Option (Wording × Edit)
 taken_on wordings text = taken_by wordings (parts_for Flight text)
+
+-- the wording by which a line stands, if any
+abbrev pub wording_on : List Wording → List ℕ → Option Wording
+wording_on wordings text = option_map (λ t. t.0) (taken_on wordings text)
 
 -- what the code holds of them
 abbrev pub taken_in : Wording × LineEdit → Wording × Edit

@@ -7,5 +7,5 @@ pub mod laws;
 mod source;
 mod wording;
 
-pub use source::{assumed_rows, source_assumed};
+pub use source::{assumed_rows, source_assumed, wording_on};
 pub use wording::Wording;

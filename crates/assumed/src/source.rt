@@ -3,7 +3,7 @@
 ghost use Rattle.std.specs.Prelude.{◌≡◌, ◌++◌, codes, decimal, take, drop, IfOk, OnOk};
 ghost use Rattle.agc_text.specs.Lines.{lines};
 ghost use Rattle.assumed.specs.Sources.{edited, edited_rest, line_assumed, lines_assumed, source_assumed, taken_in};
-ghost use Rattle.assumed.specs.Sources.{assumed_row, assumed_rows, taken_line, taken_on};
+ghost use Rattle.assumed.specs.Sources.{assumed_row, assumed_rows, taken_line, taken_on, wording_on};
 ghost use Rattle.assumed.specs.Wordings.{edit_in, wording_name};
 
 use crate::edits::{LineEdit, taken_by};
@@ -63,6 +63,17 @@ pub fn assumed_rows(
         rest = after;
     }
     Ok(rows)
+}
+
+/// The wording by which a line of a source stands, if any.
+pub fn wording_on(wordings: &[Wording], text: &[u8]) -> Option<Wording>
+    ensures { result ≡ wording_on wordings.now text.now }
+{
+    let parts = reading_of(Language::Flight, text);
+    match taken_by(wordings, &parts) {
+        Some((wording, _)) => Some(wording),
+        None => None,
+    }
 }
 
 // Appends the row of a line, where it stands by an assumption.

@@ -1,9 +1,9 @@
 //! The subcommands of runs, and their arguments.
 
 use crate::names::{
-    ACCESS, BOUND, COVER, DEBUG, DELAYS, DIFFER, END, EXTENDED, FLIGHT, FROM, JSON, KEPT, LOOPS,
-    NOTES, PLACE, PROGRESS, REACH, READS, ROUTINE, RUN, RUN_FEED, RUN_STEPS, SAY, TO, TRACE, TRIALS,
-    UNTIL_IDLE, WHATIF, WHY, WITH, WITH_HOLES,
+    ACCESS, BOUND, COVER, DEBUG, DELAYS, DIFFER, END, EXTENDED, FLIGHT, FROM, IMAGE, JSON, KEPT,
+    LOOPS, NOTES, PLACE, PROGRESS, REACH, READS, ROUTINE, RUN, RUN_FEED, RUN_STEPS, SAY, TO, TRACE,
+    TRIALS, UNTIL_IDLE, WHATIF, WHY, WITH, WITH_HOLES,
 };
 use crate::row::{Row, Subcommand, Value};
 use crate::rows::{
@@ -45,7 +45,7 @@ static RUN_ROWS: [Row; 14] = [
         name: WITH_HOLES,
         long: Some("holes"),
         needs: &[FLIGHT],
-        conflicts: &[UNTIL_IDLE, NOTES, PROGRESS],
+        conflicts: &[IMAGE, UNTIL_IDLE, NOTES, PROGRESS],
         help: "Interpretive lines are holes, and stop the run",
         ..FLAG
     },

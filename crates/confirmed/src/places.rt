@@ -4,25 +4,20 @@ ghost use Rattle.std.specs.Prelude.{◌≡◌, ◌+◌, ◌-◌, ◌<◌, ◌≤
 ghost use Rattle.agc_text.specs.Lines.{lines};
 ghost use Rattle.rope.specs.Places.{fixed_places, place_number};
 ghost use Rattle.certain.specs.Rows.{place_before};
-ghost use Rattle.confirmed.specs.Confirmed.{assumed_words, ends_in, line_on, mark_of, marked_by, none_assumed};
+ghost use Rattle.confirmed.specs.Confirmed.{assumed_words, first_wording, line_on, none_assumed};
 ghost use Rattle.confirmed.specs.Confirmed.{row_passed, rows_passed, start_with, with_wording};
 
 use agc_text::next_line;
-use arrayvec::ArrayVec;
-use assumed::Wording;
-use certain::{is_second, place_before, placed_rows, text_on};
+use assumed::{Wording, wording_on};
+use certain::{is_second, place_before, placed_rows};
 use rope::Rope;
 use space::BANK_WORDS;
 use std::alloc::{AllocError, Global};
 use std::marker::Model;
-use words::push_all;
 use yayul::SourceRows;
 
 /// How many places there are, those of the banks 044 to 047 included.
 const HELD_PLACES: usize = 0o50 * BANK_WORDS as usize;
-
-/// The mark at the end of a line that stands by a wording, with a name of at most 12 bytes.
-type Mark = ArrayVec<u8, 24>;
 
 /// A line of a source: its number, from 1 on, and the wording by which it stands.
 #[derive(Clone, Copy, Drop)]
@@ -42,57 +37,35 @@ impl MarkedLine {
         }
     }
 
-    // The line of a row after this one.
-    fn next(&self, wordings: &[Wording], row: &[u8]) -> MarkedLine
+    // The line after this one, the first of those of a source that are left.
+    fn next(&self, wordings: &[Wording], left: &[u8]) -> MarkedLine
         requires { self.now.number + 1 < 2 ^ 64 }
-        ensures { result ≡ line_on wordings.now self.now row.now }
+        ensures { result ≡ line_on wordings.now self.now (lines left.now) }
     {
-        let number = self.number + 1;
         MarkedLine {
-            number,
-            wording: marked_by(wordings, text_on(number, row)),
+            number: self.number + 1,
+            wording: first_wording(wordings, left),
         }
     }
 }
 
-// The first of some wordings with whose mark a line ends.
-fn marked_by(wordings: &[Wording], text: &[u8]) -> Option<Wording>
-    ensures { result ≡ marked_by wordings.now text.now }
+// The wording by which the first line of a text stands, if any.
+fn first_wording(wordings: &[Wording], text: &[u8]) -> Option<Wording>
+    ensures { result ≡ first_wording wordings.now (lines text.now) }
 {
-    let Some((wording, more)) = wordings.split_first() else {
-        return None;
-    };
-    if is_marked(*wording, text) {
-        Some(*wording)
-    } else {
-        marked_by(more, text)
+    match next_line(text) {
+        Some((line, _)) => wording_on(wordings, line),
+        None => None,
     }
 }
 
-// Whether a line ends in the mark of a wording.
-fn is_marked(wording: Wording, text: &[u8]) -> bool
-    ensures { result ≡ ends_in (mark_of wording) text.now }
+// The lines of a text after the first.
+fn after_first(text: &[u8]) -> &[u8]
+    ensures { lines result.now ≡ drop 1 (lines text.now) }
 {
-    let mark = mark_of(wording);
-    bytes_after(text, text.len().saturating_sub(mark.len())) == mark.as_slice()
-}
-
-// What a line that stands by a wording ends in.
-fn mark_of(wording: Wording) -> Mark
-    ensures { result.items ≡ mark_of wording }
-{
-    let mut mark = ArrayVec::new();
-    push_all(&mut mark, b" # ASSUMED ");
-    push_all(&mut mark, wording.name());
-    mark
-}
-
-fn bytes_after(text: &[u8], count: usize) -> &[u8]
-    ensures { result.now ≡ drop count text.now }
-{
-    match text.get(count..) {
-        Some(rest) => rest,
-        None => &[],
+    match next_line(text) {
+        Some((_, after)) => after,
+        None => text,
     }
 }
 
@@ -116,16 +89,18 @@ impl Model for AssumedPlaces {
 }
 
 impl AssumedPlaces {
-    /// Those of the lines of a source under assumptions, whose words stand in a fixed memory. `None` is that memory ran
-    /// out.
+    /// Those of the lines of a source, whose rows under assumptions are given, and whose words stand in a fixed memory.
+    /// `None` is that memory ran out.
     #[tactic(auto, unfolding(crate::specs::Confirmed::assumed_words))]
     pub fn of(
         alloc: Global,
         wordings: &[Wording],
+        source: &[u8],
         rows: &SourceRows,
         rope: &Rope,
     ) -> Option<AssumedPlaces>
-        ensures { IfSome result (λ places. places ≡ assumed_words wordings.now rows.now rope.now) }
+        ensures { IfSome result (λ places. places
+            ≡ assumed_words wordings.now source.now rows.now rope.now) }
     {
         let Some(listing) = placed_rows(alloc, rows, rope) else {
             return None;
@@ -133,7 +108,7 @@ impl AssumedPlaces {
         let Ok(mut places) = AssumedPlaces::none(alloc) else {
             return None;
         };
-        places.walk(wordings, listing.as_slice());
+        places.walk(wordings, source, listing.as_slice());
         Some(places)
     }
 
@@ -154,30 +129,41 @@ impl AssumedPlaces {
         Ok(AssumedPlaces { held })
     }
 
-    // Holds the wordings of the words of some rows.
-    fn walk(&mut self, wordings: &[Wording], listing: &[u8])
-        ensures { self.new ≡ (rows_passed wordings.now (start_with self.old) (lines listing.now)).held }
+    // Holds the wordings of the words of some rows, those of the lines of a source.
+    fn walk(&mut self, wordings: &[Wording], source: &[u8], listing: &[u8])
+        ensures { self.new
+            ≡ (rows_passed wordings.now (start_with (lines source.now) self.old) (lines listing.now)).held }
     {
         let mut line = MarkedLine::none();
+        let mut left = source;
         let mut rest = listing;
         while let Some((row, after)) = next_line(rest) {
-            self.pass(wordings, &mut line, row);
+            left = self.pass(wordings, &mut line, left, row);
             rest = after;
         }
     }
 
-    // Holds the wording of the word of a row, and which line is the last one.
+    // Holds the wording of the word of a row, and which line is the last one. Answers the lines that are left.
     #[tactic(auto, unfolding(crate::specs::Confirmed::row_passed))]
-    fn pass(&mut self, wordings: &[Wording], line: &mut MarkedLine, row: &[u8])
+    fn pass<'a>(
+        &mut self,
+        wordings: &[Wording],
+        line: &mut MarkedLine,
+        left: &'a [u8],
+        row: &[u8],
+    ) -> &'a [u8]
         requires { line.old.number + 1 < 2 ^ 64 }
-        ensures walk { record { line = line.new; held = self.new }
-            ≡ row_passed wordings.now (record { line = line.old; held = self.old }) row.now }
+        ensures walk { record { line = line.new; left = lines result.now; held = self.new }
+            ≡ row_passed wordings.now (record { line = line.old; left = lines left.now; held = self.old }) row.now }
         ensures number { line.new.number ≤ line.old.number + 1 }
     {
-        if !is_second(line.number, row) {
-            *line = line.next(wordings, row);
+        if is_second(line.number, row) {
+            self.hold(place_before(row), line.wording);
+            return left;
         }
+        *line = line.next(wordings, left);
         self.hold(place_before(row), line.wording);
+        after_first(left)
     }
 
     // Holds the wording of the word at a place, if there is one.

@@ -35,6 +35,7 @@ pub fn first_hole(processor: &mut Processor, other: &Rope, steps: u64) -> Option
     requires { steps ≤ 2 ^ 40 - 2 }
     ensures found { result ≡ first_hole processor.old.scenario other.now steps }
     ensures before { IfSome result (λ hole. hole.steps < steps) }
+    ensures few { IfSome result (λ hole. hole.steps < 2 ^ 40) }
     ensures scenario { processor.new.scenario ≡ processor.old.scenario }
     ensures once { processor.new.meter ≤ processor.old.meter + steps }
 {

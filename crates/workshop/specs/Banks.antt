@@ -33,36 +33,36 @@ GivesAssumed wordings holes source result =
     (program_as holes (codes "1") (source_assumed wordings source)) result
 
 -- what is written of the banks, and then what the image says of each wording that is assumed
-abbrev pub assumed_text : List Wording → Program → Words → Words → List ℕ
-assumed_text wordings p other image =
+abbrev pub assumed_text : List Wording → List ℕ → Program → Words → Words → List ℕ
+assumed_text wordings source p other image =
     banks_text (uncertain_words p.source p.rope) p.rope other image
-    ++ assumed_lines wordings (assumed_words wordings p.source p.rope) (filled p.rope other image) image
+    ++ assumed_lines wordings (assumed_words wordings source p.source p.rope) (filled p.rope other image) image
 
 -- where memory is refused nothing is written; else all of it, and how many places differ is answered
-abbrev pub WritesBanks : List Wording → Program → Words → Words → Writer → Writer → Result ℕ WorkshopFault → Type 0
-WritesBanks wordings p other image before after result =
+abbrev pub WritesBanks : List Wording → List ℕ → Program → Words → Words → Writer → Writer → Result ℕ WorkshopFault → Type 0
+WritesBanks wordings source p other image before after result =
     ((result ≡ Err NoMemory) × (after ≡ before))
-    ⊎ (WritesText (assumed_text wordings p other image) before after result
+    ⊎ (WritesText (assumed_text wordings source p other image) before after result
     × IfOk result (λ count. count ≡ length (differing Filled (filled p.rope other image) image)))
 
 -- where the image was read all is written, and after a fault nothing
-abbrev pub BanksThen : List Wording → Program → Words → Result Words RopeFault → Writer → Writer → Result ℕ WorkshopFault → Type 0
-BanksThen wordings p other (Ok image) before after result = WritesBanks wordings p other image before after result
-BanksThen wordings p other (Err fault) before after result = (result ≡ Err (of_rope_fault fault)) × (after ≡ before)
+abbrev pub BanksThen : List Wording → List ℕ → Program → Words → Result Words RopeFault → Writer → Writer → Result ℕ WorkshopFault → Type 0
+BanksThen wordings source p other (Ok image) before after result = WritesBanks wordings source p other image before after result
+BanksThen wordings source p other (Err fault) before after result = (result ≡ Err (of_rope_fault fault)) × (after ≡ before)
 
 -- an image is read, and compared with a source
-pub record BanksNext (wordings : List Wording) (version : Version) (p : Program) (other : Words) (before after : Showing)
-    (result : Result ℕ WorkshopFault) : Type 0 where
+pub record BanksNext (wordings : List Wording) (source : List ℕ) (version : Version) (p : Program) (other : Words)
+    (before after : Showing) (result : Result ℕ WorkshopFault) : Type 0 where
   pub read : Result Words RopeFault
   pub reads : ReadsRope version before.image after.image read
-  pub next : BanksThen wordings p other read before.out after.out result
+  pub next : BanksThen wordings source p other read before.out after.out result
 
 -- where a source was assembled an image is read, and after a fault nothing of it, and nothing is written; and which was read last
-abbrev pub ComparesBanksThen : List Wording → Version → Result (Program × Words) Fault → Showing → Showing → Compared
+abbrev pub ComparesBanksThen : List Wording → List ℕ → Version → Result (Program × Words) Fault → Showing → Showing → Compared
     → Result ℕ WorkshopFault → Type 0
-ComparesBanksThen wordings version (Ok p) before after last result =
-    BanksNext wordings version p.0 p.1 before after result × (last ≡ compared.New)
-ComparesBanksThen wordings version (Err fault) before after last result =
+ComparesBanksThen wordings source version (Ok p) before after last result =
+    BanksNext wordings source version p.0 p.1 before after result × (last ≡ compared.New)
+ComparesBanksThen wordings source version (Err fault) before after last result =
     (result ≡ Err (of_source_fault fault)) × (after ≡ before) × (last ≡ compared.Old)
 
 -- a source under assumptions is assembled, with holes or not, and then an image is read, and they are compared
@@ -70,4 +70,4 @@ pub record ComparesBanks (wordings : List Wording) (holes : Bool) (source : List
     (last : Compared) (result : Result ℕ WorkshopFault) : Type 0 where
   pub assembled : Result (Program × Words) Fault
   pub gives : GivesAssumed wordings holes source assembled
-  pub next : ComparesBanksThen wordings version assembled before after last result
+  pub next : ComparesBanksThen wordings source version assembled before after last result

@@ -52,7 +52,7 @@ pub fn compare_banks_engine<R: Read, W: Write>(
     let (program, other) = assemble_assumed(alloc, wordings, holes, source)?;
     *last = Compared::New;
     let words = Rope::read(alloc, image, version)?;
-    compare_banks(alloc, wordings, program, &other, &words, out)
+    compare_banks(alloc, wordings, source, program, &other, &words, out)
 }
 
 /// Assembles a source under assumptions, in which lines of the interpretive language are holes, or are refused.
@@ -78,12 +78,13 @@ fn assemble_assumed(
 fn compare_banks<W: Write>(
     alloc: Global,
     wordings: &[Wording],
+    source: &[u8],
     program: Program,
     other: &Rope,
     words: &Rope,
     out: &mut W,
 ) -> Result<u32, WorkshopFault>
-    ensures { WritesBanks wordings.now program other.now words.now (writer W.told W.written W.failures out.old)
+    ensures { WritesBanks wordings.now source.now program other.now words.now (writer W.told W.written W.failures out.old)
         (writer W.told W.written W.failures out.new) result }
 {
     let (rope, rows) = program.split_rows();
@@ -91,7 +92,7 @@ fn compare_banks<W: Write>(
     let Some(uncertain) = UncertainPlaces::of(alloc, &rows, &rope) else {
         return Err(WorkshopFault::NoMemory);
     };
-    let Some(places) = AssumedPlaces::of(alloc, wordings, &rows, &rope) else {
+    let Some(places) = AssumedPlaces::of(alloc, wordings, source, &rows, &rope) else {
         return Err(WorkshopFault::NoMemory);
     };
     Ok(write_assumed(

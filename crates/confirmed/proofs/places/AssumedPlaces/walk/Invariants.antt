@@ -5,8 +5,8 @@ use Rattle.confirmed.proofs.places.AssumedPlaces.walk.Given as goal
 
 abbrev pub invariant-loop-row : goal.invariant-loop-row
 invariant-loop-row l = record {
-  walk : rows_passed l.wordings (record { line = l.line; held = l.self }) (lines l.rest)
-      ≡ rows_passed l.wordings (start_with l.initial.self) (lines l.listing);
+  walk : rows_passed l.wordings (record { line = l.line; left = lines l.left; held = l.self }) (lines l.rest)
+      ≡ rows_passed l.wordings (start_with (lines l.source) l.initial.self) (lines l.listing);
   few : l.line.number + length l.rest ≤ length l.listing;
 }
 
