@@ -72,15 +72,15 @@ fn run_holed<W: Write, E: Write>(
     let (rope, _, rows) = program.split_all();
     let mut processor = Processor::new(rope, feed);
     let found = first_hole(&mut processor, other, steps);
-    let made = steps_made(found, steps);
+    let made = steps_made(&found, steps);
     let summary = run(&mut processor, made, out, &mut Unheard)?;
-    tell_hole(found, summary, &rows, processor.rope(), errors)
+    tell_hole(&found, &summary, &rows, processor.rope(), errors)
 }
 
 /// How many steps are made: those before a hole, or all.
-fn steps_made(found: Option<FoundHole>, steps: u64) -> u64
-    requires { IfSome found (λ hole. hole.steps < steps) }
-    ensures value { result ≡ steps_made found steps }
+fn steps_made(found: &Option<FoundHole>, steps: u64) -> u64
+    requires { IfSome found.now (λ hole. hole.steps < steps) }
+    ensures value { result ≡ steps_made found.now steps }
     ensures within { result ≤ steps }
 {
     match found {
@@ -91,25 +91,25 @@ fn steps_made(found: Option<FoundHole>, steps: u64) -> u64
 
 /// Tells the hole at which a run has stopped, where it has, and what the run has come to.
 fn tell_hole<E: Write>(
-    found: Option<FoundHole>,
-    summary: Summary,
+    found: &Option<FoundHole>,
+    summary: &Summary,
     rows: &SourceRows,
     words: &Rope,
     errors: &mut E,
 ) -> Result<HoledSummary, WorkshopFault>
-    requires { IfSome found (λ hole. hole.steps < 2 ^ 40) }
-    ensures { TellsFound rows.now words.now found summary
+    requires { IfSome found.now (λ hole. hole.steps < 2 ^ 40) }
+    ensures { TellsFound rows.now words.now found.now summary.now
         (writer E.told E.written E.failures errors.old) (writer E.told E.written E.failures errors.new) result }
 {
     let Some(hole) = found else {
         return Ok(HoledSummary {
-            summary,
+            summary: *summary,
             has_stopped: false,
         });
     };
-    write_hole(&hole, rows, words, errors)?;
+    write_hole(hole, rows, words, errors)?;
     Ok(HoledSummary {
-        summary,
+        summary: *summary,
         has_stopped: true,
     })
 }
