@@ -6,6 +6,7 @@ import io
 import subprocess
 import sys
 import unittest
+from unittest import mock
 
 from common import ROOT
 
@@ -54,6 +55,14 @@ class Parts(unittest.TestCase):
         with contextlib.redirect_stdout(io.StringIO()):
             made = check.beside("some", ["echo", "'1 passed, 0 failed'"], ["false"], ["echo", "'2 passed, 0 failed'"]).end()
         self.assertEqual(made.counts(), (3, 1))
+
+    def test_proofs_side_by_side_by_processors_and_memory(self):
+        sys.path.insert(0, f"{ROOT}/gate")
+        import toolchain
+
+        for processors, free, wanted in ((4, 22e9, 4), (4, 14e9, 2), (4, 3e9, 1), (2, 22e9, 2)):
+            with self.subTest(processors=processors, free=free), mock.patch.multiple(toolchain, processors=lambda: processors, free=lambda: free):
+                self.assertEqual(check.proofs_at_once(), wanted)
 
     def test_other_words(self):
         ran = subprocess.run([sys.executable, CHECK, "--fast"], capture_output=True, text=True, check=False)
