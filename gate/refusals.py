@@ -34,7 +34,7 @@ TURNS = [
     ["words", "json_text", "audit", "align"],
     ["replay", "test_devices", "test_keepers"],
     ["feed", "rope", "space", "expect", "certain", "holes"],
-    ["calls", "trace", "names", "cover", "reach", "bound", "notes", "access", "delays", "say", "whatif", "origins", "branches", "idle", "instructions", "addressed", "differ", "xref", "uses", "source_laws", "way_laws", "named_source", "image_file", "plans", "octals", "assumed", "confirmed", "included", "agcws"],
+    ["calls", "trace", "names", "cover", "reach", "bound", "notes", "access", "delays", "say", "whatif", "origins", "branches", "idle", "instructions", "addressed", "differ", "xref", "uses", "source_laws", "way_laws", "notation_laws", "named_source", "image_file", "command_line", "plans", "octals", "assumed", "confirmed", "included", "agcws"],
 ]
 
 

@@ -1,4 +1,4 @@
-/** The engine: all that a page knows of the program, calls of it and sessions (engine.js, which needs module/host.js alone). */
+/** The engine: all that a page knows of the program, calls of it and sessions (engine.js, which needs module/host.js and module/unpack.js alone). */
 
 /** What comes from the program's two streams. What is not UTF-8 is U+FFFD. */
 export interface Written<T = string> {
@@ -77,12 +77,12 @@ export interface Engine {
     close(): void;
 }
 
-/** The engine in the page. The module is a text, base64 of it packed by gzip; or its bytes; or the URL of its file, which pages opened from the disk cannot read. */
+/** The engine in the page. The module is a text, as one_file.py packs it; or its bytes; or the URL of its file, which pages opened from the disk cannot read. */
 export function moduleEngine(module: string | Uint8Array | ArrayBuffer | URL): Engine;
 
 /** The native program behind `views/web`: the URL is a WebSocket's. */
 export function serverEngine(url: string): Engine;
 
-/** The engine that a document holds: <script type="text/plain" id="agcws-module">BASE64 OF GZIP</script>, or <meta name="agcws-engine" content="PATH OF THE SOCKET">,
+/** The engine that a document holds: <script type="text/plain" id="agcws-module">PACKED MODULE</script>, or <meta name="agcws-engine" content="PATH OF THE SOCKET">,
  * or <link id="agcws-module" href="agcws.wasm">, in this order; throws where there is none. */
 export function engineIn(document: Document): Engine;

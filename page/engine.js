@@ -6,6 +6,7 @@
 // was given is answered; and last {status, files, asked, seconds} or {failed, seconds}, where asked tells that its input
 // was at its end when it asked for more.
 import {aboutOf, callsOf, Inode, Files, Linux, run} from './module/host.js';
+import {unpacked} from './module/unpack.js';
 
 const MOST_MEMORY = 2 ** 28;
 const MOST_WRITTEN = 2 ** 26;
@@ -24,7 +25,7 @@ function joined(parts) {
     return all;
 }
 
-/** What a worker does: it runs the module each time that it is told to begin, and takes lines meanwhile. */
+/** What a worker does: it unpacks the module, or runs it each time that it is told to begin, and takes lines meanwhile. */
 function work() {
     const TOLD_SECONDS = 0.05, TOLD_BYTES = 65536;
     const now = () => performance.now() / 1000;
@@ -103,19 +104,51 @@ function work() {
         }
     }
 
-    onmessage = ({data}) => (data.module ? begin(data) : take(data));
+    function unpack(text) {
+        try {
+            const bytes = unpacked(bytesOfBase64(text));
+            postMessage({bytes}, [bytes.buffer]);
+        } catch (error) {
+            postMessage({failed: error.message});
+        }
+    }
+
+    onmessage = ({data}) => (data.packed ? unpack(data.packed) : data.module ? begin(data) : take(data));
 }
 
 /** The runs of the module in a page, each in a worker. */
 class Workers {
     constructor(source) {
-        const parts = [Linux, Inode, Files, callsOf, aboutOf, run, joined, work];
+        const parts = [Linux, Inode, Files, callsOf, aboutOf, run, unpacked, bytesOfBase64, joined, work];
         const text = `'use strict';\n${parts.map(String).join('\n')}\nwork();\n`;
         this.url = URL.createObjectURL(new Blob([text], {type: 'text/javascript'}));
-        this.module = bytesOfModule(source).then(bytes => WebAssembly.compile(bytes));
         [this.idle, this.busy] = [[], new Set()];
+        this.module = this.bytesOf(source).then(bytes => WebAssembly.compile(bytes));
         // (a page may ask for none of its runs)
         this.module.catch(() => {});
+    }
+
+    /** The bytes of a module, from its packed text, its bytes or its address. */
+    async bytesOf(source) {
+        if (source instanceof URL) {
+            const answer = await fetch(source);
+            if (!answer.ok) {
+                throw new Error(`${source} cannot be read: ${answer.status}`);
+            }
+            return answer.arrayBuffer();
+        }
+        return typeof source === 'string' ? this.unpack(source) : source;
+    }
+
+    /** Unpacks a text in a worker, which is kept for the first run: the page goes on meanwhile. */
+    unpack(packed) {
+        return new Promise((done, fail) => {
+            const worker = this.worker(({bytes, failed}) => {
+                this.leave(worker, bytes !== undefined);
+                return bytes ? done(bytes) : fail(new Error(failed));
+            });
+            worker.postMessage({packed});
+        });
     }
 
     /** Begins a run. receive gets its messages. */
@@ -378,22 +411,6 @@ function base64Of(bytes) {
         text += String.fromCharCode(...bytes.subarray(at, at + 32768));
     }
     return btoa(text);
-}
-
-/** The bytes of a module, from its packed text, its bytes or its address. */
-async function bytesOfModule(source) {
-    if (source instanceof URL) {
-        const answer = await fetch(source);
-        if (!answer.ok) {
-            throw new Error(`${source} cannot be read: ${answer.status}`);
-        }
-        return answer.arrayBuffer();
-    }
-    if (typeof source !== 'string') {
-        return source;
-    }
-    const packed = new Blob([bytesOfBase64(source)]).stream().pipeThrough(new DecompressionStream('gzip'));
-    return new Response(packed).arrayBuffer();
 }
 
 /** The engine in the page. Sessions are one run each where this browser can have one wait. */

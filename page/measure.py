@@ -67,7 +67,7 @@ def in_chromium(module, room):
     """The processor seconds of each program in a page, and when its engine was ready."""
     answers, found, at = test_module.Answers(), {}, {}
     files = {f"{it}.agc": read(f"{test_module.ROOT}/bench/{it}.agc").decode() for it in NAMES} | {"my.feed": ""}
-    script = one_file.script([f"{test_module.PAGES}/module/host.js", f"{test_module.PAGES}/engine.js", write(f"{room}/measured.js", SCRIPT.encode())])
+    script = one_file.script([f"{test_module.PAGES}/module/host.js", f"{test_module.PAGES}/module/unpack.js", f"{test_module.PAGES}/engine.js", write(f"{room}/measured.js", SCRIPT.encode())])
     cases = json.dumps({"address": answers.address, "names": NAMES, "steps": STEPS, "files": files}).replace("</", "<\\/")
     page = write(f"{room}/page.html", test_module.PAGE.format(module=one_file.packed(read(module)), cases=cases, script=script).encode())
     words, env = test_module.chromium(room, f"file://{page}")

@@ -106,6 +106,15 @@ const PROMISES = {
         engine.close();
         return why && failed && status === null ? '' : `${why} ${failed}`;
     },
+    async 'a packed module that is damaged is told'() {
+        const text = document.getElementById('agcws-module').textContent.trim(), middle = text.length >> 1;
+        const other = text[middle] === 'A' ? 'B' : 'A';
+        const engine = moduleEngine(text.slice(0, middle) + other + text.slice(middle + 1));
+        const why = await engine.about.then(() => '', error => error.message);
+        const {failed, status} = await engine.call(['--version']);
+        engine.close();
+        return why.startsWith('the packed module is damaged: ') && failed === why && status === null ? '' : `${why} ${failed}`;
+    },
     async 'an engine that is closed runs nothing more'() {
         const engine = engineIn(document);
         await engine.call(['--version']);

@@ -53,6 +53,7 @@ cover --image --json --symbols five.lst --progress OPTIONS IMAGE good.feed 9
 reach --image OPTIONS IMAGE
 reach --image --symbols five.lst OPTIONS IMAGE
 reach --image --feed good.feed --steps 9 OPTIONS IMAGE
+reach --image --roots OPTIONS IMAGE
 bound --image OPTIONS IMAGE 02,4000
 bound --image --symbols five.lst --kept A OPTIONS IMAGE 02,4000
 trace --image --reads OPTIONS IMAGE good.feed 9

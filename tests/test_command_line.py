@@ -23,8 +23,7 @@ class CommandLine(Case):
             with self.subTest(f"the help of {name}"):
                 self.assertAnswer(got, 0, read(f"{TESTS}/help/{name}.txt"))
             with self.subTest(f"the width of the help of {name}"):
-                # (one line of run's has 81)
-                self.assertTrue(all(len(it) <= (81 if name == "run" else 80) for it in got[1].decode().split("\n")))
+                self.assertTrue(all(len(it) <= 80 for it in got[1].decode().split("\n")))
             with self.subTest(f"agcws help for {name}"):
                 self.assertAnswer(agcws("help", *([] if name == "agcws" else [name])), *got)
         with self.subTest("a subcommand that is none"):
@@ -51,7 +50,7 @@ class CommandLine(Case):
             self.assertAnswer(agcws("run", "--verbose", "five.agc", "empty.feed", "5"), 2, b"", read(f"{TESTS}/help/unknown_option_of_run.txt"))
         with self.subTest("a bank that is none"):
             self.assertAnswer(agcws("words", "my.rope", "44"), 2, b"", read(f"{TESTS}/help/unknown_bank.txt"))
-        version = re.search(rb'PROGRAM_VERSION: &str = "(.*)";', read(f"{ROOT}/crates/command_line/src/building.rt")).group(1)
+        version = re.search(rb'PROGRAM_VERSION: &str = "(.*)";', read(f"{ROOT}/crates/command_line/src/top.rt")).group(1)
         with self.subTest("agcws --version"):
             self.assertAnswer(agcws("--version"), 0, b"agcws " + version + b"\n")
         source, empty = f"{EXAMPLES}/five_plus_five.agc", f"{EXAMPLES}/empty.feed"

@@ -157,6 +157,45 @@ class Flight(Case):
         self.assertEqual(self.compare("--holes", "--banks"), wanted)
         self.assertEqual(self.compare("--banks"), (1, "", "agcws: E15 LINE 7\n"))
 
+    def test_words_with_holes(self):
+        """A rope's words are shown with the names of the source; but those of holes with HOLE, and no other line changes."""
+        status, listing, err = self.asm(MODULE, "--flight", "--holes")
+        self.assertEqual((status, err), (0, ""))
+        write(f"{self.room}/names.lst", listing.encode())
+        rope = bytearray(read(f"{self.room}/flight.img"))
+        # at the last hole of bank 2 EXTEND, by which the word behind it is an extracode, and at the others 77777
+        for offset, word in ((1, 0o77777), (2, 0o77777), (3, 0o77777), (4, 6)):
+            rope[2 * offset : 2 * offset + 2] = (2 * word + (bin(word).count("1") + 1) % 2).to_bytes(2, "big")
+        write(f"{self.room}/rope.img", bytes(rope))
+        for bank in ((), ("02",), ("04",), ("05",)):
+            told = [subprocess.run([PROGRAM, "words", *options, f"{self.room}/rope.img", *bank], capture_output=True, timeout=300) for options in (("--symbols", f"{self.room}/names.lst"), ("--flight", "--holes", "--symbols", f"{self.room}/flight.agc"))]
+            self.assertEqual([it.returncode for it in told], [0, 0])
+            plain, holed = ([line for line in it.stdout.decode().splitlines()] for it in told)
+            with self.subTest(bank):
+                self.assertEqual(holed, [line[:13] + " HOLE" if line[:7] in HOLES else line for line in plain])
+        self.assertIn("02,4003 77777 HOLE", self.words("02")[1].splitlines())
+        for text in (MODULE.replace("CADR VSUB", "CADX VSUB"), MODULE.replace("NOOP", "NOPE")):
+            write(f"{self.room}/flight.agc", text.replace(";", "\n").encode() + b"\n")
+            for options in ((), ("--where",)):
+                status, out, err = self.words("02", *options)
+                self.assertTrue((status, out) == (1, "") and err.startswith("agcws: E15 LINE "), err)
+        self.assertEqual(self.asm(MODULE, "--flight", "--holes")[0], 0)
+        write(f"{self.room}/rope.img", bytes(rope[:-1]))
+        self.assertEqual(self.words(), (1, "", "agcws: E3\n"))
+
+    def words(self, *words):
+        ran = subprocess.run([PROGRAM, "words", "--flight", "--holes", "--symbols", f"{self.room}/flight.agc", f"{self.room}/rope.img", *words], capture_output=True, timeout=300)
+        return ran.returncode, ran.stdout.decode(), ran.stderr.decode()
+
+    def test_words_refused(self):
+        """--holes asks for --flight and for names, and says nothing of sources and cross-references."""
+        self.assertEqual(self.asm(MODULE, "--flight", "--holes")[0], 0)
+        rope, source = f"{self.room}/flight.img", f"{self.room}/flight.agc"
+        for options in (("--holes",), ("--flight",), ("--flight", "--holes"), ("--holes", "--symbols", source), ("--flight", "--symbols", source), ("--flight", "--holes", "--symbols", source, "--xref"), ("--flight", "--holes", "--symbols", source, "--source")):
+            ran = subprocess.run([PROGRAM, "words", *options, rope], capture_output=True, timeout=300)
+            with self.subTest(options):
+                self.assertEqual((ran.returncode, ran.stdout), (2, b""))
+
     def run_holed(self, text, feed, steps, *options):
         write(f"{self.room}/flight.agc", text.replace(";", "\n").encode() + b"\n")
         write(f"{self.room}/flight.feed", feed.encode())

@@ -302,6 +302,20 @@ for (const line of fs.readFileSync(0, 'utf8').trim().split('\\n')) {
 }
 console.log(out.join('\\n'));
 """
+# Unpacks lines of base64, and answers each by the sum of what it was, or why it was refused.
+UNPACKED = """
+const fs = require('fs'), {createHash} = require('crypto');
+import(process.argv[1]).then(({unpacked}) => {
+    const out = fs.readFileSync(0, 'utf8').split('\\n').map(line => {
+        try {
+            return createHash('sha256').update(unpacked(new Uint8Array(Buffer.from(line, 'base64')))).digest('hex');
+        } catch (error) {
+            return `${error.message}`;
+        }
+    });
+    console.log(out.join('\\n'));
+});
+"""
 
 
 class Answers:
@@ -673,6 +687,66 @@ class Moves(ModuleCase):
             self.assertEqual(ran.stdout.split(), wanted, ran.stderr[-400:])
 
 
+class Packed(ModuleCase):
+    """The module as a page holds it."""
+
+    refused = "the packed module is damaged: "
+
+    def unpacked(self, packed):
+        """What unpack.js makes of some texts of a page: a sum of the bytes, or why it refuses them."""
+        words = ["node", "-e", UNPACKED, f"{PAGES}/module/unpack.js"]
+        ran = subprocess.run(words, input="\n".join(packed), capture_output=True, text=True, timeout=MOST_SECONDS_OF_CALL)
+        self.assertEqual(ran.stderr, "")
+        return ran.stdout.split("\n")[:-1]
+
+    def inputs(self, chance):
+        """Bytes of all kinds."""
+        text = read(f"{ROOT}/bench/mix.agc")
+        yield from (b"", b"\0", b"\xff", b"ab", bytes(100000), b"abcdefg" * 3000, text, text[::-1] + text, chance.randbytes(5000), chance.randbytes(300) * 40)
+        for _ in range(40):
+            parts = [chance.randbytes(chance.randrange(1, 40)) for _ in range(chance.randrange(1, 8))]
+            yield b"".join(chance.choice(parts) * chance.choice((1, 1, 1, 2, 30)) for _ in range(chance.randrange(1, 200)))
+
+    def test_whole(self):
+        """What Python packs is unpacked, by all that LZMA takes, and the same bytes are packed the same."""
+        chance, module, wanted, packed = random.Random(f"packed {SEED}"), read(self.module), [], []
+        for it in [*self.inputs(chance), module]:
+            wanted.append(it)
+            packed.append(one_file.packed(it))
+            self.assertEqual(one_file.unpacked(packed[-1]), it)
+        for lc, lp, pb in [(lc, lp, pb) for lc in range(5) for lp in range(5 - lc) for pb in range(5)]:
+            with mock.patch.dict(one_file.LZMA, {"lc": lc, "lp": lp, "pb": pb}):
+                wanted.append(chance.choice(wanted[6:-1]))
+                packed.append(one_file.packed(wanted[-1]))
+        got = self.unpacked(packed)
+        wrong = [number for number, (it, other) in enumerate(zip(wanted, got)) if hashlib.sha256(it).hexdigest() != other]
+        with self.subTest("what was packed"):
+            self.assertTrue(len(got) == len(wanted) and not wrong, f"{wrong[:9]}")
+        with self.subTest("twice the same"):
+            self.assertEqual(one_file.packed(module), one_file.packed(module))
+        print(f"packed: {len(wanted)} texts unpacked; the module has {len(module)} bytes, packed {len(base64.b64decode(one_file.packed(module)))}", flush=True)
+
+    def test_damaged(self):
+        """What is cut short, longer, or of which a bit has changed is refused, or unpacked as it was."""
+        chance, texts, wanted = random.Random(f"damaged {SEED}"), [], []
+        for it in (b"", b"a", bytes(3000), b"abcdefg" * 50, chance.randbytes(60), read(f"{ROOT}/bench/mix.agc")[:3000]):
+            packed = base64.b64decode(one_file.packed(it))
+            damaged = [packed[:cut] for cut in range(len(packed))] + [packed + b"\0"]
+            for bit in range(8 * len(packed)):
+                damaged.append(bytes(byte ^ (1 << bit % 8 if number == bit // 8 else 0) for number, byte in enumerate(packed)))
+            chosen = damaged if ALL else damaged[:20] + damaged[-170:] + chance.sample(damaged, 300 if len(damaged) > 300 else len(damaged))
+            texts += [base64.b64encode(other).decode() for other in chosen]
+            wanted += [hashlib.sha256(it).hexdigest()] * len(chosen)
+        got = self.unpacked(texts)
+        wrong = [other for it, other in zip(wanted, got) if other != it and not other.startswith(self.refused)]
+        with self.subTest("refused, or as it was"):
+            self.assertTrue(len(got) == len(wanted) and not wrong, f"{wrong[:3]}")
+        kinds = {it.removeprefix(self.refused) for it in got if it.startswith(self.refused)}
+        with self.subTest("for each reason"):
+            self.assertEqual(len(kinds), 7, f"{kinds}")
+        print(f"packed: {sum(it.startswith(self.refused) for it in got)} of {len(got)} damaged texts refused", flush=True)
+
+
 class Tables(ModuleCase):
     """A table of functions, which the linker may leave."""
 
@@ -709,7 +783,7 @@ class Browsers(ModuleCase):
         if not is_there():
             self.skipTest(f"{name} is not there: apt-get install {packages}")
         answers, (cases, wanted) = Answers(), zip(*page_cases(self.room))
-        script = one_file.script([f"{PAGES}/module/host.js", f"{PAGES}/engine.js", f"{PAGES}/trial.js"])
+        script = one_file.script([f"{PAGES}/module/host.js", f"{PAGES}/module/unpack.js", f"{PAGES}/engine.js", f"{PAGES}/trial.js"])
         text = json.dumps({"address": answers.address, "cases": cases}).replace("</", "<\\/")
         page = write(f"{self.room}/page.html", PAGE.format(module=one_file.packed(read(self.module)), cases=text, script=script).encode())
         words, env = browser(self.room, f"file://{page}")

@@ -45,6 +45,20 @@ NAMES = [
     ("        RETURN", "NAMED", "NAMED"),
 ]
 
+# The first root that leads to each of these lines, by its number: 4000, or a place that a line names, by the order of these lines.
+ROOTED = {
+    **dict.fromkeys(range(5), "02,4000"),
+    8: "02,4111",
+    9: "02,4111",
+    13: "05,2000",
+    14: "05,2000",
+    18: "06,2000",
+    19: "06,2000",
+    20: "06,2000",
+    23: "07,2001",
+    29: "43,2001",
+}
+
 # The same of forms of flight programs: complements name what their words do, BBCON and constants nothing.
 FLIGHT = [
     ("BEGIN   TCF     BEGIN", "START"),
@@ -104,6 +118,23 @@ class Reach(Case):
         self.compare(rows, lines, [want for _, _, want in NAMES])
         # the run executes each word with RUN, and none with NAMED is told as idle: only the entries are
         self.assertEqual({row[:11] for row in rows if "IDLE" in row}, {"START IDLE "})
+
+    def test_roots(self):
+        lines = [line for line, _, _ in NAMES]
+        first = HEAD.count("\n") + 1
+        for words in ((), ("--feed", EMPTY, "--steps", "20")):
+            plain, told = (self.told(*words, *roots, self.source(lines)) for roots in ((), ("--roots",)))
+            width = 11 if words else 6
+            # what stands there without the option stays, and its column is behind the others
+            self.assertEqual([row[:width] + row[width + 8 :] for row in told], plain)
+            for n, line in enumerate(lines):
+                with self.subTest(line):
+                    got = {row[width : width + 8] for row in told if re.match(rf" *{first + n} ", row[width + 8 :])}
+                    # FARSUB is of the run where there is one, which has no place
+                    want = None if words and n in (13, 14) else ROOTED.get(n)
+                    self.assertEqual(got, {f"{want} " if want else " " * 8})
+            entries = {row[width : width + 7] for row in told if row.endswith("        RESUME")}
+            self.assertEqual(entries, {f"02,{0o4000 + 4 * k:o}" for k in range(1, 11)})
 
     def test_flight(self):
         lines = [line for line, _ in FLIGHT]

@@ -22,8 +22,11 @@ LINKED = f"""-mwasm64 -O2 -s --gc-sections --no-entry --export=main --import-mem
     --stack-first -z stack-size={STACK_BYTES}""".split()
 # What LLVM's target for WebAssembly takes as there. (Of the passes, one makes addresses of 32 bits; what that leaves over is taken away by the others.)
 FEATURES = "--enable-memory64 --enable-bulk-memory --enable-sign-ext --enable-mutable-globals --enable-nontrapping-float-to-int".split()
-# What makes it small: functions that differ in constants alone become one, and those that are called most have the shortest numbers.
-SMALL = "-O1 --merge-similar-functions --rse --merge-locals --vacuum --code-folding --duplicate-function-elimination --reorder-locals --reorder-functions".split()
+# What makes it small: no zeros of its data, since each run has a memory of its own, in which nothing stands; functions that differ in constants alone become one; long
+# constants that come often in a function are had once; and those functions and locals that are used most have the shortest numbers. No function is put in place of
+# its calls: LLVM has done so where it is of use, and in greater ones than it makes steps took twice as long.
+SMALL = """--zero-filled-memory --always-inline-max-function-size=0 --flexible-inline-max-function-size=0 --one-caller-inline-max-function-size=0 -Os
+    --merge-similar-functions --rse --merge-locals --vacuum --code-folding --duplicate-function-elimination --const-hoisting --reorder-locals --reorder-functions""".split()
 # Sections of a module: tables of functions, and what stands in them.
 TABLES, ELEMENTS = 4, 9
 # The section that says which program this is.

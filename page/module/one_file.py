@@ -1,11 +1,18 @@
 """What it takes to put a page into one file: its modules of JavaScript as one script, and the module of the program as text."""
 import base64
 import gzip
+import lzma
 import os
 import re
+import zlib
 
 IMPORT = re.compile(r"^import \{([^}]*)\} from '([^']+)';\n", re.M)
 EXPORT = re.compile(r"^export (?=(?:async )?(?:function\*?|class|const|let) ([\w$]+))", re.M)
+
+# How the module is packed: its code has no bits in common by their places, and is shorter than the dictionary.
+LZMA = {"id": lzma.FILTER_LZMA1, "preset": 9 | lzma.PRESET_EXTREME, "lc": 3, "lp": 0, "pb": 0, "dict_size": 1 << 21}
+# Where the size stands in what LZMA has made, and the bytes of this and of the sum at the end.
+SIZE_AT, SIZE_BYTES, SUM_BYTES = 5, 8, 4
 
 
 def script(paths):
@@ -29,6 +36,20 @@ def script(paths):
     return "\n".join(made).replace("</script", "<\\/script") + "\n"
 
 
+def zipped(text):
+    """Returns a text as one for a page: base64 of gzip, the same for the same text."""
+    return base64.b64encode(gzip.compress(text.encode(), 9, mtime=0)).decode()
+
+
 def packed(module):
-    """Returns the bytes of the module as the text for a page: base64 of gzip, the same for the same bytes."""
-    return base64.b64encode(gzip.compress(module, 9, mtime=0)).decode()
+    """Returns the bytes of the module as the text for a page, the same for the same bytes: base64 of LZMA and of a sum, which unpack.js unpacks."""
+    made = lzma.compress(module, lzma.FORMAT_ALONE, filters=[LZMA])
+    # (Python tells no size)
+    made = made[:SIZE_AT] + len(module).to_bytes(SIZE_BYTES, "little") + made[SIZE_AT + SIZE_BYTES :]
+    return base64.b64encode(made + zlib.crc32(module).to_bytes(SUM_BYTES, "little")).decode()
+
+
+def unpacked(text):
+    """Returns the bytes of the module in the text of a page."""
+    made = base64.b64decode(text)
+    return lzma.decompress(made[:SIZE_AT] + b"\xff" * SIZE_BYTES + made[SIZE_AT + SIZE_BYTES : -SUM_BYTES], lzma.FORMAT_ALONE)

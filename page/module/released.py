@@ -1,12 +1,11 @@
 """The page that a release hands out, the module in it, and what it was made of."""
-import base64
 import glob
-import gzip
 import hashlib
 import json
 import os
 import re
 
+import one_file
 import toolchain
 from files import read
 
@@ -14,7 +13,7 @@ ROOT = os.path.dirname(os.path.dirname(os.path.dirname(os.path.realpath(__file__
 PAGE, MADE_OF = f"{ROOT}/release/agcws.html", f"{ROOT}/release/agcws.json"
 # All that the module's bytes come from beside the toolchain, and all that the page's come from.
 OF_MODULE = ["crates.txt", "crates/*/src/**/*.rt", "page/module/build.py", "page/module/layer.c", "page/module/retarget.py"]
-OF_PAGE = [*OF_MODULE, "examples/runs.txt", "examples/*.agc", "examples/*.feed", "docs/COURSE.md", "examples/course/*/exercise.*", "page/*.js", "page/*.css", "page/*.svg", "page/*.html", "page/make", "page/module/host.js", "page/module/one_file.py"]
+OF_PAGE = [*OF_MODULE, "examples/runs.txt", "examples/*.agc", "examples/*.feed", "docs/COURSE.md", "examples/course/*/exercise.*", "page/*.js", "page/*.css", "page/*.svg", "page/*.html", "page/make", "page/module/host.js", "page/module/unpack.js", "page/module/one_file.py"]
 
 
 def sum_of(patterns):
@@ -31,8 +30,7 @@ def made_of():
 
 def module_in(page):
     """Returns the bytes of the module in a page."""
-    packed = re.search(rb'<script type="text/plain" id="agcws-module">([^<]*)</script>', page)[1]
-    return gzip.decompress(base64.b64decode(packed))
+    return one_file.unpacked(re.search(rb'<script type="text/plain" id="agcws-module">([^<]*)</script>', page)[1].decode())
 
 
 def about(module):

@@ -1,11 +1,10 @@
 //! Sources of flight programs, whose lines may stand for files beside them.
 
 use crate::files::{no_memory, not_opened};
-use crate::located::Located;
 use crate::target::wrong_target;
 use agc_text::next_line;
-use included::{Joined, NoText, Refusal, Texts, Why, join};
-use plans::{Kind, Plan};
+use included::{Joined, NoText, Refusal, Texts, Why, join, line_path, path_beside};
+use plans::{Kind, Plan, Shown};
 use std::alloc::{AllocError, Global};
 use std::fs;
 use words::{MOST_BYTES, ReadAhead, ReadFault, Std, read_text, write_all};
@@ -33,7 +32,7 @@ impl Texts for Beside<'_> {
     ghost texts = { λ _ _. None };
 
     fn text(&self, alloc: Global, name: &[u8], most: usize) -> Result<Vec<u8>, NoText> {
-        let Ok(path) = path_beside(alloc, self.path, name) else {
+        let Ok(path) = path_beside(alloc, self.path.as_bytes(), name) else {
             return Err(NoText::NoMemory);
         };
         let Ok(path) = str::from_utf8(&path) else {
@@ -51,21 +50,12 @@ impl Texts for Beside<'_> {
     }
 }
 
-/// The folder of a path, its slash included, and the name of the file in it.
-fn split_path(path: &str) -> (&str, &str) {
+/// The name of the file of a path.
+fn file_name(path: &str) -> &str {
     match path.rsplit_once('/') {
-        Some((_, name)) => (path.strip_suffix(name).unwrap_or(""), name),
-        None => ("", path),
+        Some((_, name)) => name,
+        None => path,
     }
-}
-
-/// The path of a file of a name in the folder of a source.
-pub fn path_beside(alloc: Global, source: &str, name: &[u8]) -> Result<Vec<u8>, AllocError> {
-    let (folder, _) = split_path(source);
-    let mut path = Vec::new(alloc);
-    path.extend_from_slice(folder.as_bytes())?;
-    path.extend_from_slice(name)?;
-    Ok(path)
 }
 
 /// The text of a source of a language: that of a flight program is joined of its files. Where a line stands for a file
@@ -108,9 +98,9 @@ fn join_files(
     path: &str,
     text: &[u8],
 ) -> Result<(Joined, Option<Refusal>), WorkshopFault> {
-    let (_, name) = split_path(path);
+    let name = file_name(path).as_bytes();
     let files = Beside { rt, path };
-    join(rt.alloc(), &files, MOST_BYTES, name.as_bytes(), text).map_err(no_memory)
+    join(rt.alloc(), &files, MOST_BYTES, name, text).map_err(no_memory)
 }
 
 /// The lines of a text without carriage returns at their ends.
@@ -136,8 +126,9 @@ fn tell_refusal(
     joined: &Joined,
     refusal: Refusal,
 ) -> Result<(), WorkshopFault> {
-    let located = Located::new(rt.alloc(), path, joined);
-    let mut told = located.path_of(refusal.place).map_err(no_memory)?;
+    let mut told = line_path(rt.alloc(), path.as_bytes(), joined, refusal.place).map_err(
+        no_memory,
+    )?;
     told.extend_from_slice(b": error: ").map_err(no_memory)?;
     told.extend_from_slice(words_of(refusal.why))
         .map_err(no_memory)?;
@@ -171,7 +162,9 @@ pub fn has_file(
             continue;
         }
         last = place.file;
-        let file = path_beside(rt.alloc(), path, joined.name_of(last)).map_err(no_memory)?;
+        let file = path_beside(rt.alloc(), path.as_bytes(), joined.name_of(last)).map_err(
+            no_memory,
+        )?;
         if str::from_utf8(&file).is_ok_and(|file| wrong_target(rt, file, target).is_some()) {
             return Ok(true);
         }
@@ -201,9 +194,7 @@ pub fn refuse_source(
     };
     let number = at.number;
     let head = format!(in rt.alloc(); "agcws: E{number} LINE ").map_err(no_memory)?;
-    let told = Located::new(rt.alloc(), path, &joined)
-        .path_of(place)
-        .map_err(no_memory)?;
+    let told = line_path(rt.alloc(), path.as_bytes(), &joined, place).map_err(no_memory)?;
     let mut stderr = Std::new(rt.stderr());
     write_all(&mut stderr, head.as_bytes())?;
     write_all(&mut stderr, &told)?;
@@ -221,10 +212,14 @@ fn flight_path<'a>(plan: &Plan<'a>) -> Option<&'a str> {
         Plan::CompareOnly(source, _) | Plan::CompareBanks(source, _, _) | Plan::Find(source, _) => {
             if_flight(source.language, source.path)
         }
+        Plan::Show(it) => match it.shown {
+            Shown::Holed(source) => Some(source),
+            _ => None,
+        },
         Plan::Run(it) => of_kind(it.program.kind, it.program.path),
         Plan::Trace(it) => of_kind(it.program.kind, it.program.path),
         Plan::Cover(it) => of_kind(it.program.kind, it.program.path),
-        Plan::Reach(it) => of_kind(it.kind, it.path),
+        Plan::Reach(it) => of_kind(it.listed.kind, it.listed.path),
         Plan::ReachRun(it) => of_kind(it.program.kind, it.program.path),
         Plan::Bound(it) => of_kind(it.listed.kind, it.listed.path),
         Plan::Access(it) => of_kind(it.program.kind, it.program.path),

@@ -8,12 +8,12 @@ use crate::files::{
 };
 use crate::hints::tell_reached;
 use crate::joining::{SourceText, source_text};
-use crate::located::Located;
+use crate::located::write_behind;
 use crate::progress::make_listener;
 use crate::{DONE, NO_CELL, NO_ROUTINE, NO_SERIES, NOT_BOUND, STOPPED, refuse_arguments};
 use agc_text::{next_field, next_line};
 use plans::{
-    Accesses, Listed, Pair, Profile, Program, Reaching, Routine, Run, Timed, Tracing, Trials,
+    Accesses, Pair, Profile, Program, Reachable, Reaching, Routine, Run, Timed, Tracing, Trials,
 };
 use words::{Buffer, ReadAhead, Std, Write, read_text, write_all};
 use workshop::{
@@ -49,13 +49,7 @@ fn run_holed(rt: &HostRuntime, asked: &Run<'_>) -> Result<u8, WorkshopFault> {
         rt,
         |out| run_to_hole(rt.alloc(), &source.text, &mut feed, steps, out, &mut told),
     )?;
-    tell_hole(
-        rt,
-        asked.program.path,
-        &source,
-        &ended.summary,
-        told.as_slice(),
-    )?;
+    tell_hole(rt, &source, &ended.summary, told.as_slice())?;
     if asked.tells_end {
         write_end(&ended.summary, &mut Std::new(rt.stderr()))?;
     } else if !ended.has_stopped {
@@ -67,7 +61,6 @@ fn run_holed(rt: &HostRuntime, asked: &Run<'_>) -> Result<u8, WorkshopFault> {
 /// Tells the line of a hole at which a run of a source has stopped, by the file that its row is of.
 fn tell_hole(
     rt: &HostRuntime,
-    path: &str,
     source: &SourceText,
     summary: &Summary,
     line: &[u8],
@@ -78,7 +71,7 @@ fn tell_hole(
     };
     let step = u128::from(summary.steps) + 1;
     let front = format!(in rt.alloc(); "agcws: HOLE AT STEP {step}: ").map_err(no_memory)?;
-    Located::new(rt.alloc(), path, joined).write_behind(front.as_bytes(), line, &mut stderr)
+    write_behind(rt.alloc(), joined, front.as_bytes(), line, &mut stderr)
 }
 
 /// Runs a program, and tells on standard error what is to be told beside its lines.
@@ -197,15 +190,19 @@ pub fn cover(rt: &HostRuntime, asked: &Profile<'_>) -> Result<u8, WorkshopFault>
     Ok(DONE)
 }
 
-/// `agcws reach .. SRC`. All files are opened before anything is read.
-pub fn reach(rt: &HostRuntime, asked: &Listed<'_>) -> Result<u8, WorkshopFault> {
-    let OpenListed { origin, file, form } = opened_listed(rt, asked)?;
+/// `agcws reach [--roots] .. SRC`. All files are opened before anything is read.
+pub fn reach(rt: &HostRuntime, asked: &Reachable<'_>) -> Result<u8, WorkshopFault> {
+    let OpenListed { origin, file, form } = opened_listed(rt, &asked.listed)?;
     let mut file = taken_in(file, form);
-    with_stdout(rt, |out| reach_program(rt.alloc(), origin, &mut file, out))?;
+    let shows_roots = asked.shows_roots;
+    with_stdout(
+        rt,
+        |out| reach_program(rt.alloc(), origin, &mut file, shows_roots, out),
+    )?;
     Ok(DONE)
 }
 
-/// `agcws reach .. SRC --feed FEED --steps N`. All files are opened before anything is read.
+/// `agcws reach [--roots] .. SRC --feed FEED --steps N`. All files are opened before anything is read.
 pub fn reach_beside_run(rt: &HostRuntime, asked: &Reaching<'_>) -> Result<u8, WorkshopFault> {
     let OpenProgram {
         origin,
@@ -215,10 +212,18 @@ pub fn reach_beside_run(rt: &HostRuntime, asked: &Reaching<'_>) -> Result<u8, Wo
     } = opened_program(rt, &asked.program)?;
     let mut file = taken_in(file, form);
     let steps = asked.steps.count();
-    with_stdout(
-        rt,
-        |out| reach_run(rt.alloc(), origin, &mut file, &mut feed, steps, out),
-    )?;
+    let shows_roots = asked.shows_roots;
+    with_stdout(rt, |out| {
+        reach_run(
+            rt.alloc(),
+            origin,
+            &mut file,
+            &mut feed,
+            steps,
+            shows_roots,
+            out,
+        )
+    })?;
     Ok(DONE)
 }
 

@@ -10,8 +10,9 @@ use image_file::ImageFile;
 use plans::{Image, Original, Shown, Words};
 use std::cell::Cell;
 use words::{MOST_BYTES, Std, read_text};
+use workshop::holed_words::holed_words_engine;
 use workshop::{
-    Compared, Form, Symbols, Version, WorkshopFault, align_engine, carry_engine,
+    Compared, Form, Language, Symbols, Version, WorkshopFault, align_engine, carry_engine,
     compare_banks_engine, compare_engine, compare_only_engine, crossed_words_engine,
     damages_engine, find_engine, form_sums_engine, mended_engine, named_source_engine,
     named_words_engine, octals_engine, parity_engine, read_names, report, report_where,
@@ -39,10 +40,11 @@ pub fn upgrade(rt: &HostRuntime, old: &str, new: &str) -> Result<u8, WorkshopFau
     Ok(DONE)
 }
 
-/// `agcws words [--source | --octal | --symbols FILE [--xref]] [--where] .. ROPE [BANK]`.
+/// `agcws words [--source | --octal | --symbols FILE [--xref | --flight --holes]] [--where] .. ROPE [BANK]`.
 pub fn show_words(rt: &HostRuntime, words: &Words<'_>) -> Result<u8, WorkshopFault> {
     match write_words(rt, words) {
         Ok(()) => Ok(DONE),
+        Err(WorkshopFault::Source(fault)) => Err(WorkshopFault::Source(fault)),
         Err(fault) if words.tells_where => refused_where(rt, &fault),
         Err(fault) => Err(fault),
     }
@@ -53,6 +55,9 @@ fn write_words(rt: &HostRuntime, words: &Words<'_>) -> Result<(), WorkshopFault>
     let (image, bank) = (&words.image, words.bank);
     if let Shown::Named(table) | Shown::NamedSource(table) | Shown::Crossed(table) = words.shown {
         return write_named_words(rt, table, words);
+    }
+    if let Shown::Holed(source) = words.shown {
+        return write_holed_words(rt, source, words);
     }
     let mut file = opened_image(rt, image)?;
     with_stdout(rt, |out| match words.shown {
@@ -81,6 +86,22 @@ fn write_named_words(
             crossed_words_engine(rt.alloc(), &names, &mut file, version, bank, out)
         }
         _ => named_words_engine(rt.alloc(), names, &mut file, version, bank, out),
+    })
+}
+
+/// Writes the words of an image with the names of a flight source and its holes. Both files are opened before the image
+/// is read, and the source is assembled first.
+fn write_holed_words(
+    rt: &HostRuntime,
+    source: &str,
+    words: &Words<'_>,
+) -> Result<(), WorkshopFault> {
+    let mut text = Std::new(source_bytes(rt, source, Language::Flight)?);
+    let mut file = opened_image(rt, &words.image)?;
+    let text = read_text(rt.alloc(), &mut text, MOST_BYTES)?;
+    let (version, bank) = (words.image.version, words.bank);
+    with_stdout(rt, |out| {
+        holed_words_engine(rt.alloc(), &text, &mut file, version, bank, out)
     })
 }
 

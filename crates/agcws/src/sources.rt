@@ -4,12 +4,11 @@ use crate::assumptions::{Assumptions, asked_wordings, refuse_wording, tell_assum
 use crate::dumps::{AS_WRITTEN, opened_bytes, opened_source};
 use crate::files::{ended, opened, refused_file, with_stdout};
 use crate::joining::{SourceText, has_file, source_text};
-use crate::located::Located;
+use crate::located::{write_listing, write_report};
 use crate::target::{WrongTarget, wrong_target};
 use crate::{DONE, REFUSED, refuse_arguments};
 use assumed::Wording;
 use image_file::ImageFile;
-use included::Joined;
 use json_text::Notation;
 use plans::{Assembly, Check, Image};
 use std::cell::Cell;
@@ -32,7 +31,7 @@ pub fn assemble(rt: &HostRuntime, assembly: &Assembly<'_>) -> Result<u8, Worksho
         Some(joined) => {
             let mut listing = Buffer::new(rt.alloc());
             write_plain(rt, assembly, &source.text, &mut listing)?;
-            located(rt, assembly, joined).write_listing(listing.as_slice(), out)
+            write_listing(rt.alloc(), joined, listing.as_slice(), out)
         }
     })?;
     Ok(DONE)
@@ -74,11 +73,6 @@ fn source_for(
     }
     let text = under(rt, wordings.as_slice(), &text)?;
     Ok(Ok(SourceText { text, joined }))
-}
-
-/// The source of an assembly, of several files.
-fn located<'a>(rt: &HostRuntime, assembly: &Assembly<'a>, joined: &'a Joined) -> Located<'a> {
-    Located::new(rt.alloc(), assembly.source.path, joined)
 }
 
 /// Assembles a source, and writes what comes of it.
@@ -128,7 +122,7 @@ pub fn assemble_with_sums(rt: &HostRuntime, assembly: &Assembly<'_>) -> Result<u
         Some(joined) => {
             let mut listing = Buffer::new(rt.alloc());
             let full = write_with_sums(rt, assembly, &source.text, &mut listing)?;
-            located(rt, assembly, joined).write_listing(listing.as_slice(), out)?;
+            write_listing(rt.alloc(), joined, listing.as_slice(), out)?;
             Ok(full)
         }
     })?;
@@ -213,7 +207,7 @@ fn list_summed(
         Some(joined) => {
             let mut listing = Buffer::new(rt.alloc());
             let full = write_summed(rt, assembly, &source.text, filling, &mut listing)?;
-            located(rt, assembly, joined).write_listing(listing.as_slice(), out)?;
+            write_listing(rt.alloc(), joined, listing.as_slice(), out)?;
             Ok(full)
         }
     })?;
@@ -272,7 +266,7 @@ fn list_holed(
         Some(joined) => {
             let mut listing = Buffer::new(rt.alloc());
             write_holed(rt, assembly, &source.text, filling, &mut listing)?;
-            located(rt, assembly, joined).write_listing(listing.as_slice(), out)
+            write_listing(rt.alloc(), joined, listing.as_slice(), out)
         }
     })?;
     Ok(DONE)
@@ -338,7 +332,7 @@ fn check_files<'a>(
             Some(joined) => {
                 let mut report = Buffer::new(rt.alloc());
                 let told = check_text(rt, asked, wordings, &text, &mut report)?;
-                Located::new(rt.alloc(), source.path, joined).write_report(report.as_slice(), out)?;
+                write_report(rt.alloc(), source.path, joined, report.as_slice(), out)?;
                 told
             }
         };

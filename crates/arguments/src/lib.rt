@@ -180,7 +180,7 @@ pub struct CoverArguments<'a> {
     pub is_json: bool,
 }
 
-/// `agcws reach .. SRC [--feed FEED --steps N]`.
+/// `agcws reach [--roots] .. SRC [--feed FEED --steps N]`.
 #[derive(Clone, Copy)]
 pub struct ReachArguments<'a> {
     /// The file of the program, and how it is to be taken where it is an image.
@@ -193,6 +193,8 @@ pub struct ReachArguments<'a> {
     pub symbols: Option<&'a str>,
     /// `--feed` and `--steps`: the run that is made beside it.
     pub run: Option<ReachRun<'a>>,
+    /// `--roots`: whether the root of each word is shown.
+    pub shows_roots: bool,
 }
 
 /// A run that is made beside what is reached.
@@ -311,7 +313,7 @@ pub struct UpgradeArguments<'a> {
     pub new: &'a str,
 }
 
-/// `agcws words [--source | --octal | --symbols FILE [--xref]] [--where] .. ROPE [BANK]`.
+/// `agcws words [--source | --octal | --symbols FILE [--xref | --flight --holes]] [--where] .. ROPE [BANK]`.
 #[derive(Clone, Copy)]
 pub struct WordsArguments<'a> {
     /// The image.
@@ -326,6 +328,8 @@ pub struct WordsArguments<'a> {
     pub symbols: Option<&'a str>,
     /// `--xref`: whether it is told what words do with each name.
     pub has_xref: bool,
+    /// `--holes`: whether the file of names is a flight source, whose lines of the interpretive language are holes.
+    pub has_holes: bool,
     /// `--where`: whether it is told where the image is refused.
     pub tells_where: bool,
 }

@@ -1,9 +1,10 @@
 -- Routines in progress, and words of loops.
-use Rattle.std.proofs.Common.{◌≡◌, ℕ, zero, suc, ◌&&◌, ◌||◌, ◌⊎◌, Bool, true, false, not, List, [], ◌∷◌, ◌++◌, Option, Some, None}
-use Rattle.std.proofs.Common.{refl, sym, ap, subst, ◌∙◌, inl, inr}
+use Rattle.std.proofs.Common.{◌≡◌, ℕ, zero, suc, ◌||◌, ◌⊎◌, Bool, true, false, not, List, [], ◌∷◌, ◌++◌, All, Option}
+use Rattle.std.proofs.Common.{◌<◌, length, arith, refl, sym, subst, ◌∙◌, inl, inr}
 use Rattle.std.specs.List.{list_all, list_any}
 use Rattle.std.specs.Option.{option_to_list}
 use Rattle.std.proofs.lemmas.Bool.{and_parts}
+use Rattle.std.proofs.lemmas.List.Elements.{All-cons, All-nil}
 use Rattle.rope.specs.Places.{Words}
 use Rattle.bound.specs.declared.charge.Limit.{Limit}
 use Rattle.bound.specs.declared.counted.Counted.{Counted}
@@ -12,13 +13,14 @@ use Rattle.bound.specs.declared.turn.Leg.{Leg}
 use Rattle.bound.specs.declared.turn.Turn.{Turn}
 use Rattle.bound.specs.declared.turn.Turn.TheVariants.{Back, Through, One, Two, Four, Stop}
 use Rattle.bound.specs.declared.turn.Why.{Why}
-use Rattle.bound.specs.declared.turn.Why.TheVariants.{Recursive, Unbounded, TooMany}
-use Rattle.bound.specs.Bounds.{AreCounted, AreCountedOf, CallsAt, GoesOn, Has, IsFree, IsLeg, IsReason, Leads, Uses, stands_at}
+use Rattle.bound.specs.declared.turn.Why.TheVariants.{Recursive, Unbounded, ManyCycles, ManyWords}
+use Rattle.bound.specs.Bounds.{AreApart, AreCounted, AreCountedOf, CallsAt, GoesOn, Has, IsFree, IsLeg, IsReason, Leads, Uses, most_words}
+use Rattle.bound.specs.Bounds.{stands_at}
 use Rattle.bound.specs.Bounds.Has.{First}
 use Rattle.bound.specs.Bounds.Leads.{On, Past}
 use Rattle.bound.specs.Bounds.Uses.{Itself, Calls}
 use Rattle.bound.specs.Inside.Checks.{same}
-use Rattle.bound.specs.Inside.Searches.{CallsOne, Fails, IsChain, all_stay, is_free, is_in, last_of, leads_into}
+use Rattle.bound.specs.Inside.Searches.{AreOf, Fails, IsChain, all_stay, is_free, is_in, last_of, leads_into}
 use Rattle.bound.specs.Inside.Searches.{stays_in}
 use Rattle.bound.specs.Turns.{turn}
 use Rattle.bound.proofs.Sound.{is_same}
@@ -41,6 +43,14 @@ one_uses words kept r (s ∷ ss) t c e = go (same s t) refl e (λ f. one_uses wo
         → (is_in ss t ≡ true → Uses words kept t (last_of s ss)) → Uses words kept t (last_of s ss)
     go true is f later = uses_last words kept t s ss (subst (λ (x : Site). Uses words kept t x) (sym (is_same s t is)) (Itself t)) c.1
     go false is f later = later f
+
+-- each of a chain is used by the first
+pub all_used : (words : Words) (kept : List ℕ) (t r : Site) (ss : List Site) → Uses words kept t r → IsChain words kept r ss
+    → All (λ q. Uses words kept t q) ss
+all_used words kept t r [] u c = All-nil (λ q. Uses words kept t q)
+all_used words kept t r (s ∷ ss) u c =
+    let next = Calls t r c.0.place s u c.0.at in
+    All-cons (λ q. Uses words kept t q) s ss next (all_used words kept t s ss next c.1)
 
 -- a routine that the last of a chain calls makes it longer
 pub chain_longer : (words : Words) (kept : List ℕ) (r : Site) (ss : List Site) (p t : Site) → IsChain words kept r ss
@@ -122,8 +132,13 @@ goes_on words kept limits ps all (suc n) p e =
     (free_is limits p both.0, (on.next, on.leads, goes_on words kept limits ps all n on.next on.here))
 
 -- why no bound is told
-pub too_many : (words : Words) (kept : List ℕ) (limits : List Limit) (r : Site) → Fails words kept limits r r TooMany
-too_many words kept limits r = record { has = First r; cause = inr tt }
+pub many_cycles : (words : Words) (kept : List ℕ) (limits : List Limit) (r : Site) → Fails words kept limits r r ManyCycles
+many_cycles words kept limits r = record { has = First r; cause = inr tt }
+
+pub many_words : (words : Words) (kept : List ℕ) (r : Site) (ps : List Site) → AreOf words kept r ps → AreApart ps → most_words < length ps
+    → (limits : List Limit) → Fails words kept limits r r ManyWords
+many_words words kept r ps each apart many limits =
+    record { has = First r; cause = inr (record { sites = ps; each = each; apart = apart; many = omega (arith, many) }) }
 
 pub stops : (words : Words) (kept : List ℕ) (r p : Site) (why : Why) (t : Turn) → Has words kept r p → t ≡ turn words kept p → t ≡ Stop why
     → (limits : List Limit) → Fails words kept limits r p why

@@ -1,6 +1,7 @@
 pub mod Pairs
 pub mod KindNames
 pub mod Sound
+pub mod Apart
 pub mod Chains
 pub mod Words
 pub mod CountLaw

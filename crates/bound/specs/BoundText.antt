@@ -8,7 +8,9 @@ use Rattle.bound.specs.declared.finding.Answer.{Answer}
 use Rattle.bound.specs.declared.finding.Answer.TheVariants.{Most, Refused}
 use Rattle.bound.specs.declared.site.Site.{Site}
 use Rattle.bound.specs.declared.turn.Why.{Why}
-use Rattle.bound.specs.declared.turn.Why.TheVariants.{Indexed, Leaves, Steers, Resumes, Changed, Recursive, Unbounded, TooMany}
+use Rattle.bound.specs.declared.turn.Why.TheVariants.{Indexed, Leaves, Steers, Resumes, Changed, Recursive, Unbounded, ManyWords}
+use Rattle.bound.specs.declared.turn.Why.TheVariants.{ManyRoutines}
+use Rattle.bound.specs.declared.turn.Why.TheVariants.{ManyCycles}
 
 abbrev pub why_text : Why → List ℕ
 why_text Indexed = codes " JUMPS UNDER INDEX"
@@ -18,7 +20,9 @@ why_text Resumes = codes " RESUMES"
 why_text Changed = codes " RETURNS BY Q, WHICH WAS CHANGED"
 why_text Recursive = codes " CALLS A ROUTINE IN PROGRESS"
 why_text Unbounded = codes " IS IN A LOOP WITHOUT A BOUND"
-why_text TooMany = codes " HAS TOO MANY WORDS OR CYCLES"
+why_text ManyWords = codes " HAS MORE THAN 8192 WORDS"
+why_text ManyRoutines = codes " USES 2048 ROUTINES OR MORE"
+why_text ManyCycles = codes " HAS TOO MANY CYCLES TO COUNT"
 
 abbrev pub most_text : ℕ → List ℕ
 most_text most = codes "AT MOST " ++ decimal most ++ codes " CYCLES\n"

@@ -1,6 +1,6 @@
 -- The most cycles of a routine.
-use Rattle.std.specs.Prelude.{◌≡◌, ℕ, zero, suc, ◌+◌, ◌*◌, ◌≤◌, ◌%◌, ◌⊎◌, Bool, true, false, ◌==◌, ◌&&◌, List, [], ◌∷◌}
-use Rattle.std.specs.Prelude.{if◌then◌else◌}
+use Rattle.std.specs.Prelude.{◌≡◌, ℕ, zero, suc, ◌+◌, ◌*◌, ◌≤◌, ◌%◌, ◌⊎◌, ◌≢◌, Bool, true, false, ◌==◌, ◌&&◌, List, [], ◌∷◌, All}
+use Rattle.std.specs.Prelude.{if◌then◌else◌, length}
 use Rattle.rope.specs.Places.{Words}
 use Rattle.bound.specs.declared.charge.Limit.{Limit}
 use Rattle.bound.specs.declared.counted.Counted.{Counted}
@@ -11,7 +11,9 @@ use Rattle.bound.specs.declared.turn.Leg.{Leg}
 use Rattle.bound.specs.declared.turn.Turn.{Turn}
 use Rattle.bound.specs.declared.turn.Turn.TheVariants.{Back, Through, One, Two, Four, Stop}
 use Rattle.bound.specs.declared.turn.Why.{Why}
-use Rattle.bound.specs.declared.turn.Why.TheVariants.{Indexed, Leaves, Steers, Resumes, Changed, Recursive, Unbounded, TooMany}
+use Rattle.bound.specs.declared.turn.Why.TheVariants.{Indexed, Leaves, Steers, Resumes, Changed, Recursive, Unbounded, ManyWords}
+use Rattle.bound.specs.declared.turn.Why.TheVariants.{ManyRoutines}
+use Rattle.bound.specs.declared.turn.Why.TheVariants.{ManyCycles}
 use Rattle.bound.specs.Counting.{counts_down, fits, stands_at_entry, stands_at_head, stands_in}
 use Rattle.bound.specs.Turns.{turn}
 
@@ -110,12 +112,34 @@ pub record CallsUser (words : Words) (kept : List ℕ) (r p : Site) : Type 0 whe
   pub at : CallsAt words kept r p called
   pub uses : Uses words kept called r
 
+-- no two of some words are one
+abbrev pub AreApart : List Site → Type 0
+AreApart [] = Unit {0}
+AreApart (p ∷ ps) = All (λ q. p ≢ q) ps × AreApart ps
+
+-- so many words, no two of which are one, are such
+pub record AreMany (n : ℕ) (P : Site → Type 0) : Type 0 where
+  pub sites : List Site
+  pub each : All P sites
+  pub apart : AreApart sites
+  pub many : n ≤ length sites
+
+-- how many words a routine has at most, each counted for each way to come to it; and how many routines it uses, itself counted, are too
+-- many
+abbrev pub most_words : ℕ
+most_words = 8192
+
+abbrev pub many_routines : ℕ
+many_routines = 2048
+
 -- the causes that are not told by one word: at this word a routine calls one in progress; from it ways that no limit bounds lead on for as
--- many words as one may name
+-- many words as one may name; the routine has more words, or uses more routines, than are looked at; and no numbers are found that hold
 abbrev pub IsOfMany : Words → List ℕ → List Limit → Site → Site → Why → Type 0
 IsOfMany words kept limits r p Recursive = CallsUser words kept r p
 IsOfMany words kept limits r p Unbounded = (n : ℕ) → GoesOn words kept limits n p
-IsOfMany words kept limits r p TooMany = Unit {0}
+IsOfMany words kept limits r p ManyWords = AreMany (most_words + 1) (λ q. Has words kept r q)
+IsOfMany words kept limits r p ManyRoutines = AreMany many_routines (λ q. Uses words kept r q)
+IsOfMany words kept limits r p ManyCycles = Unit {0}
 IsOfMany words kept limits r p Indexed = ⊥
 IsOfMany words kept limits r p Leaves = ⊥
 IsOfMany words kept limits r p Steers = ⊥

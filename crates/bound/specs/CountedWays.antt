@@ -1,5 +1,5 @@
 -- Ways on which A and the cells hold what the words of the way leave in them.
-use Rattle.std.specs.Prelude.{◌≡◌, ℕ, ◌+◌, ◌<◌, Bool, true, false, List, [], ◌∷◌, codes}
+use Rattle.std.specs.Prelude.{◌≡◌, ℕ, ◌+◌, ◌<◌, true, false, List, [], ◌∷◌, codes}
 use Rattle.rope.specs.Places.{Words}
 use Rattle.bound.specs.declared.site.Site.{Site}
 use Rattle.bound.specs.declared.turn.Leg.{Leg}

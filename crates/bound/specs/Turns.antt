@@ -1,14 +1,13 @@
 -- Where an instruction of fixed memory leads, and after how many cycles, as far as its word tells.
-use Rattle.std.specs.Prelude.{ℕ, ◌+◌, ◌/◌, ◌*◌, ◌%◌, Bool, true, false, not, ◌==◌, ◌&&◌, ◌||◌, nat_lt, if◌then◌else◌, List, [], ◌∷◌}
+use Rattle.std.specs.Prelude.{ℕ, ◌+◌, ◌/◌, ◌%◌, Bool, true, false, not, ◌==◌, ◌&&◌, ◌||◌, nat_lt, if◌then◌else◌, List}
 use Rattle.std.specs.Prelude.{Option, Some, None}
 use Rattle.std.specs.List.{list_any}
-use Rattle.std.specs.Option.{option_map}
 use Rattle.space.specs.Cells.{both_banks, fixed_bank, program_counter, return_address, return_address_channel, superbank_channel}
 use Rattle.rope.specs.Places.{Words, word_at}
 use Rattle.cpu.specs.declared.instruction.Instruction.{Instruction}
 use Rattle.cpu.specs.declared.instruction.Instruction.TheVariants.{Extend, Resume, Tc, Ccs, Tcf, Das, Lxch, Incr, Ads, Index, Dxch, Ts, Xch}
 use Rattle.cpu.specs.declared.instruction.Instruction.TheVariants.{Write, Wand, Wor, Bzf, Qxch, Aug, Dim, Bzmf}
-use Rattle.cpu.specs.Codes.{Code, code_of, row_of}
+use Rattle.cpu.specs.Codes.{code_of, row_of}
 use Rattle.cpu.specs.Next.{jump_cycles}
 use Rattle.cpu.specs.Operands.{address_of}
 use Rattle.bound.specs.declared.kind.Kind.{Kind}

@@ -1,9 +1,9 @@
 //! The bound of a routine.
 
-ghost use Rattle.std.specs.Prelude.{◌≡◌, ◌+◌, ◌≤◌, ◌++◌, ℕ, IfOk, IfSome, OnOk, Some, map};
+ghost use Rattle.std.specs.Prelude.{◌≡◌, ◌+◌, ◌≤◌, ◌++◌, ℕ, IfOk, IfSome, List, OnOk, Some, map};
 ghost use Rattle.bound.specs.Bounds.{IsFound};
 ghost use Rattle.bound.specs.Inside.Checks.{AreBounds, allowed, number_at};
-ghost use Rattle.bound.specs.Inside.Searches.{AreOf, IsAttempt, last_of};
+ghost use Rattle.bound.specs.Inside.Searches.{AreOf, IsAttempt, IsNewAttempt, last_of};
 
 use crate::candidates::loops_in;
 use crate::charge::{Charge, Limit};
@@ -101,7 +101,7 @@ pub fn bound(
         }
     }
     Ok(Found {
-        answer: Answer::Refused(*routine, Why::TooMany),
+        answer: Answer::Refused(*routine, Why::ManyRoutines),
         loops,
     })
 }
@@ -137,7 +137,8 @@ fn try_bound(
     routine: &Site,
 ) -> Result<Attempt, AllocError>
     requires { AreBounds rope.now kept.now limits.now known.now }
-    ensures { IfOk result (λ attempt. IsAttempt rope.now kept.now limits.now routine.now attempt) }
+    ensures attempt { IfOk result (λ attempt. IsAttempt rope.now kept.now limits.now routine.now attempt) }
+    ensures fresh { IfOk result (λ attempt. IsNewAttempt known.now attempt) }
 {
     let mut graph = Graph::of(alloc, routine)?;
     match graph.explore(rope, kept, known, routine)? {
@@ -159,7 +160,8 @@ fn number_and_check(
 ) -> Result<Attempt, AllocError>
     requires bounds { AreBounds rope.now kept.now limits.now known.now }
     requires are { AreOf rope.now kept.now routine.now graph.now.sites.items }
-    ensures { IfOk result (λ attempt. IsAttempt rope.now kept.now limits.now routine.now attempt) }
+    ensures attempt { IfOk result (λ attempt. IsAttempt rope.now kept.now limits.now routine.now attempt) }
+    ensures none { IfOk result (λ attempt. (known : List Row) → IsNewAttempt known attempt) }
 {
     let loops = loops_in(alloc, rope, kept, limits, graph, routine)?;
     match number(alloc, graph, limits, loops.as_slice())? {
@@ -194,13 +196,14 @@ fn unbounded(
     routine: &Site,
 ) -> Attempt
     requires { AreOf rope.now kept.now routine.now graph.now.sites.items }
-    ensures { IsAttempt rope.now kept.now limits.now routine.now result }
+    ensures attempt { IsAttempt rope.now kept.now limits.now routine.now result }
+    ensures none { (known : List Row) → IsNewAttempt known result }
 {
     match graph.site(at) {
         Some(site) if is_in(round, &site) && all_stay(rope, kept, limits, round) => {
             Attempt::Stops(site, Why::Unbounded)
         }
-        _ => Attempt::Stops(*routine, Why::TooMany),
+        _ => Attempt::Stops(*routine, Why::ManyCycles),
     }
 }
 
@@ -217,14 +220,15 @@ fn checked(
 ) -> Attempt
     requires bounds { AreBounds rope.now kept.now (map (λ charge. charge.limit) charges.now) known.now }
     requires loops { map (λ count. count.counted) counts.now ≡ loops.items }
-    ensures { IsAttempt rope.now kept.now (map (λ charge. charge.limit) charges.now) routine.now result }
+    ensures attempt { IsAttempt rope.now kept.now (map (λ charge. charge.limit) charges.now) routine.now result }
+    ensures none { (known : List Row) → IsNewAttempt known result }
 {
     if !all_hold(rope, kept, charges, counts, known, rows, BASE) {
-        return Attempt::Stops(*routine, Why::TooMany);
+        return Attempt::Stops(*routine, Why::ManyCycles);
     }
     match most(charges, rows, routine) {
         Some(most) if all_count(rope, kept, rows, routine, counts) => Attempt::Most(most, loops),
-        _ => Attempt::Stops(*routine, Why::TooMany),
+        _ => Attempt::Stops(*routine, Why::ManyCycles),
     }
 }
 

@@ -3,8 +3,9 @@
 
 ghost use Rattle.std.specs.Prelude.{◌≡◌, ◌<◌, ◌∷◌, [], IfOk, IfSome, OnOk, length};
 ghost use Rattle.std.specs.List.{position, slice_index_or};
+ghost use Rattle.bound.specs.Bounds.{AreApart};
 ghost use Rattle.bound.specs.Inside.Checks.{same};
-ghost use Rattle.bound.specs.Inside.Searches.{AreOf, IsExplored, targets, with_all, with_site};
+ghost use Rattle.bound.specs.Inside.Searches.{AreOf, IsExplored, IsNew, targets, with_all, with_site};
 
 use crate::checking::{Row, number_at};
 use crate::site::Site;
@@ -65,8 +66,10 @@ impl Graph {
         known: &[Row],
         routine: &Site,
     ) -> Result<Explored, AllocError>
-        requires { AreOf rope.now kept.now routine.now self.old.sites.items }
+        requires are { AreOf rope.now kept.now routine.now self.old.sites.items }
+        requires apart { AreApart self.old.sites.items }
         ensures found { IfOk result (λ explored. IsExplored rope.now kept.now routine.now explored) }
+        ensures fresh { IfOk result (λ explored. IsNew known.now explored) }
         ensures all { OnOk result (AreOf rope.now kept.now routine.now self.new.sites.items) }
     {
         for from in 0..MOST_WORDS {
@@ -83,7 +86,10 @@ impl Graph {
             }
             self.add_all(from, known, &turn)?;
         }
-        Ok(Explored::Stops(*routine, Why::TooMany))
+        match self.site(MOST_WORDS) {
+            None => Ok(Explored::Whole),
+            Some(_) => Ok(Explored::Stops(*routine, Why::ManyWords)),
+        }
     }
 
     /// The word of a number.

@@ -111,6 +111,8 @@ fn why_text(why: Why) -> &'static [u8]
         Why::Changed => b" RETURNS BY Q, WHICH WAS CHANGED",
         Why::Recursive => b" CALLS A ROUTINE IN PROGRESS",
         Why::Unbounded => b" IS IN A LOOP WITHOUT A BOUND",
-        Why::TooMany => b" HAS TOO MANY WORDS OR CYCLES",
+        Why::ManyWords => b" HAS MORE THAN 8192 WORDS",
+        Why::ManyRoutines => b" USES 2048 ROUTINES OR MORE",
+        Why::ManyCycles => b" HAS TOO MANY CYCLES TO COUNT",
     }
 }

@@ -40,8 +40,12 @@ pub enum Why {
     Recursive,
     /// A loop has no bound.
     Unbounded,
-    /// There are too many words or cycles.
-    TooMany,
+    /// A routine has more words than are looked at.
+    ManyWords,
+    /// It uses more routines than are looked at.
+    ManyRoutines,
+    /// No numbers of cycles are found that hold: they go beyond those that are counted.
+    ManyCycles,
 }
 
 /// Where an instruction leads.

@@ -1,0 +1,4 @@
+pub mod Texts
+pub mod Views
+pub mod Steps
+pub mod ReadingRows

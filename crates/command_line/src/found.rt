@@ -1,5 +1,6 @@
 //! The values of the arguments that a call gives.
 
+use crate::given::Values;
 use crate::names::ACCESS;
 use crate::names::ALIGN;
 use crate::names::AS_OCTAL;
@@ -52,6 +53,7 @@ use crate::names::PLACE;
 use crate::names::PROGRESS;
 use crate::names::REACH;
 use crate::names::READS;
+use crate::names::ROOTS;
 use crate::names::ROPE;
 use crate::names::ROUTINE;
 use crate::names::RUN;
@@ -106,292 +108,300 @@ use arguments::UpgradeArguments;
 use arguments::VerdictArguments;
 use arguments::WhatIfArguments;
 use arguments::WordsArguments;
-use clap::ArgMatches;
 use std::alloc::AllocError;
 use std::alloc::Global;
 
-/// The subcommand that was found, with its arguments; `None` where one is missing that `clap` has seen to be there.
-pub fn arguments<'a>(
+/// The arguments of a subcommand; `None` where one is missing that the reader has seen to be there.
+pub(crate) fn arguments<'a>(
     alloc: Global,
-    matches: &ArgMatches<'a>,
+    name: &str,
+    values: &Values<'_, 'a>,
 ) -> Result<Option<Arguments<'a>>, AllocError> {
-    let Some((name, matches)) = matches.subcommand() else {
-        return Ok(None);
-    };
     Ok(match name {
-        ASM => asm(matches).map(Arguments::Asm),
-        RUN => run(matches).map(Arguments::Run),
-        TRACE => trace(matches).map(Arguments::Trace),
-        COVER => cover(matches).map(Arguments::Cover),
-        REACH => reach(matches).map(Arguments::Reach),
-        BOUND => bound(matches).map(Arguments::Bound),
-        ACCESS => access(matches).map(Arguments::Access),
-        DELAYS => delays(matches).map(Arguments::Delays),
-        WHATIF => whatif(matches).map(Arguments::WhatIf),
-        DIFFER => differ(matches).map(Arguments::Differ),
-        DEBUG => debug(matches).map(Arguments::Debug),
-        CHECK => check(alloc, matches)?.map(Arguments::Check),
-        EXPECT => Some(Arguments::Expect(files(alloc, matches)?, verdicts(matches))),
-        EXPLAIN => Some(Arguments::Explain(matches.get_str(NUMBER))),
-        UPGRADE => upgrade(matches).map(Arguments::Upgrade),
-        WORDS => words(matches).map(Arguments::Words),
-        COMPARE => compare(matches).map(Arguments::Compare),
-        ALIGN => align(matches).map(Arguments::Align),
-        FIND => find(matches).map(Arguments::Find),
-        SUMS => sums(matches).map(Arguments::Sums),
-        PARITY => parity(matches).map(Arguments::Parity),
-        DAMAGES => damages(matches).map(Arguments::Damages),
+        ASM => asm(values).map(Arguments::Asm),
+        RUN => run(values).map(Arguments::Run),
+        TRACE => trace(values).map(Arguments::Trace),
+        COVER => cover(values).map(Arguments::Cover),
+        REACH => reach(values).map(Arguments::Reach),
+        BOUND => bound(values).map(Arguments::Bound),
+        ACCESS => access(values).map(Arguments::Access),
+        DELAYS => delays(values).map(Arguments::Delays),
+        WHATIF => whatif(values).map(Arguments::WhatIf),
+        DIFFER => differ(values).map(Arguments::Differ),
+        DEBUG => debug(values).map(Arguments::Debug),
+        CHECK => check(alloc, values)?.map(Arguments::Check),
+        EXPECT => Some(Arguments::Expect(all(alloc, values, FILES)?, verdicts(values))),
+        EXPLAIN => Some(Arguments::Explain(values.text(NUMBER))),
+        UPGRADE => upgrade(values).map(Arguments::Upgrade),
+        WORDS => words(values).map(Arguments::Words),
+        COMPARE => compare(values).map(Arguments::Compare),
+        ALIGN => align(values).map(Arguments::Align),
+        FIND => find(values).map(Arguments::Find),
+        SUMS => sums(values).map(Arguments::Sums),
+        PARITY => parity(values).map(Arguments::Parity),
+        DAMAGES => damages(values).map(Arguments::Damages),
         _ => None,
     })
 }
 
-fn asm<'a>(matches: &ArgMatches<'a>) -> Option<AsmArguments<'a>> {
+fn asm<'a>(values: &Values<'_, 'a>) -> Option<AsmArguments<'a>> {
     Some(AsmArguments {
-        source: matches.get_str(SOURCE)?,
-        rope: matches.get_str(ROPE)?,
-        version: version(matches, VERSION),
-        is_flight: matches.get_flag(FLIGHT),
-        has_sums: matches.get_flag(WITH_SUMS),
-        has_xref: matches.get_flag(WITH_XREF),
-        has_holes: matches.get_flag(WITH_HOLES),
-        filling: matches.get_str(FILLING),
-        assumed: matches.get_str(ASSUMED),
+        source: values.text(SOURCE)?,
+        rope: values.text(ROPE)?,
+        version: version(values, VERSION),
+        is_flight: values.has(FLIGHT),
+        has_sums: values.has(WITH_SUMS),
+        has_xref: values.has(WITH_XREF),
+        has_holes: values.has(WITH_HOLES),
+        filling: values.text(FILLING),
+        assumed: values.text(ASSUMED),
     })
 }
 
-fn run<'a>(matches: &ArgMatches<'a>) -> Option<RunArguments<'a>> {
+fn run<'a>(values: &Values<'_, 'a>) -> Option<RunArguments<'a>> {
     Some(RunArguments {
-        program: program(matches)?,
-        steps: matches.get_one(STEPS)?,
-        until_idle: matches.get_flag(UNTIL_IDLE),
-        has_holes: matches.get_flag(WITH_HOLES),
-        tells_end: matches.get_flag(END),
-        tells_progress: matches.get_flag(PROGRESS),
-        tells_notes: matches.get_flag(NOTES),
-        is_json: matches.get_flag(JSON),
+        program: program(values)?,
+        steps: values.number(STEPS)?,
+        until_idle: values.has(UNTIL_IDLE),
+        has_holes: values.has(WITH_HOLES),
+        tells_end: values.has(END),
+        tells_progress: values.has(PROGRESS),
+        tells_notes: values.has(NOTES),
+        is_json: values.has(JSON),
     })
 }
 
-fn trace<'a>(matches: &ArgMatches<'a>) -> Option<TraceArguments<'a>> {
+fn trace<'a>(values: &Values<'_, 'a>) -> Option<TraceArguments<'a>> {
     Some(TraceArguments {
-        program: program(matches)?,
-        steps: matches.get_one(STEPS)?,
-        first: matches.get_one(FROM),
-        last: matches.get_one(TO),
-        shows_reads: matches.get_flag(READS),
-        says: matches.get_flag(SAY),
-        tells_progress: matches.get_flag(PROGRESS),
+        program: program(values)?,
+        steps: values.number(STEPS)?,
+        first: values.number(FROM),
+        last: values.number(TO),
+        shows_reads: values.has(READS),
+        says: values.has(SAY),
+        tells_progress: values.has(PROGRESS),
     })
 }
 
-fn cover<'a>(matches: &ArgMatches<'a>) -> Option<CoverArguments<'a>> {
+fn cover<'a>(values: &Values<'_, 'a>) -> Option<CoverArguments<'a>> {
     Some(CoverArguments {
-        program: program(matches)?,
-        steps: matches.get_one(STEPS)?,
-        tells_progress: matches.get_flag(PROGRESS),
-        is_json: matches.get_flag(JSON),
+        program: program(values)?,
+        steps: values.number(STEPS)?,
+        tells_progress: values.has(PROGRESS),
+        is_json: values.has(JSON),
     })
 }
 
-fn reach<'a>(matches: &ArgMatches<'a>) -> Option<ReachArguments<'a>> {
-    listed(matches, reach_run(matches))
+fn reach<'a>(values: &Values<'_, 'a>) -> Option<ReachArguments<'a>> {
+    Some(ReachArguments {
+        shows_roots: values.has(ROOTS),
+        ..listed(values, reach_run(values))?
+    })
 }
 
 /// A program that is shown, beside a run or not.
-fn listed<'a>(matches: &ArgMatches<'a>, run: Option<ReachRun<'a>>) -> Option<ReachArguments<'a>> {
+fn listed<'a>(values: &Values<'_, 'a>, run: Option<ReachRun<'a>>) -> Option<ReachArguments<'a>> {
     Some(ReachArguments {
-        file: image(matches, SOURCE, VERSION, FORM)?,
-        is_image: matches.get_flag(IMAGE),
-        is_flight: matches.get_flag(FLIGHT),
-        symbols: matches.get_str(SYMBOLS),
+        file: image(values, SOURCE, VERSION, FORM)?,
+        is_image: values.has(IMAGE),
+        is_flight: values.has(FLIGHT),
+        symbols: values.text(SYMBOLS),
         run,
+        shows_roots: false,
     })
 }
 
 /// The run that is made beside what is reached; each of its options needs the other.
-fn reach_run<'a>(matches: &ArgMatches<'a>) -> Option<ReachRun<'a>> {
+fn reach_run<'a>(values: &Values<'_, 'a>) -> Option<ReachRun<'a>> {
     Some(ReachRun {
-        feed: matches.get_str(RUN_FEED)?,
-        steps: matches.get_one(RUN_STEPS)?,
+        feed: values.text(RUN_FEED)?,
+        steps: values.number(RUN_STEPS)?,
     })
 }
 
-fn bound<'a>(matches: &ArgMatches<'a>) -> Option<BoundArguments<'a>> {
+fn bound<'a>(values: &Values<'_, 'a>) -> Option<BoundArguments<'a>> {
     Some(BoundArguments {
-        listed: listed(matches, None)?,
-        routine: matches.get_str(ROUTINE)?,
-        loops: matches.get_str(LOOPS),
-        kept: matches.get_str(KEPT),
+        listed: listed(values, None)?,
+        routine: values.text(ROUTINE)?,
+        loops: values.text(LOOPS),
+        kept: values.text(KEPT),
     })
 }
 
-fn access<'a>(matches: &ArgMatches<'a>) -> Option<AccessArguments<'a>> {
+fn access<'a>(values: &Values<'_, 'a>) -> Option<AccessArguments<'a>> {
     Some(AccessArguments {
-        program: program(matches)?,
-        steps: matches.get_one(STEPS)?,
-        place: matches.get_str(PLACE),
-        tells_progress: matches.get_flag(PROGRESS),
+        program: program(values)?,
+        steps: values.number(STEPS)?,
+        place: values.text(PLACE),
+        tells_progress: values.has(PROGRESS),
     })
 }
 
-fn delays<'a>(matches: &ArgMatches<'a>) -> Option<DelaysArguments<'a>> {
+fn delays<'a>(values: &Values<'_, 'a>) -> Option<DelaysArguments<'a>> {
     Some(DelaysArguments {
-        program: program(matches)?,
-        steps: matches.get_one(STEPS)?,
-        tells_progress: matches.get_flag(PROGRESS),
+        program: program(values)?,
+        steps: values.number(STEPS)?,
+        tells_progress: values.has(PROGRESS),
     })
 }
 
-fn whatif<'a>(matches: &ArgMatches<'a>) -> Option<WhatIfArguments<'a>> {
+fn whatif<'a>(values: &Values<'_, 'a>) -> Option<WhatIfArguments<'a>> {
     Some(WhatIfArguments {
-        program: program(matches)?,
-        steps: matches.get_one(STEPS)?,
-        trials: matches.get_str(TRIALS)?,
-        tells_notes: matches.get_flag(NOTES),
+        program: program(values)?,
+        steps: values.number(STEPS)?,
+        trials: values.text(TRIALS)?,
+        tells_notes: values.has(NOTES),
     })
 }
 
-fn differ<'a>(matches: &ArgMatches<'a>) -> Option<DifferArguments<'a>> {
-    let program = program(matches)?;
-    let with = matches.get_strs(WITH)?;
+fn differ<'a>(values: &Values<'_, 'a>) -> Option<DifferArguments<'a>> {
+    let program = program(values)?;
     Some(DifferArguments {
         program,
         other: ProgramArguments {
             file: ImageArguments {
-                path: with.get(0)?,
+                path: values.nth(WITH, 0)?,
                 ..program.file
             },
-            feed: with.get(1)?,
+            feed: values.nth(WITH, 1)?,
             ..program
         },
-        steps: matches.get_one(STEPS)?,
-        why: matches.get_one(WHY),
+        steps: values.number(STEPS)?,
+        why: values.number(WHY),
     })
 }
 
-fn debug<'a>(matches: &ArgMatches<'a>) -> Option<DebugArguments<'a>> {
+fn debug<'a>(values: &Values<'_, 'a>) -> Option<DebugArguments<'a>> {
     Some(DebugArguments {
-        program: program(matches)?,
-        is_extended: matches.get_flag(EXTENDED),
+        program: program(values)?,
+        is_extended: values.has(EXTENDED),
     })
 }
 
 fn check<'a>(
     alloc: Global,
-    matches: &ArgMatches<'a>,
+    values: &Values<'_, 'a>,
 ) -> Result<Option<CheckArguments<'a>>, AllocError> {
-    let Some(source) = matches.get_str(SOURCE) else {
+    let Some(source) = values.text(SOURCE) else {
         return Ok(None);
     };
     Ok(Some(CheckArguments {
         source,
-        feeds: Vec::from_slice(alloc, matches.get_strs(FEEDS).unwrap_or(&[]))?,
-        is_flight: matches.get_flag(FLIGHT),
-        tells_unused: matches.get_flag(UNUSED),
-        is_json: matches.get_flag(JSON),
-        assumed: matches.get_str(ASSUMED),
+        feeds: all(alloc, values, FEEDS)?,
+        is_flight: values.has(FLIGHT),
+        tells_unused: values.has(UNUSED),
+        is_json: values.has(JSON),
+        assumed: values.text(ASSUMED),
     }))
 }
 
-fn files<'a>(alloc: Global, matches: &ArgMatches<'a>) -> Result<Vec<&'a str>, AllocError> {
-    Vec::from_slice(alloc, matches.get_strs(FILES).unwrap_or(&[]))
+/// All values of an argument.
+fn all<'a>(alloc: Global, values: &Values<'_, 'a>, name: &str) -> Result<Vec<&'a str>, AllocError> {
+    let mut texts = Vec::new(alloc);
+    for it in values.given {
+        if it.row.name == name {
+            texts.push(it.value)?;
+        }
+    }
+    Ok(texts)
 }
 
-fn verdicts(matches: &ArgMatches<'_>) -> VerdictArguments {
+fn verdicts(values: &Values<'_, '_>) -> VerdictArguments {
     VerdictArguments {
-        is_tap: matches.get_flag(TAP),
-        is_junit: matches.get_flag(JUNIT),
+        is_tap: values.has(TAP),
+        is_junit: values.has(JUNIT),
     }
 }
 
-fn upgrade<'a>(matches: &ArgMatches<'a>) -> Option<UpgradeArguments<'a>> {
+fn upgrade<'a>(values: &Values<'_, 'a>) -> Option<UpgradeArguments<'a>> {
     Some(UpgradeArguments {
-        old: matches.get_str(OLD)?,
-        new: matches.get_str(NEW)?,
+        old: values.text(OLD)?,
+        new: values.text(NEW)?,
     })
 }
 
-fn words<'a>(matches: &ArgMatches<'a>) -> Option<WordsArguments<'a>> {
+fn words<'a>(values: &Values<'_, 'a>) -> Option<WordsArguments<'a>> {
     Some(WordsArguments {
-        image: image(matches, ROPE, VERSION, FORM)?,
-        bank: matches.get_str(BANK).and_then(bank_named),
-        is_source: matches.get_flag(AS_SOURCE),
-        is_octal: matches.get_flag(AS_OCTAL),
-        symbols: matches.get_str(SYMBOLS),
-        has_xref: matches.get_flag(WITH_XREF),
-        tells_where: matches.get_flag(WHERE),
+        image: image(values, ROPE, VERSION, FORM)?,
+        bank: values.text(BANK).and_then(bank_named),
+        is_source: values.has(AS_SOURCE),
+        is_octal: values.has(AS_OCTAL),
+        symbols: values.text(SYMBOLS),
+        has_xref: values.has(WITH_XREF),
+        has_holes: values.has(WITH_HOLES),
+        tells_where: values.has(WHERE),
     })
 }
 
-fn compare<'a>(matches: &ArgMatches<'a>) -> Option<CompareArguments<'a>> {
+fn compare<'a>(values: &Values<'_, 'a>) -> Option<CompareArguments<'a>> {
     Some(CompareArguments {
-        old: image(matches, OLD, OLD_VERSION, OLD_FORM)?,
-        new: image(matches, NEW, NEW_VERSION, NEW_FORM)?,
-        is_source: matches.get_flag(ONLY),
-        is_flight: matches.get_flag(FLIGHT),
-        has_holes: matches.get_flag(WITH_HOLES),
-        has_banks: matches.get_flag(WITH_BANKS),
-        assumed: matches.get_str(ASSUMED),
+        old: image(values, OLD, OLD_VERSION, OLD_FORM)?,
+        new: image(values, NEW, NEW_VERSION, NEW_FORM)?,
+        is_source: values.has(ONLY),
+        is_flight: values.has(FLIGHT),
+        has_holes: values.has(WITH_HOLES),
+        has_banks: values.has(WITH_BANKS),
+        assumed: values.text(ASSUMED),
     })
 }
 
-fn align<'a>(matches: &ArgMatches<'a>) -> Option<AlignArguments<'a>> {
+fn align<'a>(values: &Values<'_, 'a>) -> Option<AlignArguments<'a>> {
     Some(AlignArguments {
-        old: image(matches, OLD, OLD_VERSION, OLD_FORM)?,
-        new: image(matches, NEW, NEW_VERSION, NEW_FORM)?,
-        symbols: matches.get_str(SYMBOLS),
+        old: image(values, OLD, OLD_VERSION, OLD_FORM)?,
+        new: image(values, NEW, NEW_VERSION, NEW_FORM)?,
+        symbols: values.text(SYMBOLS),
     })
 }
 
-fn find<'a>(matches: &ArgMatches<'a>) -> Option<FindArguments<'a>> {
+fn find<'a>(values: &Values<'_, 'a>) -> Option<FindArguments<'a>> {
     Some(FindArguments {
-        passage: matches.get_str(PASSAGE)?,
-        is_flight: matches.get_flag(FLIGHT),
-        image: image(matches, ROPE, VERSION, FORM)?,
+        passage: values.text(PASSAGE)?,
+        is_flight: values.has(FLIGHT),
+        image: image(values, ROPE, VERSION, FORM)?,
     })
 }
 
-fn sums<'a>(matches: &ArgMatches<'a>) -> Option<SumsArguments<'a>> {
+fn sums<'a>(values: &Values<'_, 'a>) -> Option<SumsArguments<'a>> {
     Some(SumsArguments {
-        image: image(matches, ROPE, VERSION, FORM)?,
-        has_both_forms: matches.get_flag(BOTH_FORMS),
+        image: image(values, ROPE, VERSION, FORM)?,
+        has_both_forms: values.has(BOTH_FORMS),
     })
 }
 
-fn parity<'a>(matches: &ArgMatches<'a>) -> Option<ImageArguments<'a>> {
-    image(matches, ROPE, VERSION, FORM)
+fn parity<'a>(values: &Values<'_, 'a>) -> Option<ImageArguments<'a>> {
+    image(values, ROPE, VERSION, FORM)
 }
 
-fn damages<'a>(matches: &ArgMatches<'a>) -> Option<DamagesArguments<'a>> {
+fn damages<'a>(values: &Values<'_, 'a>) -> Option<DamagesArguments<'a>> {
     Some(DamagesArguments {
-        image: image(matches, ROPE, VERSION, FORM)?,
-        is_source: matches.get_flag(AS_SOURCE),
+        image: image(values, ROPE, VERSION, FORM)?,
+        is_source: values.has(AS_SOURCE),
     })
 }
 
 /// A program with its feed.
-fn program<'a>(matches: &ArgMatches<'a>) -> Option<ProgramArguments<'a>> {
+fn program<'a>(values: &Values<'_, 'a>) -> Option<ProgramArguments<'a>> {
     Some(ProgramArguments {
-        file: image(matches, SOURCE, VERSION, FORM)?,
-        is_image: matches.get_flag(IMAGE),
-        is_flight: matches.get_flag(FLIGHT),
-        symbols: matches.get_str(SYMBOLS),
-        feed: matches.get_str(FEED)?,
+        file: image(values, SOURCE, VERSION, FORM)?,
+        is_image: values.has(IMAGE),
+        is_flight: values.has(FLIGHT),
+        symbols: values.text(SYMBOLS),
+        feed: values.text(FEED)?,
     })
 }
 
 /// A file that is an image, or may be one: by the names of its argument, and of the options of its version and form.
 fn image<'a>(
-    matches: &ArgMatches<'a>,
+    values: &Values<'_, 'a>,
     file: &str,
     version_option: &str,
     form_option: &str,
 ) -> Option<ImageArguments<'a>> {
-    let form = matches.get_str(form_option).map_or(0, form_named);
+    let form = values.text(form_option).map_or(0, form_named);
     Some(ImageArguments {
-        path: matches.get_str(file)?,
-        version: version(matches, version_option),
-        is_parity_ignored: matches.get_str(IGNORED_PARITY).is_some(),
+        path: values.text(file)?,
+        version: version(values, version_option),
+        is_parity_ignored: values.text(IGNORED_PARITY).is_some(),
         is_hardware: form % 2 == 1,
         layout: ImageLayout {
             is_swapped: form / 2 % 2 == 1,
@@ -413,8 +423,8 @@ fn form_named(name: &str) -> usize {
 }
 
 /// The version of an image that an option names.
-fn version(matches: &ArgMatches<'_>, option: &str) -> ImageVersion {
-    match matches.get_str(option) {
+fn version(values: &Values<'_, '_>, option: &str) -> ImageVersion {
+    match values.text(option) {
         Some(VERSION_ONE) => ImageVersion::One,
         _ => ImageVersion::Two,
     }

@@ -1,19 +1,28 @@
 //! The command line: the table of the subcommands and their arguments, and what the words of a call ask for by it.
 #![tactic(auto)]
 
-mod building;
+mod forms;
 mod found;
+mod given;
+mod help;
 mod names;
+mod reader;
+mod reading;
 mod rope_help;
 mod rope_rows;
 mod row;
 mod rows;
+mod rules;
 mod run_help;
 mod run_rows;
 mod said;
+mod similar;
 mod source_help;
 mod source_rows;
 mod table;
+mod top;
+mod usage;
+mod values;
 
 use arguments::Arguments;
 pub use row::MOST_STEPS;
@@ -32,11 +41,5 @@ pub enum Parsed<'a> {
 
 /// Parses the words of a call, of which the first is the program's name.
 pub fn parse<'a>(alloc: Global, words: &'a [String]) -> Result<Parsed<'a>, AllocError> {
-    match building::command(alloc, words)?.try_get_matches_from(words) {
-        Ok(matches) => match found::arguments(alloc, &matches)? {
-            Some(arguments) => Ok(Parsed::Arguments(arguments)),
-            None => Ok(Parsed::Wrong(String::new(alloc))),
-        },
-        Err(error) => said::said(alloc, words, &error),
-    }
+    top::parsed(alloc, words)
 }

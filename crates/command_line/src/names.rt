@@ -21,6 +21,9 @@ pub const RUN_FEED: &str = "feed-of-run";
 /// How many steps that run makes.
 pub const RUN_STEPS: &str = "steps-of-run";
 
+/// The option of `agcws reach` by which it shows roots.
+pub const ROOTS: &str = "roots";
+
 /// The subcommand that tells the most cycles of a routine.
 pub const BOUND: &str = "bound";
 

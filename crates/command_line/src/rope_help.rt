@@ -64,11 +64,16 @@ below it one for each word of the bank, or of all, whose address leads there, as
 with what it does: READ, WRITE (TS), CHANGE, which reads and writes, or JUMP. An
 address that depends on EB, or in bank 2 or 3 on FB, and a word 00000 count for
 none; a number among the instructions may be taken for one.
+With --flight --holes FILE is a source, as agcws asm --flight --holes takes it,
+whose names are shown as those of its listing. The words of its interpretive
+lines, which are no instructions and are not of the source, are shown as
+  02,4003 77775 HOLE
 
 Exit status:
   0  done
   1  the image is refused: it is short (E3) or long (E4), or the lowest bit of
-     two of its bytes is wrong (E5); or a line of the table is (E36)
+     two of its bytes is wrong (E5); or a line of the table is (E36), or the
+     source
   2  the command line is wrong
   3  a file, a device or memory failed
 Status 1 and 3 print one line to standard error, as agcws: E5. With --where one

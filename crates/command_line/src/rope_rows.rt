@@ -48,7 +48,7 @@ pub fn words() -> Subcommand {
     }
 }
 
-static WORDS_ROWS: [Row; 10] = [
+static WORDS_ROWS: [Row; 12] = [
     IMAGE_ARGUMENT,
     Row {
         name: BANK,
@@ -79,6 +79,19 @@ static WORDS_ROWS: [Row; 10] = [
         needs: &[SYMBOLS],
         conflicts: &[AS_SOURCE, AS_OCTAL],
         help: "Tells which words use each name",
+        ..FLAG
+    },
+    Row {
+        help: "FILE is a flight source, with --holes",
+        needs: &[WITH_HOLES],
+        ..FLIGHT_OPTION
+    },
+    Row {
+        name: WITH_HOLES,
+        long: Some("holes"),
+        needs: &[SYMBOLS, FLIGHT],
+        conflicts: &[AS_SOURCE, WITH_XREF],
+        help: "Shows words of its interpretive lines as HOLE",
         ..FLAG
     },
     Row {

@@ -31,7 +31,7 @@ pub struct Row {
     /// What help calls the value; its name where there is none.
     pub value_names: &'static [&'static str],
     /// The value where the argument is not given.
-    pub default_values: &'static [&'static str],
+    pub default_value: Option<&'static str>,
     /// Whether it has to be given.
     pub is_required: bool,
     /// The arguments without which it may not be given.

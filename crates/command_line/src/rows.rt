@@ -12,7 +12,7 @@ pub const PLAIN: Row = Row {
     long: None,
     value: Value::Text,
     value_names: &[],
-    default_values: &[],
+    default_value: None,
     is_required: false,
     needs: &[],
     conflicts: &[],
@@ -29,6 +29,14 @@ pub const NEEDED: Row = Row {
 pub const FLAG: Row = Row {
     value: Value::Nothing,
     ..PLAIN
+};
+
+/// The option that asks for help, which each subcommand has, and stands in none of the tables.
+pub static HELP_OPTION: Row = Row {
+    name: "help",
+    long: Some("help"),
+    help: "Print help",
+    ..FLAG
 };
 
 /// A source.
@@ -91,7 +99,7 @@ pub const VERSION_OPTION: Row = Row {
     long: Some("rope"),
     value: Value::OneOf(&[VERSION_ONE, VERSION_TWO]),
     value_names: &[VERSION],
-    default_values: &[VERSION_TWO],
+    default_value: Some(VERSION_TWO),
     help: "The image's version",
     ..PLAIN
 };

@@ -78,7 +78,7 @@ stands for the place.
 
 Exit status:
   0  done
-  1  the source, or the image, or the feed is refused, or the run stops at a hole
+  1  the source, the image or the feed is refused, or the run stops at a hole
   2  the command line is wrong
   3  a file, a device or memory failed
 Status 1 and 3 print one line to standard error, as agcws: E14 LINE 9. What the
@@ -189,6 +189,9 @@ With --feed and --steps the words that N steps of a run execute are roots too:
 and a second column has IDLE where a way leads to a word that the run has not
 executed. So - is then a constant, or what nothing that is known leads to.
 What an instruction reads that only a named place leads to has DATA too.
+With --roots a last column has the first root from which a way leads to the
+word, as NAMED 07,2006: the place 02,4000, the entry of an interrupt, or a place
+that an address names, by the order of the lines; of the words of a run none.
 
 Exit status:
   0  done
@@ -227,7 +230,9 @@ of --loops goes before it. Else the place where no bound was found, and why:
   RETURNS BY Q, WHICH WAS CHANGED
   CALLS A ROUTINE IN PROGRESS    which would not end
   IS IN A LOOP WITHOUT A BOUND   not counted so, and without --loops
-  HAS TOO MANY WORDS OR CYCLES   8192 words, or 2^32 cycles
+  HAS MORE THAN 8192 WORDS       each counted for each way to come to it
+  USES 2048 ROUTINES OR MORE     those that they call among them
+  HAS TOO MANY CYCLES TO COUNT   2^32, or no numbers that hold were found
 --loops has pairs of a place and a number, as 'LOOP 11 INNER 121': of all ways
 through the routine, so that of an inner loop the rounds of all rounds of the
 outer one count. A place where CCS begins a round is come to once more than it

@@ -2,8 +2,8 @@
 
 use crate::names::{
     ACCESS, BOUND, COVER, DEBUG, DELAYS, DIFFER, END, EXTENDED, FLIGHT, FROM, IMAGE, JSON, KEPT,
-    LOOPS, NOTES, PLACE, PROGRESS, REACH, READS, ROUTINE, RUN, RUN_FEED, RUN_STEPS, SAY, TO, TRACE,
-    TRIALS, UNTIL_IDLE, WHATIF, WHY, WITH, WITH_HOLES,
+    LOOPS, NOTES, PLACE, PROGRESS, REACH, READS, ROOTS, ROUTINE, RUN, RUN_FEED, RUN_STEPS, SAY, TO,
+    TRACE, TRIALS, UNTIL_IDLE, WHATIF, WHY, WITH, WITH_HOLES,
 };
 use crate::row::{Row, Subcommand, Value};
 use crate::rows::{
@@ -159,7 +159,7 @@ pub fn reach() -> Subcommand {
     }
 }
 
-static REACH_ROWS: [Row; 9] = [
+static REACH_ROWS: [Row; 10] = [
     FLIGHT_OF_PROGRAM,
     IMAGE_OPTION,
     VERSION_OF_PROGRAM,
@@ -183,6 +183,12 @@ static REACH_ROWS: [Row; 9] = [
         needs: &[RUN_FEED],
         help: "How many steps it makes",
         ..PLAIN
+    },
+    Row {
+        name: ROOTS,
+        long: Some("roots"),
+        help: "Shows the first root that leads to each word",
+        ..FLAG
     },
 ];
 

@@ -13,7 +13,6 @@ use Rattle.symbols.specs.Values.{SymbolTable}
 use Rattle.commands.specs.Commands.{forms}
 use Rattle.commands.specs.Extended.{extended_line, extended_forms, telling}
 use Rattle.commands.specs.Usages.{usages}
-use Rattle.commands.specs.NamedPlaces.{registers}
 use Rattle.space.specs.Places.{window}
 use Rattle.commands.specs.declared.subject.Subject.TheVariants as subject
 use Rattle.commands.specs.declared.command.Breakpoint.TheVariants as breakpoint
@@ -32,7 +31,8 @@ use Rattle.commands.specs.declared.extended.LinkLines.{LinkLines}
 -- a place in fixed memory, and a number that is no place
 abbrev symbols : SymbolTable
 symbols = (codes "FIVE", value.Fixed 2 5) ∷ (codes "BIG", value.Num 0o10000) ∷ (codes "SUM", value.Erasable 0o101)
-    ∷ (codes "Q", value.Erasable 0o102) ∷ (codes "CH12", value.Fixed 2 6) ∷ (codes "index", value.Erasable 0o103) ∷ []
+    ∷ (codes "Q", value.Erasable 0o102) ∷ (codes "CH12", value.Fixed 2 6) ∷ (codes "index", value.Erasable 0o103)
+    ∷ (codes "EDOP", value.Erasable 0o105) ∷ []
 
 abbrev asked : List (List ℕ) → List ExtendedLine
 asked lines = map (extended_line symbols) lines
@@ -42,7 +42,7 @@ further : asked (codes "breaks" ∷ codes "clear 2 # the second" ∷ codes "help
     ∷ codes "regs all" ∷ codes "regs" ∷ codes "until 123456789012345" ∷ [])
     ≡ Breaks ∷ ClearOne 2 ∷ Help ∷ Says (codes "HELP mem takes a place, or a place and a count: the word there, or so many\n")
     ∷ On 999999999999999 ∷ On 5 ∷ AllRegisters ∷ Common Registers ∷ Until 123456789012345 ∷ []
-unfolding extended_line extended_forms usages forms runs parsed counters sequences registers window
+unfolding extended_line extended_forms usages forms runs parsed counters sequences window
 further = refl
 
 -- what any session is asked for
@@ -50,14 +50,14 @@ plain : asked (codes "clear" ∷ codes "mem FIVE" ∷ codes " step 1 # one" ∷ 
     ∷ codes "# nothing" ∷ [] ∷ replicate 81 32 ∷ [])
     ≡ Common Clear ∷ Common (Memory (Fixed 2 5)) ∷ Common (Step 1) ∷ Common (Add 12 (Count Time1 Pinc)) ∷ Plain WrongCounter ∷ Plain Nothing
     ∷ Plain Nothing ∷ Plain TooLong ∷ []
-unfolding extended_line extended_forms usages forms runs parsed counters sequences registers window
+unfolding extended_line extended_forms usages forms runs parsed counters sequences window
 plain = refl
 
 -- what stands after `echo` and one blank, a comment sign too; and after `echo`, where none stands
 echoes : asked (codes "echo DONE 5" ∷ codes " echo  two # three" ∷ codes "echo" ∷ codes "echo " ∷ codes "echo#x" ∷ codes "echo\t#x" ∷ [])
     ≡ Says (codes "DONE 5\n") ∷ Says (codes " two # three\n") ∷ Says (codes "\n") ∷ Says (codes "\n") ∷ Says (codes "#x\n")
     ∷ Says (codes "#x\n") ∷ []
-unfolding extended_line extended_forms usages forms runs parsed counters sequences registers window
+unfolding extended_line extended_forms usages forms runs parsed counters sequences window
 echoes = refl
 
 -- what is told besides the lines of steps
@@ -69,11 +69,12 @@ with_index = telling Told false
 
 -- what `why` is about: an erasable place, and where no symbol has the name a register or a channel; and how many links it tells
 whys : asked (codes "why" ∷ codes "why SUM" ∷ codes "why SUM 3" ∷ codes "why 101 999" ∷ codes "why A" ∷ codes "why BB 0" ∷ codes "why Q"
-    ∷ codes "why CH010" ∷ codes "why CH7 2" ∷ [])
+    ∷ codes "why CYR" ∷ codes "why ARUPT" ∷ codes "why EDOP" ∷ codes "why CH010" ∷ codes "why CH7 2" ∷ [])
     ≡ WhyStep plainly ∷ Why (subject.Place 0o101) 16 plainly ∷ Why (subject.Place 0o101) 3 plainly ∷ Why (subject.Place 0o101) 999 plainly
     ∷ Why (subject.Place 0) 16 plainly ∷ Why (subject.Place 6) 0 plainly ∷ Why (subject.Place 0o102) 16 plainly
+    ∷ Why (subject.Place 0o20) 16 plainly ∷ Why (subject.Place 0o10) 16 plainly ∷ Why (subject.Place 0o105) 16 plainly
     ∷ Why (subject.Channel 8) 16 plainly ∷ Why (subject.Channel 7) 2 plainly ∷ []
-unfolding extended_line extended_forms usages forms runs parsed counters sequences registers window
+unfolding extended_line extended_forms usages forms runs parsed counters sequences window
 whys = refl
 
 -- and whether the lines of INDEX are told. Where `index` stands alone it is the word, though a symbol has this name
@@ -82,12 +83,12 @@ indexed : asked (codes "why index" ∷ codes "why SUM index" ∷ codes "why SUM 
     ≡ WhyStep with_index ∷ Why (subject.Place 0o101) 16 with_index ∷ Why (subject.Place 0o102) 3 with_index
     ∷ Why (subject.Channel 8) 16 with_index ∷ Why (subject.Channel 7) 0 with_index ∷ Why (subject.Place 0o103) 3 plainly
     ∷ Why (subject.Place 0o103) 16 with_index ∷ Why (subject.Place 0o103) 16 plainly ∷ []
-unfolding extended_line extended_forms usages forms runs parsed counters sequences registers window
+unfolding extended_line extended_forms usages forms runs parsed counters sequences window
 indexed = refl
 
 unindexed : asked (codes "why SUM index 3" ∷ codes "why SUM 3 INDEX" ∷ codes "why SUM 3 index index" ∷ codes "why SUM indexes" ∷ [])
     ≡ replicate 4 (Says (codes "E50 COMMAND why takes [step|PLACE [k|control|inputs|interrupts|since]]\n"))
-unfolding extended_line extended_forms usages forms runs parsed counters sequences registers window
+unfolding extended_line extended_forms usages forms runs parsed counters sequences window
 unindexed = refl
 
 -- and whether places are told, after `index` where both stand
@@ -96,13 +97,13 @@ placed : asked (codes "why places" ∷ codes "why index places" ∷ codes "why S
     ≡ WhyStep (telling Omitted true) ∷ WhyStep (telling Told true) ∷ Why (subject.Place 0o101) 16 (telling Omitted true)
     ∷ Why (subject.Place 0o102) 3 (telling Told true) ∷ Why (subject.Channel 8) 0 (telling Omitted true)
     ∷ Says (codes "E50 COMMAND no symbol places\n") ∷ Says (codes "E50 COMMAND no symbol places\n") ∷ []
-unfolding extended_line extended_forms usages forms runs parsed counters sequences registers window
+unfolding extended_line extended_forms usages forms runs parsed counters sequences window
 placed = refl
 
 unplaced : asked (codes "why SUM places 3" ∷ codes "why SUM places index" ∷ codes "why SUM 3 index places places" ∷ codes "why SUM PLACES"
     ∷ codes "why index 3 places index" ∷ [])
     ≡ replicate 5 (Says (codes "E50 COMMAND why takes [step|PLACE [k|control|inputs|interrupts|since]]\n"))
-unfolding extended_line extended_forms usages forms runs parsed counters sequences registers window
+unfolding extended_line extended_forms usages forms runs parsed counters sequences window
 unplaced = refl
 
 -- and since which step
@@ -112,13 +113,13 @@ since : asked (codes "why SUM since 5" ∷ codes "why SUM 3 since 0" ∷ codes "
     ∷ WhySince (subject.Place 0o102) 3 (telling Told true) 12 ∷ WhySince (subject.Channel 8) 16 (telling Omitted true) 7
     ∷ WhySince (subject.Place 0o103) 16 with_index 7
     ∷ []
-unfolding extended_line extended_forms usages forms runs parsed counters sequences registers window
+unfolding extended_line extended_forms usages forms runs parsed counters sequences window
 since = refl
 
 not_since : asked (codes "why SUM since" ∷ codes "why SUM since x" ∷ codes "why SUM since 5 3" ∷ codes "why SUM since 5 index"
     ∷ codes "why SUM 1000 since 5" ∷ codes "why SUM places index since 5" ∷ codes "why SUM Since 5" ∷ [])
     ≡ replicate 7 (Says (codes "E50 COMMAND why takes [step|PLACE [k|control|inputs|interrupts|since]]\n"))
-unfolding extended_line extended_forms usages forms runs parsed counters sequences registers window
+unfolding extended_line extended_forms usages forms runs parsed counters sequences window
 not_since = refl
 
 -- and the choice before: of the position, though a symbol has the name, and of a word
@@ -126,35 +127,35 @@ ways : asked (codes "why step" ∷ codes "why SUM control" ∷ codes "why SUM +1
     ∷ codes "why Q control" ∷ [])
     ≡ WhyWay ∷ WhyControl (subject.Place 0o101) ∷ WhyControl (subject.Place 0o102) ∷ WhyControl (subject.Channel 8)
     ∷ WhyControl (subject.Place 0o102) ∷ []
-unfolding extended_line extended_forms usages forms runs parsed counters sequences registers window
+unfolding extended_line extended_forms usages forms runs parsed counters sequences window
 ways = refl
 
 -- what a whole chain comes from, and the interrupts in which its steps stand
 whole : asked (codes "why SUM inputs" ∷ codes "why SUM +1 interrupts # why" ∷ codes "why CH010 inputs" ∷ codes "why CH010 interrupts" ∷ [])
     ≡ WhyInputs (subject.Place 0o101) ∷ WhyInterrupts (subject.Place 0o102) ∷ WhyInputs (subject.Channel 8)
     ∷ WhyInterrupts (subject.Channel 8) ∷ []
-unfolding extended_line extended_forms usages forms runs parsed counters sequences registers window
+unfolding extended_line extended_forms usages forms runs parsed counters sequences window
 whole = refl
 
 no_whole : asked (codes "why SUM inputs 3" ∷ codes "why SUM 3 interrupts" ∷ codes "why SUM Inputs" ∷ codes "why SUM input" ∷ [])
     ≡ replicate 4 (Says (codes "E50 COMMAND why takes [step|PLACE [k|control|inputs|interrupts|since]]\n"))
-unfolding extended_line extended_forms usages forms runs parsed counters sequences registers window
+unfolding extended_line extended_forms usages forms runs parsed counters sequences window
 no_whole = refl
 
 no_ways : asked (codes "why SUM control 3" ∷ codes "why SUM 3 control" ∷ codes "why SUM Control" ∷ codes "why SUM step" ∷ [])
     ≡ replicate 4 (Says (codes "E50 COMMAND why takes [step|PLACE [k|control|inputs|interrupts|since]]\n"))
-unfolding extended_line extended_forms usages forms runs parsed counters sequences registers window
+unfolding extended_line extended_forms usages forms runs parsed counters sequences window
 no_ways = refl
 
 ways_of_nothing : asked (codes "why step 3" ∷ codes "why FIVE control" ∷ codes "why control" ∷ [])
     ≡ Says (codes "E50 COMMAND no symbol step\n") ∷ Says (codes "E50 COMMAND FIVE is in fixed memory, whose words never change\n")
     ∷ Says (codes "E50 COMMAND no symbol control\n") ∷ []
-unfolding extended_line extended_forms usages forms runs parsed counters sequences registers window
+unfolding extended_line extended_forms usages forms runs parsed counters sequences window
 ways_of_nothing = refl
 
 since_nothing : asked (codes "why since 5" ∷ codes "why FIVE since 5" ∷ [])
     ≡ Says (codes "E50 COMMAND no symbol since\n") ∷ Says (codes "E50 COMMAND FIVE is in fixed memory, whose words never change\n") ∷ []
-unfolding extended_line extended_forms usages forms runs parsed counters sequences registers window
+unfolding extended_line extended_forms usages forms runs parsed counters sequences window
 since_nothing = refl
 
 wrong_whys : asked (codes "why FIVE" ∷ codes "why CH12" ∷ codes "why SUMM" ∷ codes "why SUMM 3" ∷ codes "why SUM x" ∷ codes "why SUM 1000"
@@ -170,7 +171,7 @@ wrong_whys : asked (codes "why FIVE" ∷ codes "why CH12" ∷ codes "why SUMM" �
     ∷ codes "no symbol CH1000\n"
     ∷ codes "no symbol CH\n"
     ∷ [])
-unfolding extended_line extended_forms usages forms runs parsed counters sequences registers window
+unfolding extended_line extended_forms usages forms runs parsed counters sequences window
 wrong_whys = refl
 
 -- refusals say which field they mean
@@ -191,7 +192,7 @@ refusals : asked (codes "mem FIV" ∷ codes "break at FIV" ∷ codes "mem BIG" �
     ∷ Says (codes "E50 COMMAND clear takes a breakpoint's number, or nothing\n")
     ∷ Says (codes "E50 COMMAND add takes a line of a feed\n")
     ∷ []
-unfolding extended_line extended_forms usages forms runs parsed counters sequences registers window
+unfolding extended_line extended_forms usages forms runs parsed counters sequences window
 refusals = refl
 
 -- places as a listing has them, moved on, and by the letters of registers, where no symbol has these
@@ -202,7 +203,7 @@ places : asked (codes "mem 02,4005" ∷ codes "mem 3,6000" ∷ codes "mem 05,377
     ∷ codes "mem E2,1377" ∷ codes "mem A" ∷ codes "mem Q" ∷ codes "mem SUM +3" ∷ codes "mem FIVE +10" ∷ codes "mem E3,1400 +1" ∷ [])
     ≡ Common (Memory (Fixed 2 5)) ∷ Common (Memory (Fixed 3 0)) ∷ Common (Memory (Fixed 5 0o1777)) ∷ memory 0o1400 ∷ memory 0o101
     ∷ memory 0o1377 ∷ memory 0 ∷ memory 0o102 ∷ memory 0o104 ∷ Common (Memory (Fixed 2 0o15)) ∷ memory 0o1401 ∷ []
-unfolding extended_line extended_forms usages forms runs parsed counters sequences registers window
+unfolding extended_line extended_forms usages forms runs parsed counters sequences window
 places = refl
 
 -- in each command that takes one
@@ -213,7 +214,7 @@ every_place : asked (codes "mem SUM +3 5" ∷ codes "mem 02,4005 999" ∷ codes 
     ∷ Why (subject.Place 0o102) 16 plainly ∷ Why (subject.Place 0o1402) 4 plainly ∷ Common (Break (breakpoint.Place (Fixed 2 6)))
     ∷ Common (Break (breakpoint.Place (Fixed 2 5))) ∷ Common (Break (breakpoint.Word 5 5)) ∷ Common (Break (breakpoint.Word 0o104 0o75))
     ∷ []
-unfolding extended_line extended_forms usages forms runs parsed counters sequences registers window
+unfolding extended_line extended_forms usages forms runs parsed counters sequences window
 every_place = refl
 
 -- an address that is none of the bank, a place past the end of its bank, a sign without number, and too many words
@@ -233,7 +234,7 @@ wrong_places : asked (codes "mem 02,2005" ∷ codes "mem E3,1377" ∷ codes "mem
     ∷ codes "why takes [step|PLACE [k|control|inputs|interrupts|since]]\n"
     ∷ codes "break takes at|exec|change PLACE, word PLACE W, chan C W [M]\n"
     ∷ [])
-unfolding extended_line extended_forms usages forms runs parsed counters sequences registers window
+unfolding extended_line extended_forms usages forms runs parsed counters sequences window
 wrong_places = refl
 
 -- where the next instruction stands, and symbols by their beginning
@@ -241,7 +242,7 @@ looks : asked (codes "where" ∷ codes "find SU" ∷ codes "where 1" ∷ codes "
     ≡ Where ∷ Find (codes "SU") ∷ Says (codes "E50 COMMAND where takes nothing\n")
     ∷ Says (codes "E50 COMMAND find takes the beginning of a name\n") ∷ Says (codes "E50 COMMAND find takes the beginning of a name\n")
     ∷ []
-unfolding extended_line extended_forms usages forms runs parsed counters sequences registers window
+unfolding extended_line extended_forms usages forms runs parsed counters sequences window
 looks = refl
 
 -- a channel under a mask
@@ -253,7 +254,7 @@ bits : asked (codes "break chan 10 12" ∷ codes "break chan 10 12 77" ∷ codes
     ∷ codes "numbers of places, channels and words are octal, and 8 has a digit 8 or 9\n"
     ∷ codes "break takes at|exec|change PLACE, word PLACE W, chan C W [M]\n"
     ∷ [])
-unfolding extended_line extended_forms usages forms runs parsed counters sequences registers window
+unfolding extended_line extended_forms usages forms runs parsed counters sequences window
 bits = refl
 
 -- the instruction at a place, in each form of a place
@@ -266,7 +267,7 @@ executed : asked (codes "break exec FIVE" ∷ codes "break exec FIVE +1" ∷ cod
     ∷ codes "break takes at|exec|change PLACE, word PLACE W, chan C W [M]\n"
     ∷ codes "break takes at|exec|change PLACE, word PLACE W, chan C W [M]\n"
     ∷ [])
-unfolding extended_line extended_forms usages forms runs parsed counters sequences registers window
+unfolding extended_line extended_forms usages forms runs parsed counters sequences window
 executed = refl
 
 -- a word that changes: at an erasable place in each form, and on a channel, unless a symbol has its name
@@ -275,7 +276,7 @@ changed : asked (codes "break change SUM" ∷ codes "break change SUM +3" ∷ co
     ≡ map (λ subject. Common (Break (breakpoint.Changed subject)))
     (subject.Place 0o101 ∷ subject.Place 0o104 ∷ subject.Place 0o101 ∷ subject.Place 0o1400 ∷ subject.Place 0 ∷ subject.Place 0o26
     ∷ subject.Channel 0o12 ∷ subject.Channel 0o777 ∷ [])
-unfolding extended_line extended_forms usages forms runs parsed counters sequences registers window
+unfolding extended_line extended_forms usages forms runs parsed counters sequences window
 changed = refl
 
 -- fixed memory, which never changes, no place, a field too many, and no channel
@@ -293,34 +294,34 @@ not_changed : asked (codes "break change FIVE" ∷ codes "break change 02,4005" 
     ∷ codes "no symbol CH1000\n"
     ∷ codes "break takes at|exec|change PLACE, word PLACE W, chan C W [M]\n"
     ∷ [])
-unfolding extended_line extended_forms usages forms runs parsed counters sequences registers window
+unfolding extended_line extended_forms usages forms runs parsed counters sequences window
 not_changed = refl
 
 -- the last steps
 last_steps : asked (codes "trace 5" ∷ codes "trace" ∷ codes "trace x" ∷ codes "trace 5 6" ∷ [])
     ≡ Trace 5 ∷ map (λ text. Says (codes "E50 COMMAND " ++ text))
     (codes "trace takes a number of steps\n" ∷ codes "trace takes a number of steps\n" ∷ codes "trace takes a number of steps\n" ∷ [])
-unfolding extended_line extended_forms usages forms runs parsed counters sequences registers window
+unfolding extended_line extended_forms usages forms runs parsed counters sequences window
 last_steps = refl
 
 -- and in sentences
 said_steps : asked (codes "say 5" ∷ codes "say" ∷ codes "say x" ∷ codes "say 5 6" ∷ [])
     ≡ Say 5 ∷ map (λ text. Says (codes "E50 COMMAND " ++ text))
     (codes "say takes a number of steps\n" ∷ codes "say takes a number of steps\n" ∷ codes "say takes a number of steps\n" ∷ [])
-unfolding extended_line extended_forms usages forms runs parsed counters sequences registers window
+unfolding extended_line extended_forms usages forms runs parsed counters sequences window
 said_steps = refl
 
 -- the last outputs, with their steps
 outputs_with_steps : asked (codes "tail" ∷ codes "tail steps" ∷ codes "tail 5 steps" ∷ codes "tail 999 steps # all" ∷ codes "tail 0 steps"
     ∷ [])
     ≡ Common Tail ∷ TailSteps 32 ∷ TailSteps 5 ∷ TailSteps 999 ∷ TailSteps 0 ∷ []
-unfolding extended_line extended_forms usages forms runs parsed counters sequences registers window
+unfolding extended_line extended_forms usages forms runs parsed counters sequences window
 outputs_with_steps = refl
 
 outputs_without : asked (codes "tail 5" ∷ codes "tail 1000 steps" ∷ codes "tail steps 5" ∷ codes "tail steps steps" ∷ codes "tail 5 STEPS"
     ∷ codes "tail 5 steps 6" ∷ [])
     ≡ replicate 6 (Says (codes "E50 COMMAND tail takes nothing, or [a count] steps\n"))
-unfolding extended_line extended_forms usages forms runs parsed counters sequences registers window
+unfolding extended_line extended_forms usages forms runs parsed counters sequences window
 outputs_without = refl
 
 -- to the end of a routine, by so many steps at most, and the inputs that were added
@@ -332,7 +333,7 @@ travels : asked (codes "over" ∷ codes "over 20" ∷ codes "out" ∷ codes "out
     ∷ Says (codes "E50 COMMAND inputs takes nothing\n")
     ∷ Says (codes "E50 COMMAND over takes a number of steps, or nothing\n")
     ∷ []
-unfolding extended_line extended_forms usages forms runs parsed counters sequences registers window
+unfolding extended_line extended_forms usages forms runs parsed counters sequences window
 travels = refl
 
 -- the words of a place on as instructions, sixteen where no number stands, and as numbers, one where none stands
@@ -340,7 +341,7 @@ shown : asked (codes "list FIVE" ∷ codes "list 02,4005 +1 3" ∷ codes "list S
     ∷ codes "value A" ∷ [])
     ≡ Listed (Fixed 2 5) 16 ∷ Listed (Fixed 2 6) 3 ∷ Listed (Erasable 0o101) 0 ∷ Values (Erasable 0o101) 1 ∷ Values (Erasable 0o1402) 4
     ∷ Values (Erasable 0) 1 ∷ []
-unfolding extended_line extended_forms usages forms runs parsed counters sequences registers window
+unfolding extended_line extended_forms usages forms runs parsed counters sequences window
 shown = refl
 
 not_shown : asked (codes "list" ∷ codes "list FIV 5" ∷ codes "list FIVE 1000" ∷ codes "value" ∷ codes "value SUMM" ∷ codes "value SUM 1 2"
@@ -353,14 +354,14 @@ not_shown : asked (codes "list" ∷ codes "list FIV 5" ∷ codes "list FIVE 1000
     ∷ codes "no symbol SUMM\n"
     ∷ codes "value takes a place, or a place and a count\n"
     ∷ [])
-unfolding extended_line extended_forms usages forms runs parsed counters sequences registers window
+unfolding extended_line extended_forms usages forms runs parsed counters sequences window
 not_shown = refl
 
 -- counters by their names, where no symbol has these
 counters_named : asked (codes "mem TIME3" ∷ codes "last PIPAX" ∷ codes "why INLINK 2" ∷ codes "mem TIME1 +1 3" ∷ codes "mem TIME7" ∷ [])
     ≡ memory 0o26 ∷ Common (Last 0o37) ∷ Why (subject.Place 0o45) 2 plainly ∷ Words (Erasable 0o26) 3
     ∷ Says (codes "E50 COMMAND no symbol TIME7\n") ∷ []
-unfolding extended_line extended_forms usages forms runs parsed counters sequences registers window
+unfolding extended_line extended_forms usages forms runs parsed counters sequences window
 counters_named = refl
 
 -- the word on a channel, where no symbol has the name
@@ -371,7 +372,7 @@ channels_named : asked (codes "mem CH012" ∷ codes "mem CH1000" ∷ codes "mem 
     ∷ Says (codes "E50 COMMAND mem takes a place, or a place and a count\n")
     ∷ Says (codes "E50 COMMAND last takes an erasable place\n")
     ∷ []
-unfolding extended_line extended_forms usages forms runs parsed counters sequences registers window
+unfolding extended_line extended_forms usages forms runs parsed counters sequences window
 channels_named = refl
 
 -- where octal numbers stand: alone, after a plus sign, and beside a comma; in words and masks too
@@ -385,7 +386,7 @@ octal_alone : asked (codes "mem 18" ∷ codes "last 1009" ∷ codes "why 90 3" �
     (codes "18" ∷ codes "1009" ∷ codes "90" ∷ codes "08" ∷ codes "800000000000000000000" ∷ codes "18" ∷ codes "4018" ∷ codes "9"
     ∷ codes "18" ∷ codes "18" ∷ codes "18" ∷ codes "79" ∷ codes "8" ∷ codes "9" ∷ codes "18" ∷ codes "+8" ∷ codes "+18"
     ∷ codes "02,4008" ∷ codes "08,4000" ∷ codes "E3,1480" ∷ [])
-unfolding extended_line extended_forms usages forms runs parsed counters sequences registers window
+unfolding extended_line extended_forms usages forms runs parsed counters sequences window
 octal_alone = refl
 
 -- numbers of words and of steps are decimal, and a symbol may have such a name
@@ -403,7 +404,7 @@ not_octal_alone : asked (codes "mem SUM 18" ∷ codes "why SUM 9" ∷ codes "mem
     ∷ Says (codes "E50 COMMAND mem takes a place, or a place and a count\n")
     ∷ Says (codes "E50 COMMAND numbers of places, channels and words are octal, and X,19 has a digit 8 or 9\n")
     ∷ []
-unfolding extended_line extended_forms usages forms runs parsed counters sequences registers window
+unfolding extended_line extended_forms usages forms runs parsed counters sequences window
 not_octal_alone = refl
 
 -- numbers that no place has: alone, as a bank and an offset, and as a listing has them
@@ -412,7 +413,7 @@ no_places : asked (codes "mem 10000" ∷ codes "last 010000" ∷ codes "break at
     ≡ map (λ field. Says (codes "E50 COMMAND no place " ++ field
     ++ codes ": places are octal, to 7777, or BANK,OFFSET to 47,1777, or as a listing has them\n"))
     (codes "10000" ∷ codes "010000" ∷ codes "50,0000" ∷ codes "44,4000" ∷ codes "E3,1200" ∷ codes "10000" ∷ [])
-unfolding extended_line extended_forms usages forms runs parsed counters sequences registers window
+unfolding extended_line extended_forms usages forms runs parsed counters sequences window
 no_places = refl
 
 -- what is no number, and the last places
@@ -421,7 +422,7 @@ no_numbers : asked (codes "mem E9,1400" ∷ codes "mem E5" ∷ codes "mem ,5" �
     ≡ map (λ field. Says (codes "E50 COMMAND no symbol " ++ field ++ codes "\n"))
     (codes "E9,1400" ∷ codes "E5" ∷ codes ",5" ∷ codes "2," ∷ codes "X10000" ∷ [])
     ++ map (λ place. Common (Memory place)) (Fixed 3 0o1777 ∷ Erasable 0o3777 ∷ Fixed 0o47 0o1777 ∷ [])
-unfolding extended_line extended_forms usages forms runs parsed counters sequences registers window
+unfolding extended_line extended_forms usages forms runs parsed counters sequences window
 no_numbers = refl
 
 -- fixed memory, where an erasable place is asked for; a word is missing besides
@@ -435,7 +436,7 @@ in_fixed_memory : asked (codes "break word FIVE 5" ∷ codes "break word 4000" �
     ∷ codes "break takes at|exec|change PLACE, word PLACE W, chan C W [M]\n"
     ∷ codes "break takes at|exec|change PLACE, word PLACE W, chan C W [M]\n"
     ∷ [])
-unfolding extended_line extended_forms usages forms runs parsed counters sequences registers window
+unfolding extended_line extended_forms usages forms runs parsed counters sequences window
 in_fixed_memory = refl
 
 -- whole states: the channels that hold something, and what differs from a step
@@ -450,7 +451,7 @@ states : asked (codes "chans" ∷ codes "differs 5" ∷ codes "differs 123456789
     ∷ Says (codes "HELP chans takes nothing: the channels whose words are not zero\n")
     ∷ Says (codes "HELP differs takes a step: the words that differ from those at the step\n")
     ∷ []
-unfolding extended_line extended_forms usages forms runs parsed counters sequences registers window
+unfolding extended_line extended_forms usages forms runs parsed counters sequences window
 states = refl
 
 -- what is tried: an input as a line of a feed has it after its cycle, and how many steps
@@ -465,7 +466,7 @@ trials : asked (codes "whatif TIME3 PINC" ∷ codes "whatif RUPT 4 20 # soon" �
     ∷ WhatIf (Given (Word 0o15 0o21)) (Each 5 0 1099511627776)
     ∷ Plain WrongCounter
     ∷ Says (codes "HELP whatif takes RESTART|[notes] INPUT, [k [from A to B]]: what it would change\n") ∷ []
-unfolding extended_line extended_forms usages forms runs parsed counters sequences registers window
+unfolding extended_line extended_forms usages forms runs parsed counters sequences window
 trials = refl
 
 -- no input, one that no feed has, none on a channel that takes none, no count, and too many fields
@@ -475,7 +476,7 @@ not_tried : asked (codes "whatif" ∷ codes "whatif RUPT" ∷ codes "whatif RUPT
     ∷ codes "whatif RUPT 4 5 at 6 to 7" ∷ codes "whatif RUPT 4 5 from 6 on 7" ∷ codes "whatif RUPT 4 5 from 6 to"
     ∷ codes "whatif RUPT 4 5 from 6 to 7 8" ∷ codes "whatif RUPT 4 5 from x to 7" ∷ [])
     ≡ replicate 17 (Says (codes "E50 COMMAND whatif takes RESTART|[notes] INPUT, [k [from A to B]]\n"))
-unfolding extended_line extended_forms usages forms runs parsed counters sequences registers window
+unfolding extended_line extended_forms usages forms runs parsed counters sequences window
 not_tried = refl
 
 -- or a restart
@@ -483,7 +484,7 @@ restarts : asked (codes "whatif RESTART" ∷ codes "whatif RESTART 20 # soon" �
     ∷ codes "whatif RESTART 5 from 9 to 6" ∷ codes "whatif RESTART x" ∷ codes "whatif restart 5" ∷ [])
     ≡ WhatIf Restart (Here 1000) ∷ WhatIf Restart (Here 20) ∷ WhatIf Restart (Each 5 6 3)
     ∷ replicate 3 (Says (codes "E50 COMMAND whatif takes RESTART|[notes] INPUT, [k [from A to B]]\n"))
-unfolding extended_line extended_forms usages forms runs parsed counters sequences registers window
+unfolding extended_line extended_forms usages forms runs parsed counters sequences window
 restarts = refl
 
 -- or the notes of an input, since a step or since it comes
@@ -494,7 +495,7 @@ notes_tried : asked (codes "whatif notes TIME3 PINC" ∷ codes "whatif notes RUP
     ∷ WhatIf (Noted (Some 0) (Word 0o15 0o21)) (Each 5 6 3)
     ∷ WhatIf (Noted (Some 12) (Count Time3 Pinc)) (Here 1000)
     ∷ Plain WrongCounter ∷ []
-unfolding extended_line extended_forms usages forms runs parsed counters sequences registers window
+unfolding extended_line extended_forms usages forms runs parsed counters sequences window
 notes_tried = refl
 
 -- none of a restart, nor of nothing; and the step since which stands first
@@ -502,7 +503,7 @@ not_noted : asked (codes "whatif notes" ∷ codes "whatif notes RESTART 5" ∷ c
     ∷ codes "whatif notes since 5" ∷ codes "whatif notes notes RUPT 4" ∷ codes "whatif since 5 RUPT 4" ∷ codes "whatif notes RUPT 4 since 5"
     ∷ codes "whatif NOTES RUPT 4" ∷ [])
     ≡ replicate 9 (Says (codes "E50 COMMAND whatif takes RESTART|[notes] INPUT, [k [from A to B]]\n"))
-unfolding extended_line extended_forms usages forms runs parsed counters sequences registers window
+unfolding extended_line extended_forms usages forms runs parsed counters sequences window
 not_noted = refl
 
 -- what is surveyed: two steps, a number of buckets, and erasable places and channels
@@ -518,7 +519,7 @@ surveys : asked (codes "survey 1 60 6" ∷ codes "survey 3 3 4096 SUM +1 CH013 A
     })
     ∷ Survey (record { first = 1; last = 9; buckets = 1; subjects = replicate 8 (subject.Place 0) })
     ∷ Says (codes "HELP survey takes FROM TO, 1 to 4096 buckets, at most 8 places: a run by buckets\n") ∷ []
-unfolding extended_line extended_forms usages forms runs parsed counters sequences registers window
+unfolding extended_line extended_forms usages forms runs parsed counters sequences window
 surveys = refl
 
 -- no step before the first, none from a later one to an earlier, no bucket or too many, nine places, a place of fixed memory, and a
@@ -527,20 +528,20 @@ not_surveyed : asked (codes "survey" ∷ codes "survey 1 60" ∷ codes "survey 0
     ∷ codes "survey 1 60 4097" ∷ codes "survey 1 x 6" ∷ codes "survey 1 9 1 A A A A A A A A A" ∷ codes "survey 1 60 6 FIVE"
     ∷ codes "survey 1 60 6 CH12" ∷ [])
     ≡ replicate 10 (Says (codes "E50 COMMAND survey takes FROM TO, 1 to 4096 buckets, at most 8 places\n"))
-unfolding extended_line extended_forms usages forms runs parsed counters sequences registers window
+unfolding extended_line extended_forms usages forms runs parsed counters sequences window
 not_surveyed = refl
 
 -- the calls in progress, of which nothing is asked besides
 in_progress : asked (codes "calls" ∷ codes "calls # now" ∷ codes "calls 3" ∷ codes "help calls" ∷ [])
     ≡ Calls ∷ Calls ∷ Says (codes "E50 COMMAND calls takes nothing\n")
     ∷ Says (codes "HELP calls takes nothing: the calls that are in progress, innermost first\n") ∷ []
-unfolding extended_line extended_forms usages forms runs parsed counters sequences registers window
+unfolding extended_line extended_forms usages forms runs parsed counters sequences window
 in_progress = refl
 
 -- why the program never came to a place: of a symbol and what moves it on, of a place, of an erasable one
 never_there : asked (codes "never FIVE" ∷ codes "never FIVE +1 # why" ∷ codes "never 4005" ∷ codes "never 12,1777" ∷ codes "never SUM" ∷ [])
     ≡ Never (Fixed 2 5) ∷ Never (Fixed 2 6) ∷ Never (Fixed 2 5) ∷ Never (Fixed 0o12 0o1777) ∷ Never (Erasable 0o101) ∷ []
-unfolding extended_line extended_forms usages forms runs parsed counters sequences registers window
+unfolding extended_line extended_forms usages forms runs parsed counters sequences window
 never_there = refl
 
 never_nowhere : asked (codes "never" ∷ codes "never FIVE 3" ∷ codes "never FIVEE" ∷ codes "never 4008" ∷ codes "help never" ∷ [])
@@ -548,5 +549,5 @@ never_nowhere : asked (codes "never" ∷ codes "never FIVE 3" ∷ codes "never F
     (codes "E50 COMMAND never takes a place\n" ∷ codes "E50 COMMAND never takes a place\n" ∷ codes "E50 COMMAND no symbol FIVEE\n"
     ∷ codes "E50 COMMAND numbers of places, channels and words are octal, and 4008 has a digit 8 or 9\n"
     ∷ codes "HELP never takes a place: the last choice that led away from there\n" ∷ [])
-unfolding extended_line extended_forms usages forms runs parsed counters sequences registers window
+unfolding extended_line extended_forms usages forms runs parsed counters sequences window
 never_nowhere = refl

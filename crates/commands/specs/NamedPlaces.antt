@@ -2,34 +2,20 @@
 -- them, and moved on.
 use Rattle.std.specs.Prelude.{ℕ, ◌+◌, ◌*◌, ◌%◌, ◌==◌, nat_lt, nat_le, Bool, List, [], ◌∷◌, take, drop, Option, None, Some, is_some, codes}
 use Rattle.std.specs.Prelude.{if◌then◌else◌, option_and_then}
-use Rattle.std.specs.Option.{option_map, option_or}
+use Rattle.std.specs.Option.{option_or}
 use Rattle.agc_text.specs.Digits.{number_of}
 use Rattle.agc_text.specs.Tables.{same_name, value_in}
-use Rattle.feed.specs.Counters.{counter_place}
-use Rattle.feed.specs.Names.{counters}
 use Rattle.feed.specs.Statements.{passing}
-use Rattle.space.specs.Cells.{accumulator, lower_accumulator, return_address, erasable_bank, fixed_bank, program_counter, both_banks}
 use Rattle.space.specs.Places.{window}
 use Rattle.space.specs.declared.place.Linear.{Linear}
 use Rattle.space.specs.declared.place.Linear.TheVariants.{Erasable, Fixed}
+use Rattle.symbols.specs.Registers.{registers}
 use Rattle.symbols.specs.Values.{SymbolTable}
 use Rattle.commands.specs.Commands.{place_in, numbered_place, fixed_place_in, before_comma, after_comma, bank_in}
 
--- registers by their letters
-unfoldable pub registers : List (List ℕ × ℕ)
-registers =
-    (codes "A", accumulator)
-    ∷ (codes "L", lower_accumulator)
-    ∷ (codes "Q", return_address)
-    ∷ (codes "EB", erasable_bank)
-    ∷ (codes "FB", fixed_bank)
-    ∷ (codes "Z", program_counter)
-    ∷ (codes "BB", both_banks)
-    ∷ []
-
--- an erasable place by a name of its own: a register's letters, or a counter's name
-abbrev pub own_place : List ℕ → Option ℕ
-own_place text = option_or (value_in registers text) (option_map counter_place (value_in counters text))
+-- a place by a name of its own: a register's or a counter's, as a source has it
+abbrev pub own_place : List ℕ → Option Linear
+own_place text = option_and_then numbered_place (value_in registers text)
 
 -- a place, where a program reaches it at an address
 abbrev pub reached_at : ℕ → Linear → Option Linear
@@ -62,7 +48,7 @@ unnamed_place text = option_or (numbered_place text) (option_or (fixed_place_in 
 
 -- what neither any session takes for a place nor a symbol is
 abbrev pub further_place : List ℕ → Option Linear
-further_place text = option_or (option_map (λ p. Erasable p) (own_place text)) (listed_place text)
+further_place text = option_or (own_place text) (listed_place text)
 
 -- a place: as any session takes it; where no symbol has the name, a register's or a counter's, or as a listing has it
 abbrev pub named_place : SymbolTable → List ℕ → Option Linear

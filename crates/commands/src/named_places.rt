@@ -2,19 +2,17 @@
 
 ghost use Rattle.std.specs.Prelude.{◌≡◌, ◌≤◌, ◌==◌, All, IfSome, length, option_and_then, if◌then◌else◌};
 ghost use Rattle.agc_text.specs.Fields.{runs, texts};
-ghost use Rattle.agc_text.specs.Tables.{value_in};
 ghost use Rattle.space.specs.Places.{window};
-ghost use Rattle.commands.specs.NamedPlaces.{registers, in_erasable_bank, in_fixed_bank, erasable_bank_in};
+ghost use Rattle.commands.specs.NamedPlaces.{in_erasable_bank, in_fixed_bank, erasable_bank_in};
 ghost use Rattle.commands.specs.NamedPlaces.{place_of_bank, listed_place, unnamed_place, further_place, named_place};
 ghost use Rattle.commands.specs.NamedPlaces.{own_place, moved_on, begins_with_plus, words_on, place_first, after_place};
 
-use crate::fields::{OCTAL_DIGITS, bank_in, is_word};
+use crate::fields::{OCTAL_DIGITS, bank_in};
 use crate::places::{fixed_place_in, numbered_place, place_in};
 use agc_text::{length_before_byte, octal, split_field};
-use feed::counter_of;
 use space::place::Linear;
 use space::{BANK_WORDS, Bank, Eras, Offset, window};
-use symbols::Symbols;
+use symbols::{Symbols, register_place};
 
 /// How many words an erasable bank has.
 const ERASABLE_BANK_WORDS: u16 = 0o400;
@@ -95,46 +93,16 @@ fn further_place(field: &[u8]) -> Option<Linear>
     ensures { result ≡ further_place field.now }
 {
     match own_place(field) {
-        Some(place) => Some(Linear::Erasable(place)),
+        Some(place) => Some(place),
         None => listed_place(field),
     }
 }
 
 // The place of a register or of a counter, by its own name.
-fn own_place(field: &[u8]) -> Option<Eras>
+fn own_place(field: &[u8]) -> Option<Linear>
     ensures { result ≡ own_place field.now }
 {
-    if let Some(place) = register_in(field) {
-        return Some(place);
-    }
-    match counter_of(field) {
-        Some(counter) => Some(counter.place()),
-        None => None,
-    }
-}
-
-// The register of some letters.
-#[tactic(auto, unfolding(crate::specs::NamedPlaces::registers))]
-fn register_in(field: &[u8]) -> Option<Eras>
-    ensures { result ≡ value_in registers field.now }
-{
-    if is_word(field, "A") {
-        Some(Eras::A)
-    } else if is_word(field, "L") {
-        Some(Eras::L)
-    } else if is_word(field, "Q") {
-        Some(Eras::Q)
-    } else if is_word(field, "EB") {
-        Some(Eras::EB)
-    } else if is_word(field, "FB") {
-        Some(Eras::FB)
-    } else if is_word(field, "Z") {
-        Some(Eras::Z)
-    } else if is_word(field, "BB") {
-        Some(Eras::BB)
-    } else {
-        None
-    }
+    numbered_place(register_place(field)?)
 }
 
 // A place as a listing has it.

@@ -33,7 +33,8 @@ const EXTRACODES: [Instruction; 64] = [
 ];
 
 // The instruction of a number, where each number has an arm of its own: LLVM makes one jump of this `match` and of one
-// on the instruction, which a table or several numbers in an arm do not let it do.
+// on the instruction, which a table or several numbers in an arm do not let it do. Where all numbers of seven bits have
+// an arm, it compares none of them first.
 macro_rules! instruction_by_number {
     ($number:expr; $($($each:literal)+ => $instruction:ident,)+) => {
         match $number {
@@ -92,7 +93,7 @@ pub(crate) fn basic_entry(word: u16) -> Instruction
     basic_by_digits(word / SERVED)
 }
 
-/// The same, by the first two octal digits of a word.
+/// The same, by the first two octal digits of a word. The arms from 0o100 on are of no word.
 #[inline(always)]
 fn basic_by_digits(digits: u16) -> Instruction
     requires { digits < 0o100 }
@@ -114,6 +115,14 @@ fn basic_by_digits(digits: u16) -> Instruction
         0o56 0o57 => Xch,
         0o60 0o61 0o62 0o63 0o64 0o65 0o66 0o67 => Ad,
         0o70 0o71 0o72 0o73 0o74 0o75 0o76 0o77 => Mask,
+        0o100 0o101 0o102 0o103 0o104 0o105 0o106 0o107
+        0o110 0o111 0o112 0o113 0o114 0o115 0o116 0o117
+        0o120 0o121 0o122 0o123 0o124 0o125 0o126 0o127
+        0o130 0o131 0o132 0o133 0o134 0o135 0o136 0o137
+        0o140 0o141 0o142 0o143 0o144 0o145 0o146 0o147
+        0o150 0o151 0o152 0o153 0o154 0o155 0o156 0o157
+        0o160 0o161 0o162 0o163 0o164 0o165 0o166 0o167
+        0o170 0o171 0o172 0o173 0o174 0o175 0o176 0o177 => Mask,
     }
 }
 

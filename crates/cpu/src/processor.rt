@@ -213,21 +213,19 @@ impl Processor {
         let mut left = room.min(stop - done);
         let end = done + left;
         while left > 0 {
-            match machine.execute_basic(rope) {
-                None => return end - left,
-                Some(extra) => {
-                    left -= 1;
-                    if extra {
-                        if left == 0 {
-                            return end;
-                        }
-                        if !machine.execute_extracode(rope) {
-                            return end - left;
-                        }
-                        left -= 1;
-                    }
+            let Some(extra) = machine.execute_basic(rope) else {
+                return end - left;
+            };
+            if extra {
+                if left == 1 {
+                    return end;
                 }
+                if !machine.execute_extracode(rope) {
+                    return end - (left - 1);
+                }
+                left -= 1;
             }
+            left -= 1;
         }
         end
     }

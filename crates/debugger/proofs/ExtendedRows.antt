@@ -48,7 +48,6 @@ use Rattle.debugger.specs.Rows.{based_text, list_row, plain_row, numbers_text as
 use Rattle.debugger.specs.declared.rows.RowKind.TheVariants.{Instruction, Number}
 use Rattle.commands.specs.Commands.{forms}
 use Rattle.commands.specs.Extended.{extended_line, extended_forms}
-use Rattle.commands.specs.NamedPlaces.{registers}
 use Rattle.commands.specs.Usages.{usages}
 use Rattle.commands.specs.declared.command.Breakpoint.{Breakpoint}
 use Rattle.commands.specs.declared.command.Breakpoint.TheVariants.{Place, Channel, Bits, Cycles, Executed, Changed}
@@ -87,14 +86,14 @@ breakpoints : session (codes "breaks" ∷ codes "break at FIVE" ∷ codes "break
     ∷ codes "BREAK 7 change CH010" ∷ codes "COUNT 7" ∷ codes "CLEAR 2" ∷ codes "CLEAR 5" ∷ codes "CLEAR 5" ∷ codes "NONE" ∷ codes "NONE"
     ∷ codes "BREAK 1 at 02,4005" ∷ codes "BREAK 2 chan 010 00012" ∷ codes "BREAK 3 chan 010 00012 00077" ∷ codes "BREAK 4 exec 02,4005"
     ∷ codes "COUNT 4" ∷ codes "CLEAR" ∷ codes "COUNT 0" ∷ [])
-unfolding registers window extended_line extended_forms extended_reply usages forms runs parsed counters sequences answer reply digits
+unfolding window extended_line extended_forms extended_reply usages forms runs parsed counters sequences answer reply digits
     octal_text place_text
 breakpoints = refl
 
 -- a program that asks tells where a reply ends, and `quit` ends here too
 the_end : session (codes "sym FIV" ∷ codes "echo ." ∷ codes "mem FIV" ∷ codes "echo ." ∷ codes "quit" ∷ codes "echo ." ∷ [])
     ≡ ended (codes "E17 UNDEFINED" ∷ codes "." ∷ codes "E50 COMMAND no symbol FIV" ∷ codes "." ∷ [])
-unfolding registers extended_line extended_forms extended_reply usages forms runs parsed counters sequences answer reply digits octal_text
+unfolding extended_line extended_forms extended_reply usages forms runs parsed counters sequences answer reply digits octal_text
 the_end = refl
 
 -- where so many steps were made, and one of them is looked at

@@ -1,5 +1,5 @@
 -- The interrupt that is served after a step is the one that the step after the last outside has entered.
-use Rattle.std.proofs.Common.{◌≡◌, ℕ, zero, suc, Bool, true, false, cond, not, Option, Some, None, refl, sym, ap, ◌∙◌}
+use Rattle.std.proofs.Common.{◌≡◌, ℕ, zero, suc, Bool, true, false, cond, not, Some, refl, sym, ap, ◌∙◌}
 use Rattle.cpu.specs.NextStep.{next_step}
 use Rattle.cpu.specs.Run.{run}
 use Rattle.cpu.specs.State.{Scenario}

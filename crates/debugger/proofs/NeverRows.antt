@@ -1,13 +1,12 @@
 -- What kept a program from a place, worked out by hand.
-use Rattle.std.proofs.Common.{◌≡◌, ℕ, true, false, List, [], ◌∷◌, ◌++◌, None, Some, map, refl, ◌∙◌}
+use Rattle.std.proofs.Common.{◌≡◌, true, false, ◌++◌, None, Some, refl, ◌∙◌}
 use Rattle.std.specs.Prelude.{codes}
 use Rattle.std.specs.Fmt.{digits}
 use Rattle.std.specs.FinSet as set
 use Rattle.std.specs.Cmp.{nat_cmp_total}
 use Rattle.std.specs.Ordering.{nat_cmp}
-use Rattle.space.specs.declared.place.Linear.TheVariants.{Erasable, Fixed}
 use Rattle.cpu.specs.State.{State, start}
-use Rattle.debugger.specs.Nevers.{barred_text, came_text, kept_away, later}
+use Rattle.debugger.specs.Nevers.{came_text, kept_away, later}
 
 -- the second step, where it is later
 chosen : later None None ≡ None

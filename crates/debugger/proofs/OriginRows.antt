@@ -3,7 +3,7 @@ use Rattle.std.proofs.Common.{◌≡◌, ℕ, false, true, List, [], ◌∷◌, 
 use Rattle.std.specs.Prelude.{codes}
 use Rattle.std.specs.Fmt.{digits}
 use Rattle.words.specs.Numerals.{octal_text}
-use Rattle.space.specs.Places.{place, window}
+use Rattle.space.specs.Places.{window}
 use Rattle.feed.specs.declared.input.Counter.TheVariants.{Time3}
 use Rattle.feed.specs.declared.input.Input.TheVariants.{Count, Word}
 use Rattle.feed.specs.declared.input.Sequence.TheVariants.{Pinc}

@@ -1,5 +1,5 @@
 -- `why` since the first step is `why`.
-use Rattle.std.proofs.Common.{◌≡◌, ℕ, zero, suc, ◌+◌, ◌-◌, ◌≤◌, leb, Bool, true, false, cond, List, [], ◌∷◌, ◌++◌, Option, Some, None, refl}
+use Rattle.std.proofs.Common.{◌≡◌, ℕ, zero, suc, ◌-◌, ◌≤◌, leb, true, false, cond, List, [], ◌∷◌, ◌++◌, Option, Some, None, refl}
 use Rattle.std.proofs.Common.{sym, ap, ◌∙◌, arith}
 use Rattle.std.proofs.lemmas.Bool.Decides.{nat_tests}
 use Rattle.symbols.specs.Values.{SymbolTable}
@@ -14,10 +14,10 @@ use Rattle.commands.specs.declared.extended.IndexLines.{IndexLines}
 use Rattle.commands.specs.declared.extended.IndexLines.TheVariants.{Omitted, Told}
 use Rattle.commands.specs.declared.extended.LinkLines.{LinkLines}
 use Rattle.origins.specs.Following.{cells_of}
-use Rattle.debugger.specs.Whys.{added_by, end_from, end_text, entered_mark, index_line, index_part, last_executed, last_outside}
+use Rattle.debugger.specs.Whys.{added_by, end_text, entered_mark, index_line, index_part, last_executed, last_outside}
 use Rattle.origins.specs.Following.{those_in}
 use Rattle.debugger.specs.Whys.{link_lines, mark_part, marked_line, moved_line, place_part, step_line, why_text}
-use Rattle.debugger.specs.WhysSince.{end_since, entered_since, index_since, lines_since, mark_since, moved_since, not_before, since_step}
+use Rattle.debugger.specs.WhysSince.{end_since, entered_since, index_since, lines_since, mark_since, moved_since, since_step}
 use Rattle.debugger.specs.WhysSince.{since_text}
 use Rattle.debugger.proofs.ChainText.{why_zero, why_none, why_some}
 use Rattle.debugger.proofs.SinceLines.{since_zero, since_none, since_some}

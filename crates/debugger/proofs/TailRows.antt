@@ -10,7 +10,7 @@ use Rattle.cpu.proofs.FiveRun.{five, ten}
 use Rattle.debugger.specs.History.{History, history}
 use Rattle.debugger.specs.Replies.{last_of}
 use Rattle.debugger.specs.SteppedTail.{numbered, outputs_by_step, stepped_text, stepped_tail}
-use Rattle.debugger.proofs.FiveRows.{five_listed, history-five}
+use Rattle.debugger.proofs.FiveRows.{history-five}
 
 -- a program that adds five and five puts ten out as its step 4, after 7 cycles
 entries : (ℕ → Option Output) → ℕ → List (ℕ × Output)

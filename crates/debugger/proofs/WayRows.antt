@@ -1,5 +1,5 @@
 -- Choices, worked out by hand.
-use Rattle.std.proofs.Common.{◌≡◌, ℕ, Bool, true, false, List, [], ◌∷◌, Option, None, Some, map, refl}
+use Rattle.std.proofs.Common.{◌≡◌, ℕ, Bool, true, false, [], ◌∷◌, Option, None, Some, map, refl}
 use Rattle.std.specs.Prelude.{codes}
 use Rattle.std.specs.Fmt.{digits}
 use Rattle.words.specs.declared.wide.Overflow.TheVariants.{No, Plus}
@@ -7,14 +7,13 @@ use Rattle.words.specs.Signs.{over}
 use Rattle.space.specs.Places.{place}
 use Rattle.space.specs.declared.place.Linear.TheVariants as linear
 use Rattle.feed.specs.declared.input.Input.TheVariants as input
-use Rattle.cpu.specs.State.{State, start}
+use Rattle.cpu.specs.State.{State}
 use Rattle.cpu.specs.Codes.{basic_rows, extracode_rows, code_of}
 use Rattle.cpu.specs.Effects.{accumulator_of}
 use Rattle.cpu.specs.Links.{Link, sources, targets}
 use Rattle.cpu.specs.Links.Link.{Takes, Enters, Executes}
 use Rattle.cpu.specs.declared.next_step.NextStep.{NextStep}
 use Rattle.cpu.specs.declared.next_step.NextStep.TheVariants as next
-use Rattle.cpu.specs.declared.spot.Spot.{Spot}
 use Rattle.cpu.specs.declared.spot.Spot.TheVariants.{Cell}
 use Rattle.debugger.specs.Ways.{is_entry, is_moved, skips, way_by, way_spots}
 

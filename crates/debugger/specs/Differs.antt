@@ -1,5 +1,5 @@
 -- The words that differ between two states.
-use Rattle.std.specs.Prelude.{ℕ, ◌+◌, ◌==◌, nat_lt, not, Bool, List, ◌++◌, length, filter, codes, if◌then◌else◌}
+use Rattle.std.specs.Prelude.{ℕ, ◌+◌, ◌==◌, nat_lt, not, List, ◌++◌, length, filter, codes, if◌then◌else◌}
 use Rattle.std.specs.List.{flat_map, range_with_len}
 use Rattle.words.specs.Numbers.{correct}
 use Rattle.words.specs.Numerals.{octal_text}

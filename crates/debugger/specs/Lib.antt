@@ -43,3 +43,4 @@ pub mod HandingOn
 pub mod Telling
 pub mod Executions
 pub mod Looks
+pub mod Desks

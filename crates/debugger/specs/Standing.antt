@@ -2,7 +2,6 @@
 use Rattle.std.specs.Prelude.{ℕ, zero, suc, ◌+◌, ◌-◌, Bool, List, [], ◌∷◌, ◌++◌, length, take, min, Option, None, Some, is_some, codes}
 use Rattle.std.specs.Prelude.{decimal, if◌then◌else◌}
 use Rattle.std.specs.List.{flat_map, range_with_len}
-use Rattle.std.specs.Option.{option_map, option_or}
 use Rattle.agc_text.specs.Tables.{same_name}
 use Rattle.words.specs.Numerals.{octal_text}
 use Rattle.rope.specs.Places.{Words}
@@ -15,7 +14,7 @@ use Rattle.yayul.specs.Program.{Source}
 use Rattle.cpu.specs.State.{State, Scenario}
 use Rattle.cpu.specs.Next.{instruction_word}
 use Rattle.cpu.specs.Run.{run}
-use Rattle.trace.specs.TraceLines.{symbol_at, word_text}
+use Rattle.trace.specs.TraceLines.{word_text}
 use Rattle.names.specs.NamedLines.{distance_text, nearest_name}
 use Rattle.debugger.specs.declared.rows.RowKind.{RowKind}
 use Rattle.debugger.specs.History.{Sight, History, history, sight}

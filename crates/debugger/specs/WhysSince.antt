@@ -1,11 +1,10 @@
 -- `why` since a step: the steps of a chain from one on, and nothing of those before.
-use Rattle.std.specs.Prelude.{ℕ, zero, suc, ◌+◌, ◌-◌, nat_le, not, Bool, true, false, List, [], ◌∷◌, ◌++◌, length, Option, None, Some}
+use Rattle.std.specs.Prelude.{ℕ, zero, suc, ◌-◌, nat_le, not, Bool, true, false, List, [], ◌∷◌, ◌++◌, length, Option, None, Some}
 use Rattle.std.specs.Prelude.{codes, decimal, if◌then◌else◌}
 use Rattle.symbols.specs.Values.{SymbolTable}
 use Rattle.cpu.specs.State.{State, Scenario}
 use Rattle.cpu.specs.Run.{run}
 use Rattle.cpu.specs.Links.{Link, targets}
-use Rattle.cpu.specs.Beside.{is_instruction}
 use Rattle.cpu.specs.Chains.{cells_among, writes_some, link_at, before_step}
 use Rattle.cpu.specs.NextStep.{next_step}
 use Rattle.cpu.specs.declared.spot.Spot.{Spot}

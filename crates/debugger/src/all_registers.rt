@@ -4,19 +4,20 @@ ghost use Rattle.std.specs.Prelude.{◌≡◌, ◌+◌, ◌*◌, ◌≤◌, ◌+
 ghost use Rattle.std.specs.FinSet.{contains};
 ghost use Rattle.words.specs.Numerals.{octal_text};
 ghost use Rattle.arrayvec.specs.ArrayVec.{array_vec_len};
-ghost use Rattle.replay.specs.View.{SessionView, HasShown};
+ghost use Rattle.replay.specs.View.{HasShown};
 ghost use Rattle.commands.specs.declared.extended.ExtendedLine.TheVariants as asked;
 ghost use Rattle.debugger.specs.AllRegisters.{all_registers, register_lines, flag_lines, waiting_lines, asked_line};
 ghost use Rattle.debugger.specs.AllRegisters.{sum_line, word_line, requested, numbers_text, or_none};
 ghost use Rattle.debugger.specs.Replies.{line as text_line, flag_text};
-ghost use Rattle.debugger.specs.Executions.{desk, BringsAsked, HasLooked};
+ghost use Rattle.debugger.specs.Executions.{desk, BringsAsked};
+ghost use Rattle.debugger.specs.Desks.{standing, Looks};
 
 use crate::desk::Desk;
 use arrayvec::ArrayVec;
 use cpu::Machine;
 use feed::INTERRUPTS;
 use feed::interrupt::Interrupt;
-use replay::{Keeper, Session};
+use replay::Keeper;
 use space::Eras;
 use words::{push_all, push_decimal, push_octal};
 
@@ -26,16 +27,15 @@ const REGISTERS_TEXT: usize = 512;
 /// The lines of all registers.
 type RegistersText = ArrayVec<u8, REGISTERS_TEXT>;
 
-impl Desk {
+impl<'a, K: Keeper> Desk<'a, K> {
     /// `regs all`: all registers at the position.
-    pub(crate) fn all_registers<K: Keeper>(&self, session: &mut Session<K>) -> RegistersText
-        requires { self.now.position ≤ session.old.n }
-        ensures brings { BringsAsked (desk session.old self.now.position self.now.breakpoints) asked.AllRegisters
-            result.items (desk session.new self.now.position self.now.breakpoints) }
-        ensures looked { HasLooked session.old session.new session.old.n }
-        ensures shown { HasShown session.old self.now.position session.new }
+    pub(crate) fn all_registers(&mut self) -> RegistersText
+        ensures brings { BringsAsked (standing self.old) asked.AllRegisters
+            result.items (standing self.new) }
+        ensures looked { Looks self.old.session.now.n self.old self.new }
+        ensures shown { HasShown self.old.session.now self.old.position self.new.session.now }
     {
-        match session.show(self.position) {
+        match self.session.show(self.position) {
             Ok(machine) => all_registers_text(machine),
             Err(_) => unreachable!(),
         }

@@ -6,14 +6,14 @@ ghost use Rattle.cpu.specs.Run.{run};
 ghost use Rattle.debugger.specs.Routines.{routines, routines_inside};
 ghost use Rattle.debugger.specs.Standing.{inside_text};
 ghost use Rattle.debugger.specs.CallsTold.{call_line, call_lines, calls_text, spot_text};
-ghost use Rattle.debugger.specs.Executions.{HasLooked};
+ghost use Rattle.debugger.specs.Desks.{Looks};
 
 use crate::desk::Desk;
 use crate::routines::{Call, Calls, Routines};
 use crate::standing::push_nearest;
 use crate::texts::{Text, number_line};
 use arrayvec::ArrayVec;
-use replay::{Keeper, Session};
+use replay::Keeper;
 use space::place::Linear;
 use symbols::Symbols;
 use trace::place_text;
@@ -25,35 +25,35 @@ const CALLS_TEXT: usize = 5_232;
 /// The lines of calls.
 type CallsText = ArrayVec<u8, CALLS_TEXT>;
 
-impl Desk {
+impl<'a, K: Keeper> Desk<'a, K> {
     /// `calls`: a line for each call that is in progress at the position, and how many there are.
     #[tactic(auto, unfolding(crate::specs::CallsTold::calls_text))]
-    pub(crate) fn calls<K: Keeper>(&self, session: &mut Session<K>, symbols: &Symbols) -> CallsText
-        requires { self.now.position ≤ session.old.n }
-        ensures text { result.items ≡ calls_text symbols.now session.old.scenario self.now.position }
-        ensures looked { HasLooked session.old session.new (5 * session.old.n) }
+    pub(crate) fn calls(&mut self) -> CallsText
+        ensures text { result.items ≡ calls_text self.old.symbols.now self.old.session.now.scenario
+            self.old.position }
+        ensures looked { Looks (5 * self.old.session.now.n) self.old self.new }
     {
-        let (calls, inside) = self.routines_now(session);
-        let entered = self.inside_text(session, symbols, inside);
+        let (calls, inside) = self.routines_now();
+        let entered = self.inside_text(inside);
         let mut text = ArrayVec::new();
-        push_calls(&mut text, symbols, calls.inside.list.as_slice());
+        push_calls(&mut text, self.symbols, calls.inside.list.as_slice());
         push_all(&mut text, entered.as_slice());
-        push_calls(&mut text, symbols, calls.outside.list.as_slice());
+        push_calls(&mut text, self.symbols, calls.outside.list.as_slice());
         let count = calls.inside.list.len() + calls.outside.list.len();
         push_all(&mut text, number_line(b"COUNT ", count as u64).as_slice());
         text
     }
 
     /// The routines that are in progress at the position, and whether an interrupt is served.
-    fn routines_now<K: Keeper>(&self, session: &mut Session<K>) -> (Routines, bool)
-        requires { self.now.position ≤ session.old.n }
-        ensures outside { result.0.outside.list.items ≡ routines session.old.scenario self.now.position }
-        ensures inside { result.0.inside.list.items ≡ routines_inside session.old.scenario self.now.position }
-        ensures served { result.1 ≡ (run session.old.scenario self.now.position).inside }
-        ensures looked { HasLooked session.old session.new (2 * session.old.n) }
+    fn routines_now(&mut self) -> (Routines, bool)
+        ensures outside { result.0.outside.list.items ≡ routines self.old.session.now.scenario self.old.position }
+        ensures inside { result.0.inside.list.items ≡ routines_inside self.old.session.now.scenario
+            self.old.position }
+        ensures served { result.1 ≡ (run self.old.session.now.scenario self.old.position).inside }
+        ensures looked { Looks (2 * self.old.session.now.n) self.old self.new }
     {
-        let mut routines = self.routines_before(session);
-        match session.show(self.position) {
+        let mut routines = self.routines_before();
+        match self.session.show(self.position) {
             Ok(machine) => {
                 routines.arrive(machine);
                 (routines, machine.inside())
@@ -63,20 +63,15 @@ impl Desk {
     }
 
     /// The line of the interrupt, where one is served.
-    fn inside_text<K: Keeper>(
-        &self,
-        session: &mut Session<K>,
-        symbols: &Symbols,
-        inside: bool,
-    ) -> Text
-        requires within { self.now.position ≤ session.old.n }
-        requires known { inside ≡ (run session.old.scenario self.now.position).inside }
-        ensures text { result.items ≡ inside_text symbols.now session.old.scenario self.now.position }
+    fn inside_text(&mut self, inside: bool) -> Text
+        requires known { inside ≡ (run self.old.session.now.scenario self.old.position).inside }
+        ensures text { result.items ≡ inside_text self.old.symbols.now self.old.session.now.scenario
+            self.old.position }
         ensures short { array_vec_len result ≤ 76 }
-        ensures looked { HasLooked session.old session.new (3 * session.old.n) }
+        ensures looked { Looks (3 * self.old.session.now.n) self.old self.new }
     {
         if inside {
-            self.entered_text(session, symbols)
+            self.entered_text()
         } else {
             ArrayVec::new()
         }

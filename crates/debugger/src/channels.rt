@@ -6,12 +6,12 @@ ghost use Rattle.arrayvec.specs.ArrayVec.{array_vec_len};
 ghost use Rattle.cpu.specs.Run.{run};
 ghost use Rattle.replay.specs.View.{HasShown};
 ghost use Rattle.debugger.specs.Channels.{channel_line, channel_word, channels_set, channels_text};
-ghost use Rattle.debugger.specs.Executions.{HasLooked};
+ghost use Rattle.debugger.specs.Desks.{Looks};
 
 use crate::desk::Desk;
 use crate::texts::{Text, number_line};
 use arrayvec::ArrayVec;
-use replay::{Keeper, Session};
+use replay::Keeper;
 use space::Chan;
 use space::store::Store;
 use words::{Word, push_all, push_octal};
@@ -25,15 +25,14 @@ const CHANNELS_TEXT: usize = 7_808;
 /// The lines of channels.
 pub(crate) type ChannelsText = ArrayVec<u8, CHANNELS_TEXT>;
 
-impl Desk {
+impl<'a, K: Keeper> Desk<'a, K> {
     /// `chans`: the channels whose words at the position are not zero.
-    pub(crate) fn channels<K: Keeper>(&self, session: &mut Session<K>) -> ChannelsText
-        requires { self.now.position ≤ session.old.n }
-        ensures text { result.items ≡ channels_text (run session.old.scenario self.now.position).cells }
-        ensures looked { HasLooked session.old session.new session.old.n }
-        ensures shown { HasShown session.old self.now.position session.new }
+    pub(crate) fn channels(&mut self) -> ChannelsText
+        ensures text { result.items ≡ channels_text (run self.old.session.now.scenario self.old.position).cells }
+        ensures looked { Looks self.old.session.now.n self.old self.new }
+        ensures shown { HasShown self.old.session.now self.old.position self.new.session.now }
     {
-        match session.show(self.position) {
+        match self.session.show(self.position) {
             Ok(machine) => channels_text(machine.store()),
             Err(_) => unreachable!(),
         }

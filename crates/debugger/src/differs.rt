@@ -14,13 +14,13 @@ ghost use Rattle.debugger.specs.AllRegisters.{word_in};
 ghost use Rattle.debugger.specs.Channels.{channel_line, channel_word};
 ghost use Rattle.debugger.specs.Differs.{HasCompared, channels_changed, differences_text, differs_text, erasable_line};
 ghost use Rattle.debugger.specs.Replies.{line};
-ghost use Rattle.debugger.specs.Executions.{HasLooked};
+ghost use Rattle.debugger.specs.Desks.{Looks};
 
 use crate::channels::{CHANNELS, channel_line, channel_word};
 use crate::desk::Desk;
 use crate::texts::{Text, number_line, text_line};
 use arrayvec::ArrayVec;
-use replay::{Keeper, Session};
+use replay::Keeper;
 use space::place::Linear;
 use space::store::Store;
 use space::{Chan, Eras};
@@ -37,45 +37,40 @@ const DIFFERENCES_TEXT: usize = 44_672;
 /// The lines of words that differ.
 type DifferencesText = ArrayVec<u8, DIFFERENCES_TEXT>;
 
-impl Desk {
+impl<'a, K: Keeper> Desk<'a, K> {
     /// `differs`: the words that are others at the position than after a step.
     ///
     /// The words of the position are copied for this while; then the step is shown beside them.
-    pub(crate) fn differs<K: Keeper, W: Write>(
-        &self,
-        session: &mut Session<K>,
-        step: u64,
-        out: &mut W,
-    ) -> Result<(), WriteFailed>
-        requires { self.now.position ≤ session.old.n }
+    pub(crate) fn differs<W: Write>(&mut self, step: u64, out: &mut W) -> Result<(), WriteFailed>
         ensures writes { W.told ≡ true → Writes (W.written out.old) (W.written out.new)
-            (differs_text session.old.scenario session.old.n self.now.position step) result }
-        ensures looked { HasLooked session.old session.new (2 * session.old.n) }
+            (differs_text self.old.session.now.scenario self.old.session.now.n self.old.position step) result }
+        ensures looked { Looks (2 * self.old.session.now.n) self.old self.new }
 
         // No more steps are executed than by one look at the position, which is none where it is shown, and one at the
         // step.
-        ensures compared { step ≤ session.old.n → HasCompared session.old self.now.position step session.new }
-        ensures late { session.old.n < step → session.new ≡ session.old }
+        ensures compared { step ≤ self.old.session.now.n → HasCompared self.old.session.now self.old.position step
+            self.new.session.now }
+        ensures late { self.old.session.now.n < step → self.new.session.now ≡ self.old.session.now }
         ensures failures { W.failures out.new ≡ failures_after (W.failures out.old) result }
     {
-        if step > session.steps() {
+        if step > self.session.steps() {
             return write_all(out, text_line(b"E41 NOT YET").as_slice());
         }
         let mut here = Store::zero();
-        self.copy_words(session, &mut here);
-        match session.show(step) {
+        self.copy_words(&mut here);
+        match self.session.show(step) {
             Ok(machine) => write_all(out, differences_text(machine.store(), &here).as_slice()),
             Err(_) => unreachable!(),
         }
     }
 
     /// Copies the words at the position.
-    fn copy_words<K: Keeper>(&self, session: &mut Session<K>, words: &mut Store)
-        requires { self.now.position ≤ session.old.n }
-        ensures words { words.new ≡ (run session.old.scenario self.now.position).cells }
-        ensures shown { HasShown session.old self.now.position session.new }
+    fn copy_words(&mut self, words: &mut Store)
+        ensures words { words.new ≡ (run self.old.session.now.scenario self.old.position).cells }
+        ensures looked { Looks self.old.session.now.n self.old self.new }
+        ensures shown { HasShown self.old.session.now self.old.position self.new.session.now }
     {
-        match session.show(self.position) {
+        match self.session.show(self.position) {
             Ok(machine) => machine.store().copy_to(words),
             Err(_) => unreachable!(),
         }

@@ -5,19 +5,18 @@ ghost use Rattle.std.specs.Option.{option_map};
 ghost use Rattle.arrayvec.specs.ArrayVec.{array_vec_len};
 ghost use Rattle.words.specs.Devices.{failures_after};
 ghost use Rattle.words.specs.Numerals.{octal_text};
-ghost use Rattle.cpu.specs.Run.{outs};
-ghost use Rattle.replay.specs.View.{SessionView, HasShown};
-ghost use Rattle.debugger.specs.Terms.{Terms};
+ghost use Rattle.replay.specs.View.{HasShown};
 ghost use Rattle.commands.specs.declared.extended.ExtendedLine.TheVariants as asked;
 ghost use Rattle.yayul.specs.Listing.{place_text};
-ghost use Rattle.debugger.specs.Replies.{last_of, tail_length, line, hit_text, at_line_of};
+ghost use Rattle.debugger.specs.Replies.{hit_text, at_line_of};
 ghost use Rattle.debugger.specs.ExtendedReplies.{breakpoint_text, breaks_from, next_stop, subject_text};
 ghost use Rattle.debugger.specs.History.{history};
 ghost use Rattle.debugger.specs.Growth.{hit_at};
 ghost use Rattle.debugger.specs.Conversation.{effort, to_asked};
 ghost use Rattle.debugger.specs.Looks.{looks};
 ghost use Rattle.debugger.specs.declared.manner.Manner.TheVariants as manner;
-ghost use Rattle.debugger.specs.Executions.{desk, BringsAsked, Replies, grows_on, HasLooked, HasGoneOn, HasDone};
+ghost use Rattle.debugger.specs.Executions.{desk, BringsAsked, Replies, grows_on};
+ghost use Rattle.debugger.specs.Desks.{standing, terms, Keeps, Looks, HasGrown, HasServed};
 
 use crate::desk::Desk;
 use crate::growing::grow;
@@ -31,115 +30,81 @@ use crate::survey::survey;
 use crate::texts::{Text, hit_and_at_line, number_line, text_line};
 use arrayvec::ArrayVec;
 use commands::{Breakpoint, Breakpoints, ExtendedLine, Subject, help_text};
-use replay::{Keeper, Session};
+use replay::Keeper;
 use say::LineForm;
 use space::Chan;
 use space::place::Linear;
 use std::alloc::Global;
-use symbols::Symbols;
 use trace::place_text;
 use words::{Word, Write, WriteFailed, push_all, push_decimal, push_octal, write_all};
-use yayul::SourceRows;
 
-impl Desk {
+impl<'a, K: Keeper> Desk<'a, K> {
     /// Does what a line of an extended session asks for, and writes the reply.
     #[tactic(auto, unfolding(crate::specs::ExtendedReplies::extended_reply))]
-    pub(crate) fn answer_asked<K: Keeper, W: Write>(
+    pub(crate) fn answer_asked<W: Write>(
         &mut self,
         alloc: Global,
-        session: &mut Session<K>,
-        symbols: &Symbols,
-        rows: &SourceRows,
-        first_added: u128,
         request: &ExtendedLine,
         out: &mut W,
     ) -> Result<(), WriteFailed>
-        requires within { self.old.position ≤ session.old.n }
-        requires tail { self.old.tail ≡ last_of tail_length (outs session.old.scenario session.old.n) }
         ensures executes { W.told ≡ true → Replies K.may_refuse
-            (to_asked (record { symbols = symbols.now; source = rows.now; first = first_added }) request.now)
-            (desk session.old self.old.position self.old.breakpoints)
-            (desk session.new self.new.position self.new.breakpoints) (W.written out.old) (W.written out.new) result }
-        ensures within { self.new.position ≤ session.new.n }
-        ensures tail { self.new.tail ≡ last_of tail_length (outs session.new.scenario session.new.n) }
-        ensures session { HasDone (effort request.now) session.old session.new }
+            (to_asked (terms self.old) request.now)
+            (standing self.old) (standing self.new) (W.written out.old) (W.written out.new) result }
+        ensures served { HasServed (effort request.now) self.old self.new }
 
         // What looks at the position alone shows it, so that the next such command executes no step.
-        ensures looks { looks request.now ≡ true → HasShown session.old self.old.position session.new }
+        ensures looks { looks request.now ≡ true → HasShown self.old.session.now self.old.position
+            self.new.session.now }
         ensures failures { W.failures out.new ≡ failures_after (W.failures out.old) result }
     {
         match request {
-            ExtendedLine::Plain(request) => self.answer(session, *request, out),
-            ExtendedLine::Common(command) => { self.obey(Manner::Extended, session, *command, out) }
+            ExtendedLine::Plain(request) => self.answer(*request, out),
+            ExtendedLine::Common(command) => { self.obey(Manner::Extended, *command, out) }
             ExtendedLine::Says(text) => write_all(out, text.as_slice()),
             ExtendedLine::Help => write_all(out, help_text().as_slice()),
             ExtendedLine::Breaks => { write_all(out, breaks_text(&self.breakpoints).as_slice()) }
             ExtendedLine::ClearOne(number) => { write_all(out, self.clear_one(*number).as_slice()) }
-            ExtendedLine::On(steps) => self.go_on(session, *steps, out),
-            ExtendedLine::Until(cycles) => self.until(session, *cycles, out),
-            ExtendedLine::AllRegisters => { write_all(out, self.all_registers(session).as_slice()) }
-            ExtendedLine::WhyStep(lines) => self.why_step(session, symbols, *lines, out),
-            ExtendedLine::Why(subject, links, lines) => {
-                self.why(session, symbols, *subject, *links, *lines, out)
-            }
+            ExtendedLine::On(steps) => self.go_on(*steps, out),
+            ExtendedLine::Until(cycles) => self.until(*cycles, out),
+            ExtendedLine::AllRegisters => { write_all(out, self.all_registers().as_slice()) }
+            ExtendedLine::WhyStep(lines) => self.why_step(*lines, out),
+            ExtendedLine::Why(subject, links, lines) => { self.why(*subject, *links, *lines, out) }
             ExtendedLine::WhySince(subject, links, lines, since) => {
-                self.why_since(session, symbols, *subject, *links, *lines, *since, out)
+                self.why_since(*subject, *links, *lines, *since, out)
             }
-            ExtendedLine::WhyWay => self.why_way(session, symbols, out),
-            ExtendedLine::WhyControl(subject) => self.why_control(session, symbols, *subject, out),
-            ExtendedLine::WhyInputs(subject) => {
-                self.why_inputs(alloc, session, symbols, *subject, out)
-            }
-            ExtendedLine::WhyInterrupts(subject) => {
-                self.why_interrupts(alloc, session, *subject, out)
-            }
+            ExtendedLine::WhyWay => self.why_way(out),
+            ExtendedLine::WhyControl(subject) => self.why_control(*subject, out),
+            ExtendedLine::WhyInputs(subject) => { self.why_inputs(alloc, *subject, out) }
+            ExtendedLine::WhyInterrupts(subject) => { self.why_interrupts(alloc, *subject, out) }
             ExtendedLine::Words(place, count) => {
-                write_all(out, self.words(session, place, *count).as_slice())
+                write_all(out, self.words(place, *count).as_slice())
             }
-            ExtendedLine::Where => self.tell_where(session, symbols, rows, out),
-            ExtendedLine::Find(beginning) => find(symbols, beginning.as_slice(), out),
-            ExtendedLine::Trace(steps) => {
-                self.trace(session, symbols, LineForm::Steps, *steps, out)
-            }
-            ExtendedLine::TailSteps(count) => tail_steps(session, *count, out),
-            ExtendedLine::Inputs => tell_inputs(session, first_added, out),
-            ExtendedLine::Over(steps) => self.go_over(session, *steps, out),
-            ExtendedLine::Out(steps) => self.go_out(session, *steps, out),
+            ExtendedLine::Where => self.tell_where(out),
+            ExtendedLine::Find(beginning) => find(self.symbols, beginning.as_slice(), out),
+            ExtendedLine::Trace(steps) => { self.trace(LineForm::Steps, *steps, out) }
+            ExtendedLine::TailSteps(count) => tail_steps(self.session, *count, out),
+            ExtendedLine::Inputs => tell_inputs(self.session, self.first_added, out),
+            ExtendedLine::Over(steps) => self.go_over(*steps, out),
+            ExtendedLine::Out(steps) => self.go_out(*steps, out),
             ExtendedLine::Listed(place, count) => {
-                self.rows(
-                    session,
-                    symbols,
-                    rows,
-                    RowKind::Instruction,
-                    place,
-                    *count,
-                    out,
-                )
+                self.rows(RowKind::Instruction, place, *count, out)
             }
-            ExtendedLine::Values(place, count) => {
-                self.rows(session, symbols, rows, RowKind::Number, place, *count, out)
-            }
-            ExtendedLine::Channels => write_all(out, self.channels(session).as_slice()),
-            ExtendedLine::Differs(step) => self.differs(session, *step, out),
-            ExtendedLine::Survey(asked) => survey(session, asked, out),
-            ExtendedLine::Say(steps) => {
-                self.trace(session, symbols, LineForm::Sentences, *steps, out)
-            }
-            ExtendedLine::WhatIf(trial, extent) => {
-                self.what_if(alloc, session, symbols, rows, *trial, *extent, out)
-            }
-            ExtendedLine::Never(place) => self.never(session, symbols, place, out),
-            ExtendedLine::Calls => write_all(out, self.calls(session, symbols).as_slice()),
+            ExtendedLine::Values(place, count) => { self.rows(RowKind::Number, place, *count, out) }
+            ExtendedLine::Channels => write_all(out, self.channels().as_slice()),
+            ExtendedLine::Differs(step) => self.differs(*step, out),
+            ExtendedLine::Survey(asked) => survey(self.session, asked, out),
+            ExtendedLine::Say(steps) => { self.trace(LineForm::Sentences, *steps, out) }
+            ExtendedLine::WhatIf(trial, extent) => { self.what_if(alloc, *trial, *extent, out) }
+            ExtendedLine::Never(place) => self.never(place, out),
+            ExtendedLine::Calls => write_all(out, self.calls().as_slice()),
         }
     }
 
     /// `clear I`: one breakpoint less.
     #[tactic(auto, unfolding(crate::specs::ExtendedReplies::extended_reply))]
     fn clear_one(&mut self, number: u64) -> Text
-        ensures brings { (s : SessionView) → BringsAsked (desk s self.old.position self.old.breakpoints)
-            (asked.ClearOne number) result.items (desk s self.new.position self.new.breakpoints) }
-        ensures position { self.new.position ≡ self.old.position }
-        ensures tail { self.new.tail ≡ self.old.tail }
+        ensures brings { BringsAsked (standing self.old) (asked.ClearOne number) result.items (standing self.new) }
+        ensures keeps { Keeps self.old self.new }
     {
         if number == 0 || number > self.breakpoints.len() as u64 {
             return text_line(b"NONE");
@@ -149,84 +114,62 @@ impl Desk {
     }
 
     /// `on`: on from the position up to a breakpoint, over steps that stand and then new ones.
-    fn go_on<K: Keeper, W: Write>(
-        &mut self,
-        session: &mut Session<K>,
-        steps: u64,
-        out: &mut W,
-    ) -> Result<(), WriteFailed>
-        requires within { self.old.position ≤ session.old.n }
-        requires tail { self.old.tail ≡ last_of tail_length (outs session.old.scenario session.old.n) }
-        ensures executes { W.told ≡ true → (terms : Terms)
-            → Replies K.may_refuse (to_asked terms (asked.On steps))
-            (desk session.old self.old.position self.old.breakpoints)
-            (desk session.new self.new.position self.new.breakpoints) (W.written out.old) (W.written out.new) result }
-        ensures within { self.new.position ≤ session.new.n }
-        ensures tail { self.new.tail ≡ last_of tail_length (outs session.new.scenario session.new.n) }
-        ensures session { HasGoneOn session.old session.new }
+    fn go_on<W: Write>(&mut self, steps: u64, out: &mut W) -> Result<(), WriteFailed>
+        ensures executes { W.told ≡ true → Replies K.may_refuse (to_asked (terms self.old) (asked.On steps))
+            (standing self.old) (standing self.new) (W.written out.old) (W.written out.new) result }
+        ensures served { HasServed 3 self.old self.new }
         ensures failures { W.failures out.new ≡ failures_after (W.failures out.old) result }
     {
-        match self.next_stop(session, steps) {
+        match self.next_stop(steps) {
             Some((step, number)) => {
                 self.position = step;
-                write_all(out, self.stop_text(session, number).as_slice())
+                write_all(out, self.stop_text(number).as_slice())
             }
-            None => self.grow_on(session, steps, out),
+            None => self.grow_on(steps, out),
         }
     }
 
     /// The first step after the position, of so many that stand, at which a breakpoint holds, and the lowest of those
     /// that do.
-    fn next_stop<K: Keeper>(&self, session: &mut Session<K>, steps: u64) -> Option<(u64, u64)>
-        requires { self.now.position ≤ session.old.n }
+    fn next_stop(&mut self, steps: u64) -> Option<(u64, u64)>
         ensures next { option_map (λ r. r.0) result
-            ≡ next_stop (history session.old.scenario) (desk session.old self.now.position self.now.breakpoints) steps }
-        ensures hit { IfSome result (λ r. Some r.1 ≡ hit_at (history session.old.scenario) self.now.breakpoints r.0) }
-        ensures within { IfSome result (λ r. r.0 ≤ session.old.n) }
-        ensures looked { HasLooked session.old session.new session.old.n }
+            ≡ next_stop (history self.old.session.now.scenario) (standing self.old) steps }
+        ensures hit { IfSome result (λ r. Some r.1 ≡ hit_at (history self.old.session.now.scenario)
+            self.old.breakpoints r.0) }
+        ensures within { IfSome result (λ r. r.0 ≤ self.old.session.now.n) }
+        ensures looked { Looks self.old.session.now.n self.old self.new }
     {
-        let count = steps.min(session.steps() - self.position);
+        let count = steps.min(self.session.steps() - self.position);
         let stops = Stops::at(&self.breakpoints);
-        led_to(session.seek_step_on(self.position, count, &stops))
+        led_to(self.session.seek_step_on(self.position, count, &stops))
     }
 
     /// A breakpoint that holds at the position, and the line of the position.
     #[tactic(auto, unfolding(crate::specs::History::history))]
-    fn stop_text<K: Keeper>(&self, session: &mut Session<K>, number: u64) -> Text
-        requires { self.now.position ≤ session.old.n }
+    fn stop_text(&mut self, number: u64) -> Text
         ensures text { result.items ≡ hit_text (Some number)
-            ++ at_line_of manner.Extended self.now.position ((history session.old.scenario).after self.now.position) }
-        ensures looked { HasLooked session.old session.new session.old.n }
+            ++ at_line_of manner.Extended self.old.position
+            ((history self.old.session.now.scenario).after self.old.position) }
+        ensures looked { Looks self.old.session.now.n self.old self.new }
     {
-        match session.show(self.position) {
+        match self.session.show(self.position) {
             Ok(machine) => hit_and_at_line(Manner::Extended, Some(number), self.position, machine),
             Err(_) => unreachable!(),
         }
     }
 
     /// `on` where no breakpoint holds among the steps that stand.
-    fn grow_on<K: Keeper, W: Write>(
-        &mut self,
-        session: &mut Session<K>,
-        steps: u64,
-        out: &mut W,
-    ) -> Result<(), WriteFailed>
-        requires within { self.old.position ≤ session.old.n }
-        requires tail { self.old.tail ≡ last_of tail_length (outs session.old.scenario session.old.n) }
+    fn grow_on<W: Write>(&mut self, steps: u64, out: &mut W) -> Result<(), WriteFailed>
         ensures executes { W.told ≡ true → Replies K.may_refuse (grows_on steps)
-            (desk session.old self.old.position self.old.breakpoints)
-            (desk session.new self.new.position self.new.breakpoints) (W.written out.old) (W.written out.new) result }
-        ensures within { self.new.position ≤ session.new.n }
-        ensures tail { self.new.tail ≡ last_of tail_length (outs session.new.scenario session.new.n) }
-        ensures forward { session.old.n ≤ session.new.n }
-        ensures spends { session.new.meter + 2 * session.old.n ≤ session.old.meter + 3 * session.new.n }
+            (standing self.old) (standing self.new) (W.written out.old) (W.written out.new) result }
+        ensures grown { HasGrown 3 self.old self.new }
         ensures failures { W.failures out.new ≡ failures_after (W.failures out.old) result }
     {
-        let more = steps.saturating_sub(session.steps() - self.position);
-        match grow(session, &mut self.tail, &self.breakpoints, more, out) {
+        let more = steps.saturating_sub(self.session.steps() - self.position);
+        match grow(self.session, self.tail, &self.breakpoints, more, out) {
             Ok(ending) => {
-                self.position += steps.min(session.steps() - self.position);
-                self.tell_ending(Manner::Extended, session, ending, out)
+                self.position += steps.min(self.session.steps() - self.position);
+                self.tell_ending(Manner::Extended, ending, out)
             }
             Err(failed) => Err(failed),
         }

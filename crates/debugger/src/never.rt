@@ -1,7 +1,6 @@
 //! `never`: the last branch that led away from a place, or what else kept the program from it.
 
 ghost use Rattle.std.specs.Prelude.{◌≡◌, ℕ, ◌*◌, ◌<◌, ◌≤◌, IfSome, None, Some, length, true};
-ghost use Rattle.arrayvec.specs.ArrayVec.{array_vec_len};
 ghost use Rattle.words.specs.Devices.{Writes, failures_after};
 ghost use Rattle.cpu.specs.State.{FitsRun};
 ghost use Rattle.cpu.specs.Run.{run};
@@ -9,6 +8,7 @@ ghost use Rattle.branches.specs.Leading.{entry_to, is_on_the_way};
 ghost use Rattle.debugger.specs.Executions.{HasLooked};
 ghost use Rattle.debugger.specs.Nevers.{away_text, barred_text, came_text, comes, kept_away, last_away, last_came};
 ghost use Rattle.debugger.specs.Nevers.{later, never_text};
+ghost use Rattle.debugger.specs.Desks.{Looks};
 
 use crate::desk::Desk;
 use crate::texts::{Text, number_line, text_line};
@@ -19,55 +19,45 @@ use cpu::{Account, Machine, Processor, make_step};
 use feed::Interrupt;
 use replay::{Keeper, Session, StepTest};
 use space::Linear;
-use symbols::Symbols;
 use words::{Write, WriteFailed, push_all, push_decimal, write_all};
 
-impl Desk {
+impl<'a, K: Keeper> Desk<'a, K> {
     /// `never`: the last step that came to a place, and the last choice since then that led away from it.
-    pub(crate) fn never<K: Keeper, W: Write>(
-        &self,
-        session: &mut Session<K>,
-        symbols: &Symbols,
-        place: &Linear,
-        out: &mut W,
-    ) -> Result<(), WriteFailed>
-        requires { self.now.position ≤ session.old.n }
+    pub(crate) fn never<W: Write>(&mut self, place: &Linear, out: &mut W) -> Result<(), WriteFailed>
         ensures writes { W.told ≡ true → Writes (W.written out.old) (W.written out.new)
-            (never_text symbols.now session.old.scenario place.now self.now.position) result }
-        ensures looked { HasLooked session.old session.new (107 * session.old.n) }
+            (never_text self.old.symbols.now self.old.session.now.scenario place.now self.old.position) result }
+        ensures looked { Looks (107 * self.old.session.now.n) self.old self.new }
         ensures failures { W.failures out.new ≡ failures_after (W.failures out.old) result }
     {
-        let came = last_came(session, place, self.position);
-        let away = last_away(session, place, self.position);
+        let came = last_came(self.session, place, self.position);
+        let away = last_away(self.session, place, self.position);
         write_all(out, came_text(came, self.position).as_slice())?;
-        self.tell_away(session, symbols, place, came, later(came, away), out)
+        self.tell_away(place, came, later(came, away), out)
     }
 
     /// The choice that led away from a place, or what else kept the program from it.
-    fn tell_away<K: Keeper, W: Write>(
-        &self,
-        session: &mut Session<K>,
-        symbols: &Symbols,
+    fn tell_away<W: Write>(
+        &mut self,
         place: &Linear,
         came: Option<u64>,
         away: Option<u64>,
         out: &mut W,
     ) -> Result<(), WriteFailed>
-        requires position { self.now.position ≤ session.old.n }
-        requires within { IfSome away (λ t. t < self.now.position) }
+        requires { IfSome away (λ t. t < self.old.position) }
         ensures writes { W.told ≡ true → Writes (W.written out.old) (W.written out.new)
-            (away_text symbols.now session.old.scenario place.now self.now.position came away) result }
-        ensures looked { HasLooked session.old session.new (103 * session.old.n) }
+            (away_text self.old.symbols.now self.old.session.now.scenario place.now self.old.position came away)
+            result }
+        ensures looked { Looks (103 * self.old.session.now.n) self.old self.new }
         ensures failures { W.failures out.new ≡ failures_after (W.failures out.old) result }
     {
-        if is_near(session, place, self.position) {
+        if is_near(self.session, place, self.position) {
             return write_all(out, b"ON THE WAY\n");
         }
         match away {
-            Some(step) => tell_choice(session, symbols, step, out),
+            Some(step) => tell_choice(self.session, self.symbols, step, out),
             None => write_all(
                 out,
-                kept_away_at(session, place, self.position, came).as_slice(),
+                kept_away_at(self.session, place, self.position, came).as_slice(),
             ),
         }
     }

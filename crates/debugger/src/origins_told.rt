@@ -8,6 +8,7 @@ ghost use Rattle.debugger.specs.Executions.{Replies, desk};
 ghost use Rattle.debugger.specs.OriginsTold.{gathered_text, level_text, levels_from, more_line, origin_lines};
 ghost use Rattle.debugger.specs.OriginsTold.{origin_text, tally_text, tells_inputs, tells_interrupts, told_if};
 ghost use Rattle.debugger.specs.Whys.{subject_spots};
+ghost use Rattle.debugger.specs.Desks.{standing};
 
 use crate::desk::Desk;
 use crate::link_texts::{end_text, fixed_text};
@@ -32,43 +33,36 @@ pub(crate) enum OriginKind {
     FixedWords,
 }
 
-impl Desk {
+impl<'a, K: Keeper> Desk<'a, K> {
     /// `why` of something with `inputs`: what the word there comes from.
-    pub(crate) fn why_inputs<K: Keeper, W: Write>(
+    pub(crate) fn why_inputs<W: Write>(
         &self,
         alloc: Global,
-        session: &Session<K>,
-        symbols: &Symbols,
         subject: Subject,
         out: &mut W,
     ) -> Result<(), WriteFailed>
-        requires { self.now.position ≤ session.now.n }
-        ensures executes { W.told ≡ true → Replies K.may_refuse (tells_inputs symbols.now subject)
-            (desk session.now self.now.position self.now.breakpoints)
-            (desk session.now self.now.position self.now.breakpoints) (W.written out.old) (W.written out.new) result }
+        ensures executes { W.told ≡ true → Replies K.may_refuse (tells_inputs self.now.symbols.now subject)
+            (standing self.now) (standing self.now) (W.written out.old) (W.written out.new) result }
         ensures failures { W.failures out.new ≡ failures_after (W.failures out.old) result }
     {
-        match whole_chain(alloc, session, self.position, subject) {
-            Some(chain) => write_gathered(symbols, session.processor(), &chain, out),
+        match whole_chain(alloc, self.session, self.position, subject) {
+            Some(chain) => write_gathered(self.symbols, self.session.processor(), &chain, out),
             None => write_all(out, text_line(b"E2 MEMORY").as_slice()),
         }
     }
 
     /// `why` of something with `interrupts`: in which of them the steps stand that made the word there.
-    pub(crate) fn why_interrupts<K: Keeper, W: Write>(
+    pub(crate) fn why_interrupts<W: Write>(
         &self,
         alloc: Global,
-        session: &Session<K>,
         subject: Subject,
         out: &mut W,
     ) -> Result<(), WriteFailed>
-        requires { self.now.position ≤ session.now.n }
         ensures executes { W.told ≡ true → Replies K.may_refuse (tells_interrupts subject)
-            (desk session.now self.now.position self.now.breakpoints)
-            (desk session.now self.now.position self.now.breakpoints) (W.written out.old) (W.written out.new) result }
+            (standing self.now) (standing self.now) (W.written out.old) (W.written out.new) result }
         ensures failures { W.failures out.new ≡ failures_after (W.failures out.old) result }
     {
-        match whole_chain(alloc, session, self.position, subject) {
+        match whole_chain(alloc, self.session, self.position, subject) {
             Some(chain) => write_all(out, levels_text(chain.levels()).as_slice()),
             None => write_all(out, text_line(b"E2 MEMORY").as_slice()),
         }

@@ -4,11 +4,11 @@ ghost use Rattle.std.specs.Prelude.{◌≡◌, ◌-◌, ◌*◌, ◌≤◌, min,
 ghost use Rattle.words.specs.Devices.{Writes, failures_after};
 ghost use Rattle.debugger.specs.Retracing.{traced_text};
 ghost use Rattle.replay.specs.Retraced.{HasRetraced};
-ghost use Rattle.debugger.specs.Executions.{HasLooked};
+ghost use Rattle.debugger.specs.Desks.{Looks};
 
 use crate::desk::Desk;
 use cpu::{Machine, Processor};
-use replay::{Keeper, Session, StepWriter};
+use replay::{Keeper, StepWriter};
 use say::{LineForm, tell_step};
 use symbols::Symbols;
 use words::{Write, WriteFailed};
@@ -36,27 +36,27 @@ impl<'a> StepWriter for LineWriter<'a> {
     }
 }
 
-impl Desk {
+impl<'a, K: Keeper> Desk<'a, K> {
     /// `trace` and `say`: the lines of the last so many steps up to the position.
-    pub(crate) fn trace<K: Keeper, W: Write>(
-        &self,
-        session: &mut Session<K>,
-        symbols: &Symbols,
+    pub(crate) fn trace<W: Write>(
+        &mut self,
         form: LineForm,
         steps: u64,
         out: &mut W,
     ) -> Result<(), WriteFailed>
-        requires { self.now.position ≤ session.old.n }
         ensures writes { W.told ≡ true → Writes (W.written out.old) (W.written out.new)
-            (traced_text form symbols.now session.old.scenario self.now.position steps) result }
-        ensures looked { HasLooked session.old session.new (2 * session.old.n) }
-        ensures retraced { HasRetraced session.old (self.now.position - min steps self.now.position)
-            (min steps self.now.position) session.new }
+            (traced_text form self.old.symbols.now self.old.session.now.scenario self.old.position steps) result }
+        ensures looked { Looks (2 * self.old.session.now.n) self.old self.new }
+        ensures retraced { HasRetraced self.old.session.now (self.old.position - min steps self.old.position)
+            (min steps self.old.position) self.new.session.now }
         ensures failures { W.failures out.new ≡ failures_after (W.failures out.old) result }
     {
         let count = steps.min(self.position);
-        session.retrace(
-            &LineWriter { form, symbols },
+        self.session.retrace(
+            &LineWriter {
+                form,
+                symbols: self.symbols,
+            },
             self.position - count,
             count,
             out,

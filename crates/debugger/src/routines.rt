@@ -6,13 +6,13 @@ ghost use Rattle.space.specs.Places.{same_place};
 ghost use Rattle.cpu.specs.State.{FitsRun};
 ghost use Rattle.debugger.specs.Routines.{call_made, without, left_at, with_call, followed, innermost, arrived};
 ghost use Rattle.debugger.specs.Routines.{arrived_inside, routines_by, inside_by};
-ghost use Rattle.debugger.specs.Executions.{HasLooked};
+ghost use Rattle.debugger.specs.Desks.{Looks};
 
 use crate::desk::Desk;
 use arrayvec::ArrayVec;
 use calls::{called_place, is_call, return_place, standing_place};
 use cpu::{Machine, NextStep, Processor};
-use replay::{Keeper, Onlooker, Session};
+use replay::{Keeper, Onlooker};
 use space::{Eras, Linear};
 
 /// The most routines that are known.
@@ -147,17 +147,16 @@ impl Routines {
     }
 }
 
-impl Desk {
+impl<'a, K: Keeper> Desk<'a, K> {
     /// The routines that are in progress before the step to the position.
-    pub(crate) fn routines_before<K: Keeper>(&self, session: &mut Session<K>) -> Routines
-        requires { self.now.position ≤ session.old.n }
-        ensures outside { result.outside.list.items ≡ routines_by session.old.scenario self.now.position }
-        ensures inside { result.inside.list.items ≡ inside_by session.old.scenario self.now.position }
-        ensures looked { HasLooked session.old session.new session.old.n }
+    pub(crate) fn routines_before(&mut self) -> Routines
+        ensures outside { result.outside.list.items ≡ routines_by self.old.session.now.scenario self.old.position }
+        ensures inside { result.inside.list.items ≡ inside_by self.old.session.now.scenario self.old.position }
+        ensures looked { Looks self.old.session.now.n self.old self.new }
     {
-        let _limited = session.steps();
+        let _limited = self.session.steps();
         let mut routines = Routines::none();
-        session.look_over(self.position, &mut routines);
+        self.session.look_over(self.position, &mut routines);
         routines
     }
 }

@@ -12,8 +12,8 @@ ghost use Rattle.debugger.specs.Sessions.{DebugsTo, has_read_failed, has_write_f
 
 use crate::desk::Desk;
 use crate::fault::DebugFault;
-use crate::inputs::first_added;
 use crate::manner::Manner;
+use crate::tail::Tail;
 use commands::{
     Command, CommandLine, DeviceFault, ExtendedLine, LineReader, ParsedLine, extended_line,
     parsed_line,
@@ -156,11 +156,11 @@ fn converse<K: Keeper, R: Read, W: Write>(
         out.old) }
     ensures read { R.told ≡ true → TakesAtMost (most_bytes manner) (R.left commands.old) (R.left commands.new) }
 {
-    let mut desk = match Desk::new(alloc) {
-        Ok(desk) => desk,
+    let mut tail = match Tail::new(alloc) {
+        Ok(tail) => tail,
         Err(_) => return Err(DebugFault::NoMemory),
     };
-    let first = first_added(session);
+    let mut desk = Desk::new(session, symbols, rows, &mut tail);
     let mut reader = LineReader::new(most_bytes(manner));
     let mut line = CommandLine::empty();
     'commands: loop {
@@ -176,7 +176,7 @@ fn converse<K: Keeper, R: Read, W: Write>(
         if is_end(&request) {
             return Ok(());
         }
-        match desk.answer_asked(alloc, session, symbols, rows, first, &request, out) {
+        match desk.answer_asked(alloc, &request, out) {
             Ok(()) => {}
             Err(_) => return Err(DebugFault::WriteFailed),
         }

@@ -6,11 +6,12 @@ ghost use Rattle.cpu.specs.State.{Scenario};
 ghost use Rattle.commands.specs.declared.command.Command.TheVariants as command;
 ghost use Rattle.commands.specs.declared.command.ParsedLine.TheVariants.{Known};
 ghost use Rattle.space.specs.Cells.{changed_places};
-ghost use Rattle.replay.specs.View.{SessionView, HasShown};
+ghost use Rattle.replay.specs.View.{HasShown};
 ghost use Rattle.debugger.specs.History.{history, sight};
 ghost use Rattle.debugger.specs.Growth.{hit_at};
 ghost use Rattle.debugger.specs.Replies.{line, changed_text, memory_word, last_stop, last_change};
-ghost use Rattle.debugger.specs.Executions.{desk, Brings, BringsIn, HasLooked};
+ghost use Rattle.debugger.specs.Executions.{desk, Brings, BringsIn};
+ghost use Rattle.debugger.specs.Desks.{standing, Keeps, Looks, Moves};
 
 use crate::breakpoints::lowest_hit;
 use crate::desk::Desk;
@@ -23,51 +24,35 @@ use crate::texts::{
 use arrayvec::ArrayVec;
 use commands::Breakpoint;
 use cpu::{Machine, Processor};
-use replay::{Keeper, Session};
+use replay::Keeper;
 use space::place::Linear;
 use space::store::{Store, changed};
 use space::{Chan, Eras};
 use words::{Word, push_all};
 
-impl Desk {
+impl<'a, K: Keeper> Desk<'a, K> {
     /// `back`: so many steps back.
-    pub(crate) fn back<K: Keeper>(
-        &mut self,
-        manner: Manner,
-        session: &mut Session<K>,
-        steps: u64,
-    ) -> Text
-        requires { self.old.position ≤ session.old.n }
-        ensures brings { BringsIn manner (desk session.old self.old.position self.old.breakpoints)
-            (Known (command.Back steps)) result.items (desk session.new self.new.position self.new.breakpoints) }
-        ensures within { self.new.position ≤ session.new.n }
-        ensures tail { self.new.tail ≡ self.old.tail }
-        ensures looked { HasLooked session.old session.new (session.old.n) }
-        ensures shown { HasShown session.old self.new.position session.new }
+    pub(crate) fn back(&mut self, manner: Manner, steps: u64) -> Text
+        ensures brings { BringsIn manner (standing self.old)
+            (Known (command.Back steps)) result.items (standing self.new) }
+        ensures looked { Moves self.old.session.now.n self.old self.new }
+        ensures shown { HasShown self.old.session.now self.new.position self.new.session.now }
     {
         self.position = self.position.saturating_sub(steps);
-        match session.show(self.position) {
+        match self.session.show(self.position) {
             Ok(machine) => at_line(manner, self.position, machine),
             Err(_) => unreachable!(),
         }
     }
 
     /// `goto`: to a step.
-    pub(crate) fn goto<K: Keeper>(
-        &mut self,
-        manner: Manner,
-        session: &mut Session<K>,
-        step: u64,
-    ) -> Text
-        requires { self.old.position ≤ session.old.n }
-        ensures brings { BringsIn manner (desk session.old self.old.position self.old.breakpoints)
-            (Known (command.Goto step)) result.items (desk session.new self.new.position self.new.breakpoints) }
-        ensures within { self.new.position ≤ session.new.n }
-        ensures tail { self.new.tail ≡ self.old.tail }
-        ensures looked { HasLooked session.old session.new (session.old.n) }
-        ensures shown { HasShown session.old step session.new }
+    pub(crate) fn goto(&mut self, manner: Manner, step: u64) -> Text
+        ensures brings { BringsIn manner (standing self.old)
+            (Known (command.Goto step)) result.items (standing self.new) }
+        ensures looked { Moves self.old.session.now.n self.old self.new }
+        ensures shown { HasShown self.old.session.now step self.new.session.now }
     {
-        match session.show(step) {
+        match self.session.show(step) {
             Ok(machine) => {
                 self.position = step;
                 at_line(manner, step, machine)
@@ -77,40 +62,38 @@ impl Desk {
     }
 
     /// `seek`: back to the last step before this one at which a breakpoint holds.
-    pub(crate) fn seek<K: Keeper>(&mut self, manner: Manner, session: &mut Session<K>) -> Text
-        requires { self.old.position ≤ session.old.n }
-        ensures brings { BringsIn manner (desk session.old self.old.position self.old.breakpoints)
-            (Known (command.Seek)) result.items (desk session.new self.new.position self.new.breakpoints) }
-        ensures within { self.new.position ≤ session.new.n }
-        ensures tail { self.new.tail ≡ self.old.tail }
-        ensures looked { HasLooked session.old session.new (3 * session.old.n) }
+    pub(crate) fn seek(&mut self, manner: Manner) -> Text
+        ensures brings { BringsIn manner (standing self.old)
+            (Known (command.Seek)) result.items (standing self.new) }
+        ensures looked { Moves (3 * self.old.session.now.n) self.old self.new }
     {
-        let Some((step, number)) = self.last_stop(session) else {
+        let Some((step, number)) = self.last_stop() else {
             return text_line(b"NONE");
         };
         self.position = step;
-        match session.show(step) {
+        match self.session.show(step) {
             Ok(machine) => hit_and_at_line(manner, Some(number), step, machine),
             Err(_) => unreachable!(),
         }
     }
 
     /// The last step before the position at which a breakpoint holds, and the lowest of those that do.
-    fn last_stop<K: Keeper>(&self, session: &mut Session<K>) -> Option<(u64, u64)>
-        requires { self.now.position ≤ session.old.n }
+    fn last_stop(&mut self) -> Option<(u64, u64)>
         ensures last { option_map (λ r. r.0) result
-            ≡ last_stop (history session.old.scenario) (desk session.old self.now.position self.now.breakpoints) }
-        ensures hit { IfSome result (λ r. Some r.1 ≡ hit_at (history session.old.scenario) self.now.breakpoints r.0) }
-        ensures before { IfSome result (λ r. r.0 ≤ session.old.n) }
-        ensures same { session.new ≡ record session.old { shown = session.new.shown; meter = session.new.meter } }
-        ensures cost { session.new.meter ≤ session.old.meter + 2 * session.old.n }
+            ≡ last_stop (history self.old.session.now.scenario) (standing self.old) }
+        ensures hit { IfSome result (λ r. Some r.1 ≡ hit_at (history self.old.session.now.scenario)
+            self.old.breakpoints r.0) }
+        ensures before { IfSome result (λ r. r.0 ≤ self.old.session.now.n) }
+        ensures same { self.new.session.now ≡ record self.old.session.now
+            { shown = self.new.session.now.shown; meter = self.new.session.now.meter } }
+        ensures looked { Looks (2 * self.old.session.now.n) self.old self.new }
     {
         if self.position == 0 {
             return None;
         }
-        let _limited = session.steps();
+        let _limited = self.session.steps();
         let stops = Stops::at(&self.breakpoints);
-        let found = led_to(session.seek_step_back(self.position - 1, &stops));
+        let found = led_to(self.session.seek_step_back(self.position - 1, &stops));
         if found.is_some() {
             return found;
         }
@@ -130,10 +113,9 @@ impl Desk {
 
     /// `break`: one breakpoint more.
     pub(crate) fn set_breakpoint(&mut self, breakpoint: Breakpoint) -> Text
-        ensures brings { (s : SessionView) → Brings (desk s self.old.position self.old.breakpoints)
-            (Known (command.Break breakpoint)) result.items (desk s self.new.position self.new.breakpoints) }
-        ensures position { self.new.position ≡ self.old.position }
-        ensures tail { self.new.tail ≡ self.old.tail }
+        ensures brings { Brings (standing self.old) (Known (command.Break breakpoint)) result.items
+            (standing self.new) }
+        ensures keeps { Keeps self.old self.new }
     {
         if self.breakpoints.is_full() {
             return text_line(b"E52 FULL");
@@ -144,92 +126,86 @@ impl Desk {
 
     /// `clear`: no breakpoints.
     pub(crate) fn clear(&mut self) -> Text
-        ensures brings { (s : SessionView) → Brings (desk s self.old.position self.old.breakpoints)
-            (Known command.Clear) result.items (desk s self.new.position self.new.breakpoints) }
-        ensures position { self.new.position ≡ self.old.position }
-        ensures tail { self.new.tail ≡ self.old.tail }
+        ensures brings { Brings (standing self.old) (Known command.Clear) result.items (standing self.new) }
+        ensures keeps { Keeps self.old self.new }
     {
         self.breakpoints.clear();
         text_line(b"CLEAR")
     }
 
     /// `regs`: the registers, and the next instruction.
-    pub(crate) fn registers<K: Keeper>(&self, session: &mut Session<K>) -> Text
-        requires { self.now.position ≤ session.old.n }
-        ensures brings { Brings (desk session.old self.now.position self.now.breakpoints) (Known (command.Registers))
-            result.items (desk session.new self.now.position self.now.breakpoints) }
-        ensures looked { HasLooked session.old session.new (session.old.n) }
-        ensures shown { HasShown session.old self.now.position session.new }
+    pub(crate) fn registers(&mut self) -> Text
+        ensures brings { Brings (standing self.old) (Known (command.Registers))
+            result.items (standing self.new) }
+        ensures looked { Looks self.old.session.now.n self.old self.new }
+        ensures shown { HasShown self.old.session.now self.old.position self.new.session.now }
     {
-        match session.with_present(self.position) {
+        match self.session.with_present(self.position) {
             Ok((machine, _, processor)) => registers_text(machine, processor),
             Err(_) => unreachable!(),
         }
     }
 
     /// `mem`: the word at a place.
-    pub(crate) fn memory<K: Keeper>(&self, session: &mut Session<K>, place: Linear) -> Text
-        requires { self.now.position ≤ session.old.n }
-        ensures brings { Brings (desk session.old self.now.position self.now.breakpoints) (Known (command.Memory place))
-            result.items (desk session.new self.now.position self.now.breakpoints) }
-        ensures looked { HasLooked session.old session.new (session.old.n) }
-        ensures shown { HasShown session.old self.now.position session.new }
+    pub(crate) fn memory(&mut self, place: Linear) -> Text
+        ensures brings { Brings (standing self.old) (Known (command.Memory place))
+            result.items (standing self.new) }
+        ensures looked { Looks self.old.session.now.n self.old self.new }
+        ensures shown { HasShown self.old.session.now self.old.position self.new.session.now }
     {
-        match session.with_present(self.position) {
+        match self.session.with_present(self.position) {
             Ok((machine, _, processor)) => word_line(b"MEM ", word_at(machine, processor, place)),
             Err(_) => unreachable!(),
         }
     }
 
     /// `chan`: the word on a channel.
-    pub(crate) fn channel<K: Keeper>(&self, session: &mut Session<K>, channel: Chan) -> Text
-        requires { self.now.position ≤ session.old.n }
-        ensures brings { Brings (desk session.old self.now.position self.now.breakpoints)
-            (Known (command.Channel channel)) result.items (desk session.new self.now.position self.now.breakpoints) }
-        ensures looked { HasLooked session.old session.new (session.old.n) }
-        ensures shown { HasShown session.old self.now.position session.new }
+    pub(crate) fn channel(&mut self, channel: Chan) -> Text
+        ensures brings { Brings (standing self.old)
+            (Known (command.Channel channel)) result.items (standing self.new) }
+        ensures looked { Looks self.old.session.now.n self.old self.new }
+        ensures shown { HasShown self.old.session.now self.old.position self.new.session.now }
     {
-        match session.show(self.position) {
+        match self.session.show(self.position) {
             Ok(machine) => word_line(b"CHAN ", machine.channel(channel).correct()),
             Err(_) => unreachable!(),
         }
     }
 
     /// `last`: the step after which a place first held what it holds now.
-    pub(crate) fn last<K: Keeper>(&self, session: &mut Session<K>, place: Eras) -> Text
-        requires { self.now.position ≤ session.old.n }
-        ensures brings { Brings (desk session.old self.now.position self.now.breakpoints) (Known (command.Last place))
-            result.items (desk session.new self.now.position self.now.breakpoints) }
-        ensures looked { HasLooked session.old session.new (3 * session.old.n) }
+    pub(crate) fn last(&mut self, place: Eras) -> Text
+        ensures brings { Brings (standing self.old) (Known (command.Last place))
+            result.items (standing self.new) }
+        ensures looked { Looks (3 * self.old.session.now.n) self.old self.new }
     {
-        last_line(self.last_change(session, place))
+        last_line(self.last_change(place))
     }
 
     /// `changed`: the erasable places that read differently after a step and now.
-    pub(crate) fn changed<K: Keeper>(&self, session: &mut Session<K>, step: u64) -> PlacesText
-        ensures brings { Brings (desk session.old self.now.position self.now.breakpoints) (Known (command.Changed step))
-            result.items (desk session.new self.now.position self.now.breakpoints) }
-        ensures looked { HasLooked session.old session.new (session.old.n) }
+    pub(crate) fn changed(&mut self, step: u64) -> PlacesText
+        ensures brings { Brings (standing self.old) (Known (command.Changed step))
+            result.items (standing self.new) }
+        ensures looked { Looks self.old.session.now.n self.old self.new }
     {
-        match session.with_present(step) {
+        match self.session.with_present(step) {
             Ok((machine, present, _)) => changed_text(machine.store(), present.store()),
             Err(_) => not_yet(),
         }
     }
 
     /// The last step before the position at which a place held another word.
-    fn last_change<K: Keeper>(&self, session: &mut Session<K>, place: Eras) -> Option<u64>
-        requires { self.now.position ≤ session.old.n }
-        ensures last { result ≡ last_change (history session.old.scenario)
-            (desk session.old self.now.position self.now.breakpoints) place }
+    fn last_change(&mut self, place: Eras) -> Option<u64>
+        ensures last { result ≡ last_change (history self.old.session.now.scenario)
+            (standing self.old) place }
         ensures below { IfSome result (λ t. t < 2 ^ 40) }
-        ensures looked { HasLooked session.old session.new (3 * session.old.n) }
+        ensures looked { Looks (3 * self.old.session.now.n) self.old self.new }
     {
-        let word = match session.show(self.position) {
+        let word = match self.session.show(self.position) {
             Ok(machine) => machine.word(place),
             Err(_) => unreachable!(),
         };
-        session.seek_back(self.position, |machine| machine.word(place) != word)
+        self.session
+            .seek_back(self.position, |machine| machine.word(place) != word)
     }
 }
 

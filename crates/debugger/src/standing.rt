@@ -6,14 +6,14 @@ ghost use Rattle.words.specs.Devices.{Writes, failures_after};
 ghost use Rattle.cpu.specs.Run.{run};
 ghost use Rattle.names.specs.NamedLines.{nearest_name};
 ghost use Rattle.debugger.specs.History.{history, sight};
-ghost use Rattle.debugger.specs.Replies.{memory_word};
 ghost use Rattle.debugger.specs.Whys.{kind_part, last_outside};
 ghost use Rattle.debugger.specs.Standing.{nearest_text};
 ghost use Rattle.debugger.specs.Standing.{place_line, waiting_line, where_line, entered_line, entered_text};
-ghost use Rattle.debugger.specs.Standing.{inside_text, where_text, begins_with, found_line, found_text, places_from};
-ghost use Rattle.debugger.specs.Standing.{place_after, word_there, words_from, words_text, standing_text, rows_text};
+ghost use Rattle.debugger.specs.Standing.{where_text, begins_with, found_line, found_text, places_from};
+ghost use Rattle.debugger.specs.Standing.{place_after, word_there, words_text, standing_text, rows_text};
 ghost use Rattle.replay.specs.View.{HasShown};
 ghost use Rattle.debugger.specs.Executions.{HasLooked};
+ghost use Rattle.debugger.specs.Desks.{Looks};
 
 use crate::desk::Desk;
 use crate::link_texts::{Piece, kind_part};
@@ -38,48 +38,37 @@ const WORDS_TEXT: usize = 36_864;
 /// The lines of words.
 pub(crate) type WordsText = ArrayVec<u8, WORDS_TEXT>;
 
-impl Desk {
+impl<'a, K: Keeper> Desk<'a, K> {
     /// `where`: where the next instruction stands, and the interrupt that is served.
     #[tactic(auto, unfolding(crate::specs::Standing::where_text))]
-    pub(crate) fn tell_where<K: Keeper, W: Write>(
-        &self,
-        session: &mut Session<K>,
-        symbols: &Symbols,
-        rows: &SourceRows,
-        out: &mut W,
-    ) -> Result<(), WriteFailed>
-        requires { self.now.position ≤ session.old.n }
+    pub(crate) fn tell_where<W: Write>(&mut self, out: &mut W) -> Result<(), WriteFailed>
         ensures writes { W.told ≡ true → Writes (W.written out.old) (W.written out.new)
-            (where_text symbols.now rows.now session.old.scenario self.now.position) result }
-        ensures looked { HasLooked session.old session.new (4 * session.old.n) }
+            (where_text self.old.symbols.now self.old.rows.now self.old.session.now.scenario self.old.position)
+            result }
+        ensures looked { Looks (4 * self.old.session.now.n) self.old self.new }
         ensures failures { W.failures out.new ≡ failures_after (W.failures out.old) result }
     {
-        if self.tell_standing(session, symbols, rows, out)? {
-            return write_all(out, self.entered_text(session, symbols).as_slice());
+        if self.tell_standing(out)? {
+            return write_all(out, self.entered_text().as_slice());
         }
         Ok(())
     }
 
     /// Writes the line of the next instruction, and its row; and answers whether an interrupt is served.
-    fn tell_standing<K: Keeper, W: Write>(
-        &self,
-        session: &mut Session<K>,
-        symbols: &Symbols,
-        rows: &SourceRows,
-        out: &mut W,
-    ) -> Result<bool, WriteFailed>
-        requires { self.now.position ≤ session.old.n }
+    fn tell_standing<W: Write>(&mut self, out: &mut W) -> Result<bool, WriteFailed>
         ensures writes { W.told ≡ true → Writes (W.written out.old) (W.written out.new)
-            (standing_text symbols.now rows.now session.old.scenario (run session.old.scenario self.now.position))
+            (standing_text self.old.symbols.now self.old.rows.now self.old.session.now.scenario
+            (run self.old.session.now.scenario self.old.position))
             result }
-        ensures inside { IfOk result (λ inside. inside ≡ (run session.old.scenario self.now.position).inside) }
-        ensures looked { HasLooked session.old session.new session.old.n }
-        ensures shown { HasShown session.old self.now.position session.new }
+        ensures inside { IfOk result (λ inside. inside ≡
+            (run self.old.session.now.scenario self.old.position).inside) }
+        ensures looked { Looks self.old.session.now.n self.old self.new }
+        ensures shown { HasShown self.old.session.now self.old.position self.new.session.now }
         ensures failures { W.failures out.new ≡ failures_after (W.failures out.old) result }
     {
-        match session.with_present(self.position) {
+        match self.session.with_present(self.position) {
             Ok((machine, _, processor)) => {
-                write_standing(symbols, rows, machine, processor, out)?;
+                write_standing(self.symbols, self.rows, machine, processor, out)?;
                 Ok(machine.inside())
             }
             Err(_) => unreachable!(),
@@ -87,64 +76,62 @@ impl Desk {
     }
 
     /// The line of the interrupt that is served.
-    pub(crate) fn entered_text<K: Keeper>(
-        &self,
-        session: &mut Session<K>,
-        symbols: &Symbols,
-    ) -> Text
-        requires { self.now.position ≤ session.old.n }
-        ensures text { result.items ≡ entered_text symbols.now session.old.scenario
-            (last_outside session.old.scenario self.now.position) }
+    pub(crate) fn entered_text(&mut self) -> Text
+        ensures text { result.items ≡ entered_text self.old.symbols.now self.old.session.now.scenario
+            (last_outside self.old.session.now.scenario self.old.position) }
         ensures short { array_vec_len result ≤ 76 }
-        ensures looked { HasLooked session.old session.new (3 * session.old.n) }
+        ensures looked { Looks (3 * self.old.session.now.n) self.old self.new }
     {
-        match session.seek_back(self.position, |machine| !machine.inside()) {
-            Some(step) => entered_line(session, symbols, step),
+        match self
+            .session
+            .seek_back(self.position, |machine| !machine.inside())
+        {
+            Some(step) => entered_line(self.session, self.symbols, step),
             None => ArrayVec::new(),
         }
     }
 
     /// `mem` of a place and a number: so many words from there on.
-    pub(crate) fn words<K: Keeper>(
-        &self,
-        session: &mut Session<K>,
-        place: &Linear,
-        count: u64,
-    ) -> WordsText
-        requires { self.now.position ≤ session.old.n }
-        ensures text { result.items ≡ words_text (history session.old.scenario)
-            ((history session.old.scenario).after self.now.position) place.now count }
-        ensures looked { HasLooked session.old session.new session.old.n }
-        ensures shown { HasShown session.old self.now.position session.new }
+    pub(crate) fn words(&mut self, place: &Linear, count: u64) -> WordsText
+        ensures text { result.items ≡ words_text (history self.old.session.now.scenario)
+            ((history self.old.session.now.scenario).after self.old.position) place.now count }
+        ensures looked { Looks self.old.session.now.n self.old self.new }
+        ensures shown { HasShown self.old.session.now self.old.position self.new.session.now }
     {
-        match session.with_present(self.position) {
+        match self.session.with_present(self.position) {
             Ok((machine, _, processor)) => words_text(machine, processor, place, count),
             Err(_) => unreachable!(),
         }
     }
 
     /// `list` and `value`: the rows of so many places from one on.
-    pub(crate) fn rows<K: Keeper, W: Write>(
-        &self,
-        session: &mut Session<K>,
-        symbols: &Symbols,
-        rows: &SourceRows,
+    pub(crate) fn rows<W: Write>(
+        &mut self,
         kind: RowKind,
         place: &Linear,
         count: u64,
         out: &mut W,
     ) -> Result<(), WriteFailed>
-        requires { self.now.position ≤ session.old.n }
         ensures writes { W.told ≡ true → Writes (W.written out.old) (W.written out.new)
-            (rows_text kind symbols.now rows.now session.old.scenario.rope (history session.old.scenario)
-            ((history session.old.scenario).after self.now.position) place.now count) result }
-        ensures looked { HasLooked session.old session.new session.old.n }
-        ensures shown { HasShown session.old self.now.position session.new }
+            (rows_text kind self.old.symbols.now self.old.rows.now self.old.session.now.scenario.rope
+            (history self.old.session.now.scenario)
+            ((history self.old.session.now.scenario).after self.old.position) place.now count) result }
+        ensures looked { Looks self.old.session.now.n self.old self.new }
+        ensures shown { HasShown self.old.session.now self.old.position self.new.session.now }
         ensures failures { W.failures out.new ≡ failures_after (W.failures out.old) result }
     {
-        match session.with_present(self.position) {
+        match self.session.with_present(self.position) {
             Ok((machine, _, processor)) => {
-                write_rows(kind, symbols, rows, machine, processor, place, count, out)
+                write_rows(
+                    kind,
+                    self.symbols,
+                    self.rows,
+                    machine,
+                    processor,
+                    place,
+                    count,
+                    out,
+                )
             }
             Err(_) => unreachable!(),
         }

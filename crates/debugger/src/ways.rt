@@ -11,6 +11,7 @@ ghost use Rattle.debugger.specs.Executions.{HasLooked};
 ghost use Rattle.debugger.specs.Whys.{added_by, kind_part, reads_part, subject_spots};
 ghost use Rattle.debugger.specs.Ways.{choice_lines, choice_text, chooses, chosen_by, control_text, decides, is_entry};
 ghost use Rattle.debugger.specs.Ways.{is_moved, is_named, led_to, skips, way_by, way_text};
+ghost use Rattle.debugger.specs.Desks.{Looks};
 
 use crate::calls_told::spot_text;
 use crate::desk::Desk;
@@ -38,42 +39,34 @@ const CHOICE_LINES: usize = 2_160;
 /// The lines of a choice.
 type ChoiceLines = ArrayVec<u8, CHOICE_LINES>;
 
-impl Desk {
+impl<'a, K: Keeper> Desk<'a, K> {
     /// `why step`: why the program came to the step at the position.
-    pub(crate) fn why_way<K: Keeper, W: Write>(
-        &self,
-        session: &mut Session<K>,
-        symbols: &Symbols,
-        out: &mut W,
-    ) -> Result<(), WriteFailed>
-        requires { self.now.position ≤ session.old.n }
+    pub(crate) fn why_way<W: Write>(&mut self, out: &mut W) -> Result<(), WriteFailed>
         ensures writes { W.told ≡ true → Writes (W.written out.old) (W.written out.new)
-            (way_text symbols.now session.old.scenario self.now.position) result }
-        ensures looked { HasLooked session.old session.new (105 * session.old.n) }
+            (way_text self.old.symbols.now self.old.session.now.scenario self.old.position) result }
+        ensures looked { Looks (105 * self.old.session.now.n) self.old self.new }
         ensures failures { W.failures out.new ≡ failures_after (W.failures out.old) result }
     {
-        tell_way(session, symbols, self.position, out)
+        tell_way(self.session, self.symbols, self.position, out)
     }
 
     /// `why` of something with `control`: why the program came to the step that wrote there last.
     #[tactic(auto, unfolding(crate::specs::Ways::control_text))]
-    pub(crate) fn why_control<K: Keeper, W: Write>(
-        &self,
-        session: &mut Session<K>,
-        symbols: &Symbols,
+    pub(crate) fn why_control<W: Write>(
+        &mut self,
         subject: Subject,
         out: &mut W,
     ) -> Result<(), WriteFailed>
-        requires { self.now.position ≤ session.old.n }
         ensures writes { W.told ≡ true → Writes (W.written out.old) (W.written out.new)
-            (control_text symbols.now session.old.scenario self.now.position (subject_spots subject)) result }
-        ensures looked { HasLooked session.old session.new (107 * session.old.n) }
+            (control_text self.old.symbols.now self.old.session.now.scenario self.old.position
+            (subject_spots subject)) result }
+        ensures looked { Looks (107 * self.old.session.now.n) self.old self.new }
         ensures failures { W.failures out.new ≡ failures_after (W.failures out.old) result }
     {
         let cells = subject_cells(subject);
-        match session.seek_writer(self.position, &cells) {
-            Some(step) => tell_way(session, symbols, step, out),
-            None => write_all(out, end_text(symbols, false, &cells).as_slice()),
+        match self.session.seek_writer(self.position, &cells) {
+            Some(step) => tell_way(self.session, self.symbols, step, out),
+            None => write_all(out, end_text(self.symbols, false, &cells).as_slice()),
         }
     }
 }

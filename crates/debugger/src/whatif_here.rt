@@ -7,11 +7,12 @@ ghost use Rattle.cpu.specs.Run.{run};
 ghost use Rattle.words.specs.Devices.{failures_after};
 ghost use Rattle.replay.specs.Memory.{step_limit};
 ghost use Rattle.replay.specs.View.{HasShown};
-ghost use Rattle.debugger.specs.Executions.{HasLooked, Replies, desk};
+ghost use Rattle.debugger.specs.Executions.{Replies, desk};
 ghost use Rattle.debugger.specs.WhatIfs.{begins_at, is_full, noted_from, program_of, tried_text, tries, tries_from};
 ghost use Rattle.debugger.specs.WhatIfs.{whatif_text};
 ghost use Rattle.whatif.specs.NotedHere.{noted_here};
 ghost use Rattle.yayul.specs.Named.{named_places};
+ghost use Rattle.debugger.specs.Desks.{standing, Looks};
 
 use crate::desk::Desk;
 use crate::texts::text_line;
@@ -28,59 +29,38 @@ use yayul::SourceRows;
 /// The most inputs of a run that are from no series.
 const MOST_INPUTS: usize = 65_536;
 
-impl Desk {
+impl<'a, K: Keeper> Desk<'a, K> {
     /// `whatif`: so many steps on, without a trial and with it, that came at the position, or at each of some steps.
     ///
     /// The session stays as it is, but that the first of these steps may be shown: copies of what runs make the steps,
     /// each run those after it alone.
-    pub(crate) fn what_if<K: Keeper, W: Write>(
-        &self,
+    pub(crate) fn what_if<W: Write>(
+        &mut self,
         alloc: Global,
-        session: &mut Session<K>,
-        symbols: &Symbols,
-        rows: &SourceRows,
         trial: Trial,
         extent: Extent,
         out: &mut W,
     ) -> Result<(), WriteFailed>
-        requires within { self.now.position ≤ session.old.n }
         ensures executes { W.told ≡ true → Replies K.may_refuse
-            (tries (program_of symbols.now rows.now session.old.scenario) trial extent)
-            (desk session.old self.now.position self.now.breakpoints)
-            (desk session.new self.now.position self.now.breakpoints) (W.written out.old) (W.written out.new) result }
-        ensures same { session.new ≡ record session.old { shown = session.new.shown; meter = session.new.meter } }
-        ensures looked { HasLooked session.old session.new session.old.n }
+            (tries (program_of self.old.symbols.now self.old.rows.now self.old.session.now.scenario) trial extent)
+            (standing self.old) (standing self.new) (W.written out.old) (W.written out.new) result }
+        ensures same { self.new.session.now ≡ record self.old.session.now
+            { shown = self.new.session.now.shown; meter = self.new.session.now.meter } }
+        ensures looked { Looks self.old.session.now.n self.old self.new }
         ensures failures { W.failures out.new ≡ failures_after (W.failures out.old) result }
     {
         match extent {
-            Extent::Here(steps) => {
-                self.what_if_from(
-                    alloc,
-                    session,
-                    symbols,
-                    rows,
-                    trial,
-                    steps,
-                    self.position,
-                    0,
-                    out,
-                )
-            }
+            Extent::Here(steps) => { self.what_if_from(alloc, trial, steps, self.position, 0, out) }
             Extent::Each(steps, first, more) => {
-                self.what_if_from(
-                    alloc, session, symbols, rows, trial, steps, first, more, out,
-                )
+                self.what_if_from(alloc, trial, steps, first, more, out)
             }
         }
     }
 
     /// The same, at a step and at each of so many more.
-    fn what_if_from<K: Keeper, W: Write>(
-        &self,
+    fn what_if_from<W: Write>(
+        &mut self,
         alloc: Global,
-        session: &mut Session<K>,
-        symbols: &Symbols,
-        rows: &SourceRows,
         trial: Trial,
         steps: u64,
         first: u64,
@@ -88,14 +68,15 @@ impl Desk {
         out: &mut W,
     ) -> Result<(), WriteFailed>
         ensures executes { W.told ≡ true → Replies K.may_refuse
-            (tries_from (program_of symbols.now rows.now session.old.scenario) trial steps first more)
-            (desk session.old self.now.position self.now.breakpoints)
-            (desk session.new self.now.position self.now.breakpoints) (W.written out.old) (W.written out.new) result }
-        ensures same { session.new ≡ record session.old { shown = session.new.shown; meter = session.new.meter } }
-        ensures looked { HasLooked session.old session.new session.old.n }
+            (tries_from (program_of self.old.symbols.now self.old.rows.now self.old.session.now.scenario) trial steps
+            first more)
+            (standing self.old) (standing self.new) (W.written out.old) (W.written out.new) result }
+        ensures same { self.new.session.now ≡ record self.old.session.now
+            { shown = self.new.session.now.shown; meter = self.new.session.now.meter } }
+        ensures looked { Looks self.old.session.now.n self.old self.new }
         ensures failures { W.failures out.new ≡ failures_after (W.failures out.old) result }
     {
-        let made = session.steps();
+        let made = self.session.steps();
         if first > made {
             return write_all(out, text_line(b"E41 NOT YET").as_slice());
         }
@@ -107,10 +88,19 @@ impl Desk {
         if steps > room {
             return write_all(out, text_line(b"E40 LIMIT").as_slice());
         }
-        if is_full(session, &trial) {
+        if is_full(self.session, &trial) {
             return write_all(out, text_line(b"E32 TOO MANY").as_slice());
         }
-        match tried(alloc, session, symbols, rows, &trial, steps, first, more) {
+        match tried(
+            alloc,
+            self.session,
+            self.symbols,
+            self.rows,
+            &trial,
+            steps,
+            first,
+            more,
+        ) {
             Some(text) => write_all(out, text.as_slice()),
             None => write_all(out, text_line(b"E2 MEMORY").as_slice()),
         }

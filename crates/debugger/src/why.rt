@@ -15,6 +15,7 @@ ghost use Rattle.debugger.specs.Whys.{cells_part, reads_part, mark_part, added_b
 ghost use Rattle.origins.specs.Following.{cells_before};
 ghost use Rattle.debugger.specs.Conversation.{link_effort};
 ghost use Rattle.debugger.specs.Executions.{HasLooked};
+ghost use Rattle.debugger.specs.Desks.{Looks};
 
 use crate::desk::Desk;
 use crate::index_lines::{IndexLine, added_by, index_part};
@@ -31,27 +32,25 @@ use space::{Chan, Eras};
 use symbols::Symbols;
 use words::{Wide, Write, WriteFailed, push_all, write_all};
 
-impl Desk {
+impl<'a, K: Keeper> Desk<'a, K> {
     /// `why` of something: how the word there came to be what it is at the position, by at most so many steps.
-    pub(crate) fn why<K: Keeper, W: Write>(
-        &self,
-        session: &mut Session<K>,
-        symbols: &Symbols,
+    pub(crate) fn why<W: Write>(
+        &mut self,
         subject: Subject,
         links: u64,
         lines: LinkLines,
         out: &mut W,
     ) -> Result<(), WriteFailed>
-        requires { self.now.position ≤ session.old.n }
         ensures writes { W.told ≡ true → Writes (W.written out.old) (W.written out.new)
-            (why_text symbols.now session.old.scenario lines links self.now.position (subject_spots subject)) result }
-        ensures looked { HasLooked session.old session.new ((link_effort lines * links + 1) * session.old.n) }
+            (why_text self.old.symbols.now self.old.session.now.scenario lines links self.old.position
+            (subject_spots subject)) result }
+        ensures looked { Looks ((link_effort lines * links + 1) * self.old.session.now.n) self.old self.new }
         ensures failures { W.failures out.new ≡ failures_after (W.failures out.old) result }
     {
         let mut pending = subject_cells(subject);
         chain(
-            session,
-            symbols,
+            self.session,
+            self.symbols,
             self.position,
             &mut pending,
             links,
@@ -62,29 +61,26 @@ impl Desk {
 
     /// `why` alone: what the step did that led to the position.
     #[tactic(auto, unfolding(crate::specs::Whys::last_text))]
-    pub(crate) fn why_step<K: Keeper, W: Write>(
-        &self,
-        session: &mut Session<K>,
-        symbols: &Symbols,
+    pub(crate) fn why_step<W: Write>(
+        &mut self,
         lines: LinkLines,
         out: &mut W,
     ) -> Result<(), WriteFailed>
-        requires { self.now.position ≤ session.old.n }
         ensures writes { W.told ≡ true → Writes (W.written out.old) (W.written out.new)
-            (last_text symbols.now session.old.scenario lines self.now.position) result }
-        ensures looked { HasLooked session.old session.new (link_effort lines * session.old.n) }
+            (last_text self.old.symbols.now self.old.session.now.scenario lines self.old.position) result }
+        ensures looked { Looks (link_effort lines * self.old.session.now.n) self.old self.new }
         ensures failures { W.failures out.new ≡ failures_after (W.failures out.old) result }
     {
         if self.position == 0 {
             return write_all(out, b"START\n");
         }
         let step = self.position - 1;
-        let mut pending = cells_written(session, step);
+        let mut pending = cells_written(self.session, step);
         write_all(
             out,
-            link_lines(session, symbols, lines, step, &mut pending).as_slice(),
+            link_lines(self.session, self.symbols, lines, step, &mut pending).as_slice(),
         )?;
-        write_all(out, end_text(symbols, true, &pending).as_slice())
+        write_all(out, end_text(self.symbols, true, &pending).as_slice())
     }
 }
 

@@ -16,6 +16,7 @@ ghost use Rattle.debugger.specs.WhysSince.{since_text, since_step, lines_since, 
 ghost use Rattle.debugger.specs.WhysSince.{end_since};
 ghost use Rattle.debugger.specs.Conversation.{index_effort, link_effort};
 ghost use Rattle.debugger.specs.Executions.{HasLooked};
+ghost use Rattle.debugger.specs.Desks.{Looks};
 
 use crate::desk::Desk;
 use crate::index_lines::{IndexLine, Instructions, index_line};
@@ -31,45 +32,73 @@ use replay::{Keeper, Session, StepTest};
 use symbols::Symbols;
 use words::{Wide, Write, WriteFailed, push_all, push_decimal, write_all};
 
-impl Desk {
+impl<'a, K: Keeper> Desk<'a, K> {
     /// `why` of something since a step: how the word there came to be what it is at the position, by at most so many
     /// steps, of which none is before that one.
-    pub(crate) fn why_since<K: Keeper, W: Write>(
-        &self,
-        session: &mut Session<K>,
-        symbols: &Symbols,
+    pub(crate) fn why_since<W: Write>(
+        &mut self,
         subject: Subject,
         links: u64,
         lines: LinkLines,
         since: u64,
         out: &mut W,
     ) -> Result<(), WriteFailed>
-        requires { self.now.position ≤ session.old.n }
         ensures writes { W.told ≡ true → Writes (W.written out.old) (W.written out.new)
-            (since_text symbols.now session.old.scenario lines since links self.now.position (subject_spots subject))
-            result }
+            (since_text self.old.symbols.now self.old.session.now.scenario lines since links self.old.position
+            (subject_spots subject)) result }
 
         // No step before it is made but from the latest image up to there on.
-        ensures looked { HasLooked session.old session.new
-            ((link_effort lines * links + 2) * (session.old.n - (since - 1))) }
+        ensures looked { Looks ((link_effort lines * links + 2) * (self.old.session.now.n - (since - 1)))
+            self.old self.new }
         ensures failures { W.failures out.new ≡ failures_after (W.failures out.old) result }
     {
-        let mut pending = subject_cells(subject);
-        let mut before = self.position;
-        let mut left = links;
-        while left > 0 {
-            let Some(step) = writer_since(session, since, before, &pending) else {
-                return write_all(out, end_since(symbols, since, &pending).as_slice());
-            };
-            write_all(
-                out,
-                lines_since(session, symbols, lines, since, step, &mut pending).as_slice(),
-            )?;
-            before = step;
-            left -= 1;
-        }
-        write_all(out, end_text(symbols, true, &pending).as_slice())
+        chain_since(
+            self.session,
+            self.symbols,
+            self.position,
+            subject,
+            links,
+            lines,
+            since,
+            out,
+        )
     }
+}
+
+/// How the word of something came to be what it is after so many steps, by at most so many steps, of which none is
+/// before a step.
+fn chain_since<K: Keeper, W: Write>(
+    session: &mut Session<K>,
+    symbols: &Symbols,
+    position: u64,
+    subject: Subject,
+    links: u64,
+    lines: LinkLines,
+    since: u64,
+    out: &mut W,
+) -> Result<(), WriteFailed>
+    requires { position ≤ session.old.n }
+    ensures writes { W.told ≡ true → Writes (W.written out.old) (W.written out.new)
+        (since_text symbols.now session.old.scenario lines since links position (subject_spots subject)) result }
+    ensures looked { HasLooked session.old session.new
+        ((link_effort lines * links + 2) * (session.old.n - (since - 1))) }
+    ensures failures { W.failures out.new ≡ failures_after (W.failures out.old) result }
+{
+    let mut pending = subject_cells(subject);
+    let mut before = position;
+    let mut left = links;
+    while left > 0 {
+        let Some(step) = writer_since(session, since, before, &pending) else {
+            return write_all(out, end_since(symbols, since, &pending).as_slice());
+        };
+        write_all(
+            out,
+            lines_since(session, symbols, lines, since, step, &mut pending).as_slice(),
+        )?;
+        before = step;
+        left -= 1;
+    }
+    write_all(out, end_text(symbols, true, &pending).as_slice())
 }
 
 /// The last step after fewer than `p`, and from a first one on, of which a test finds something.

@@ -17,8 +17,6 @@ use Rattle.expect.specs.declared.claim.Relation.TheVariants.{Same, Other, Less, 
 use Rattle.expect.specs.declared.refusal.Asked.TheVariants as asked
 use Rattle.space.specs.declared.place.Linear.TheVariants.{Erasable, Fixed}
 use Rattle.space.specs.Places.{window}
-use Rattle.feed.specs.Names.{counters}
-use Rattle.commands.specs.NamedPlaces.{registers}
 
 -- ## Words: 77776 is -1, 77777 is -0
 minus_one_is_less : related Less 0o77776 0 ≡ true
@@ -103,7 +101,6 @@ nothing_is_not_all = refl
 
 at_the_end : claims_of [] (codes "AT" ∷ codes "END" ∷ codes "A" ∷ codes "=" ∷ codes "5D" ∷ [])
     ≡ Ok (AtEnd (record { place = 0; relation = Same; word = 5 }) ∷ [])
-unfolding registers
 at_the_end = refl
 
 always_less : claims_of [] (codes "ALWAYS" ∷ codes "100" ∷ codes "<" ∷ codes "10D" ∷ [])
@@ -112,15 +109,12 @@ always_less = refl
 
 at_a_place : claims_of [] (codes "AT" ∷ codes "4000" ∷ codes "L" ∷ codes "<>" ∷ codes "0" ∷ [])
     ≡ Ok (At (Fixed 2 0) (record { place = 1; relation = Other; word = 0 }) ∷ [])
-unfolding registers
 at_a_place = refl
 
 no_relation : claims_of [] (codes "NEVER" ∷ codes "A" ∷ codes "5" ∷ []) ≡ Err (record { field = 2; asked = asked.Relation })
-unfolding registers
 no_relation = refl
 
 too_much : claims_of [] (codes "NEVER" ∷ codes "A" ∷ codes "=" ∷ codes "5" ∷ codes "D" ∷ []) ≡ Err (record { field = 4; asked = asked.End })
-unfolding registers
 too_much = refl
 
 fixed_memory_is_no_cell : claims_of [] (codes "ALWAYS" ∷ codes "4000" ∷ codes "=" ∷ codes "5" ∷ [])
@@ -129,7 +123,6 @@ fixed_memory_is_no_cell = refl
 
 at_a_place_moved_on : claims_of [] (codes "AT" ∷ codes "4000" ∷ codes "+12" ∷ codes "L" ∷ codes "<>" ∷ codes "0" ∷ [])
     ≡ Ok (At (Fixed 2 10) (record { place = 1; relation = Other; word = 0 }) ∷ [])
-unfolding registers
 at_a_place_moved_on = refl
 
 a_cell_moved_on : claims_of [] (codes "AT" ∷ codes "END" ∷ codes "100" ∷ codes "+3" ∷ codes "=" ∷ codes "5D" ∷ [])
@@ -177,7 +170,7 @@ unfolding kinds_at
 notes_at_nothing = refl
 
 notes_at_no_place : claims_of [] (codes "NOTES" ∷ codes "SKIP" ∷ codes "AT" ∷ codes "SKIP" ∷ []) ≡ Err (record { field = 3; asked = asked.Routine })
-unfolding kinds_at registers counters
+unfolding kinds_at
 notes_at_no_place = refl
 
 notes_beyond_the_bank : claims_of [] (codes "NOTES" ∷ codes "SKIP" ∷ codes "AT" ∷ codes "4005" ∷ codes "+2000" ∷ [])
@@ -329,7 +322,7 @@ second_test : claims_after [] 0 (record { line = 5; fields = codes "TEST" ∷ co
     ∷ record { line = 6; fields = codes "TEST" ∷ codes "b" ∷ [] }
     ∷ record { line = 7; fields = codes "NEVER" ∷ codes "A" ∷ codes "=" ∷ codes "5" ∷ [] } ∷ []) ≡
     Ok (in_test 2 7 (Never (record { place = 0; relation = Same; word = 5 })) ∷ [])
-unfolding claims_after registers
+unfolding claims_after
 second_test = refl
 
 -- ## Steps: the second word on channel 10 is to be 5, within 20 cycles

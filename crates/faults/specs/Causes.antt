@@ -29,6 +29,7 @@ use Rattle.faults.specs.declared.told.Doubt.TheVariants.{HeldBank, SuperbankBits
 use Rattle.faults.specs.declared.told.Warning.{Warning}
 use Rattle.faults.specs.Shown.{shown_byte}
 use Rattle.faults.specs.Warnings.{is_among, is_short}
+pub use Rattle.faults.specs.Warnings.{begins, is_signed, text_of}
 
 -- what is wrong, how it is mended or nothing, and a text that stands in either; and whether `--flight` takes what stands there
 pub record Cause : Type 0 where
@@ -45,11 +46,6 @@ cured words cure = record { words = words; cure = cure; other = []; flight = fal
 
 abbrev pub cured_by : List ℕ → List ℕ → List ℕ → Cause
 cured_by words cure other = record { words = words; cure = cure; other = other; flight = false }
-
--- ## Marks
--- the bytes of a field, none where it does not stand
-abbrev pub text_of : Option Piece → List ℕ
-text_of field = option_map_or (λ p. p.text) field []
 
 -- a field as it is shown, where it stands
 abbrev pub shown_field : Option Piece → List ℕ
@@ -83,14 +79,6 @@ filled parts other beside text = flat_map (filled_byte parts other beside) text
 -- a text holds a byte
 abbrev pub holds : ℕ → List ℕ → Bool
 holds byte text = list_any (λ other. other == byte) text
-
--- a text begins with a byte
-abbrev pub begins : ℕ → List ℕ → Bool
-begins byte text = option_map_or (λ first. first == byte) (slice_get text 0) false
-
--- a plus or a minus sign stands first
-abbrev pub is_signed : List ℕ → Bool
-is_signed text = begins 0o53 text || begins 0o55 text
 
 -- what begins comments in other languages: a semicolon or a slash
 abbrev pub is_foreign_comment : List ℕ → Bool

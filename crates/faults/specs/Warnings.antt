@@ -54,18 +54,26 @@ has_operator names parts = option_map_or (λ p. is_among names p.text) parts.ope
 abbrev pub has_alone : Bool → Parts → Bool
 has_alone condition parts = condition && not (is_some parts.offset)
 
--- a warning of a number at a field of a line, where a condition holds
-abbrev pub warned_if : Bool → ℕ → ℕ → Piece → List Warning
-warned_if condition line number p =
-    if condition then record { line = line; number = number; span = span_of p; doubt = None } ∷ [] else []
+-- the bytes of a field, none where it does not stand
+abbrev pub text_of : Option Piece → List ℕ
+text_of field = option_map_or (λ p. p.text) field []
 
--- what is said of a field, where it stands
-abbrev pub at_field : (Piece → List Warning) → Option Piece → List Warning
-at_field warn field = option_map_or warn field []
+-- a text begins with a byte
+abbrev pub begins : ℕ → List ℕ → Bool
+begins byte text = option_map_or (λ first. first == byte) (slice_get text 0) false
 
--- ## 1: an operator's name as a label
-abbrev pub label_warnings : Language → ℕ → Parts → List Warning
-label_warnings language line parts = at_field (λ p. warned_if (is_operator_of language p.text) line 1 p) parts.label
+-- a plus or a minus sign stands first
+abbrev pub is_signed : List ℕ → Bool
+is_signed text = begins 0o53 text || begins 0o55 text
+
+-- a warning of a number at a field of a line, where it stands and a condition holds
+abbrev pub warned_if : Bool → ℕ → ℕ → Option Piece → List Warning
+warned_if condition line number field =
+    option_map_or (λ p. if condition then record { line = line; number = number; span = span_of p; doubt = None } ∷ [] else []) field []
+
+-- the label of a line is one of some names
+abbrev pub has_label : List (List ℕ) → Parts → Bool
+has_label names parts = option_map_or (λ l. is_among names l.text) parts.label false
 
 -- ## 2: the number of a register or a counter where a word is read: `CA 5` reads Z
 -- octal digits of a place that a register or a counter has: 0 to 060
@@ -77,9 +85,8 @@ abbrev pub indexed_after : Bool → Parts → Bool
 indexed_after indexed parts = if is_some parts.operator && not (keeps_location parts.role) then is_index parts.role else indexed
 
 -- after one of them the number is a part of an address alone
-abbrev pub number_warnings : Bool → ℕ → Parts → List Warning
-number_warnings indexed line parts =
-    at_field (λ p. warned_if (not indexed && has_alone (reads parts.role) parts && is_register_number p.text) line 2 p) parts.operand
+abbrev pub reads_number : Bool → Parts → Bool
+reads_number indexed parts = not indexed && has_alone (reads parts.role) parts && is_register_number (text_of parts.operand)
 
 -- ## 3: two words of a name for which one is reserved
 -- ERASE without an operand
@@ -94,9 +101,8 @@ with_field names field = option_map_or (λ p. with_name names p.text) field name
 abbrev pub with_single : List (List ℕ) → Parts → List (List ℕ)
 with_single names parts = if reserves_one parts then with_field names parts.label else names
 
-abbrev pub pair_warnings : List (List ℕ) → ℕ → Parts → List Warning
-pair_warnings singles line parts = at_field (λ p. warned_if (has_alone (takes_pair parts.role) parts && is_among singles p.text) line 3 p)
-    parts.operand
+abbrev pub lacks_word : List (List ℕ) → Parts → Bool
+lacks_word singles parts = has_alone (takes_pair parts.role) parts && is_among singles (text_of parts.operand)
 
 -- ## 4: a program that runs on to a constant, or where no word stands
 -- operators that give words
@@ -112,12 +118,12 @@ abbrev pub is_jump_register : List ℕ → Bool
 is_jump_register place = same_name place (codes "4") || same_name place (codes "5") || same_name place (codes "6")
 
 -- a register of one of these places, by name, or a place of any by number
-abbrev pub is_jump_place : Piece → Bool
-is_jump_place p = option_map_or is_jump_register (value_in registers p.text) false || is_register_number p.text
+abbrev pub is_jump_place : List ℕ → Bool
+is_jump_place text = option_map_or is_jump_register (value_in registers text) false || is_register_number text
 
 -- the next word is not reached from this one
 abbrev pub leaves : Parts → Bool
-leaves parts = is_leaving parts.role || (stores parts.role && option_map_or is_jump_place parts.operand false)
+leaves parts = is_leaving parts.role || (stores parts.role && is_jump_place (text_of parts.operand))
 
 -- how many words a line gives
 abbrev pub word_count : Parts → ℕ
@@ -128,12 +134,10 @@ abbrev pub small_number : Option Number → Option ℕ
 small_number (Some (Small n)) = Some n
 small_number _ = None
 
-abbrev pub number_in : Option Piece → Option ℕ
-number_in field = option_and_then (λ p. small_number (option_map sized (digits_value 8 p.text))) field
-
--- the number of a line's operand, where that is so of its operator and no offset stands
+-- the number that a line's operand is in octal, where that is so of its operator and no offset stands
 abbrev pub number_beside : Bool → Parts → Option ℕ
-number_beside condition parts = if has_alone condition parts then number_in parts.operand else None
+number_beside condition parts =
+    if has_alone condition parts then small_number (option_map sized (digits_value 8 (text_of parts.operand))) else None
 
 -- the place after so many words, below the end of bank 3
 abbrev pub place_past : ℕ → Option ℕ → Option ℕ
@@ -177,11 +181,10 @@ abbrev pub with_read : List (List ℕ) → Parts → List (List ℕ)
 with_read names parts = if reads_word parts.role then with_field names parts.operand else names
 
 -- an instruction, none that is read as a word, is not left, and the lines after it do not go on with another
-abbrev pub end_warnings : List (List ℕ) → Before → List Parts → ℕ → Parts → List Warning
-end_warnings read before after line parts =
-    at_field (λ p. warned_if (is_some parts.role && is_instruction parts && not (leaves parts)
-    && not (option_map_or (λ l. is_among read l.text) parts.label false)
-    && not (goes_on_to_instruction (place_after before.place parts) (bank_after before.bank parts) after)) line 4 p) parts.operator
+abbrev pub runs_out : List (List ℕ) → Before → List Parts → Parts → Bool
+runs_out read before after parts =
+    is_some parts.role && is_instruction parts && not (leaves parts) && not (has_label read parts)
+    && not (goes_on_to_instruction (place_after before.place parts) (bank_after before.bank parts) after)
 
 -- ## 5: a vector's words that run on into the next vector
 -- the place of a vector where an interrupt enters: 4004, 4010 and so on to 4050
@@ -190,16 +193,14 @@ is_vector place = place % 4 == 0 && nat_le 0o4004 place && nat_le place 0o4050
 
 -- SETLOC and the place of a vector
 abbrev pub sets_vector : Parts → Bool
-sets_vector parts = has_alone (is_setloc parts.role) parts
-    && option_map_or (λ p. option_map_or is_vector (digits_value 8 p.text) false) parts.operand false
+sets_vector parts = has_alone (is_setloc parts.role) parts && option_map_or is_vector (digits_value 8 (text_of parts.operand)) false
 
 -- after the four words of a vector another stands, and the fourth is not left
 abbrev pub is_overrun : Option ℕ → Bool → Bool
 is_overrun filled left = option_map_or (nat_le 4) filled false && not left
 
-abbrev pub vector_warnings : Before → ℕ → Parts → List Warning
-vector_warnings before line parts = at_field (λ p. warned_if (is_overrun before.filled before.left && gives_word parts) line 5 p)
-    parts.operator
+abbrev pub overruns : Before → Parts → Bool
+overruns before parts = is_overrun before.filled before.left && gives_word parts
 
 -- ## 6 and 9: a word of a switched bank, where no line sets EB or FB
 -- the region of a place as SETLOC takes it: EB leads to those of erasable memory from 1400 on, and banks 2 and 3 are reached whatever FB
@@ -212,16 +213,16 @@ region_of_place place = if nat_lt place 0o1400 then Elsewhere else if nat_lt pla
 abbrev pub region_of_bank : ℕ → Region
 region_of_bank bank = if bank == 2 || bank == 3 then Common else if nat_lt 0 bank && nat_lt bank 0o44 then SwitchedFixed else Elsewhere
 
--- the region of a number in octal, and elsewhere by any other field
-abbrev pub region_at : (ℕ → Region) → Option Piece → Region
-region_at region_of field = option_map_or (λ p. option_map_or region_of (digits_value 8 p.text) Elsewhere) field Elsewhere
+-- the region of a number in octal, and elsewhere by any other text
+abbrev pub region_at : (ℕ → Region) → List ℕ → Region
+region_at region_of text = option_map_or region_of (digits_value 8 text) Elsewhere
 
 -- where words stand after a line, by where they do before it
 abbrev pub region_after : Region → Parts → Region
 region_after region parts =
-    if has_alone (is_setloc parts.role) parts then region_at region_of_place parts.operand
+    if has_alone (is_setloc parts.role) parts then region_at region_of_place (text_of parts.operand)
     else if is_setloc parts.role then Elsewhere
-    else if names_bank parts.role then region_at region_of_bank parts.operand
+    else if names_bank parts.role then region_at region_of_bank (text_of parts.operand)
     else region
 
 abbrev pub is_common : Region → Bool
@@ -262,8 +263,8 @@ is_bank_number register text = option_map_or (is_bank_place register) (digits_va
 -- some names, and the label of a line that gives it one of these places
 abbrev pub with_bank_name : BankRegister → List (List ℕ) → Parts → List (List ℕ)
 with_bank_name register names parts =
-    if has_alone (is_equals parts.role) parts && option_map_or (λ p. is_bank_number register p.text) parts.operand false then with_field
-    names parts.label else names
+    if has_alone (is_equals parts.role) parts && is_bank_number register (text_of parts.operand)
+    then with_field names parts.label else names
 
 -- some names, and where a line stores
 abbrev pub with_stored : List (List ℕ) → Parts → List (List ℕ)
@@ -313,16 +314,13 @@ abbrev pub may_set_fixed : Banks → Bool
 may_set_fixed banks = may_set Fb banks.fixed_registers banks
 
 -- an instruction on a word of a switched erasable bank, where no line sets EB
-abbrev pub erasable_warnings : Names → ℕ → Parts → List Warning
-erasable_warnings names line parts =
-    at_field (λ p. warned_if (not names.sets_erasable && is_instruction parts && is_among names.banks.erasable p.text) line 6 p)
-    parts.operand
+abbrev pub needs_erasable_bank : Names → Parts → Bool
+needs_erasable_bank names parts = not names.sets_erasable && is_instruction parts && is_among names.banks.erasable (text_of parts.operand)
 
 -- an instruction of banks 2 and 3 on a place of a switched bank of fixed memory, where no line sets FB
-abbrev pub fixed_warnings : Names → Region → ℕ → Parts → List Warning
-fixed_warnings names region line parts =
-    at_field (λ p. warned_if (not names.sets_fixed && is_common region && is_instruction parts && is_among names.banks.fixed p.text) line 9
-    p) parts.operand
+abbrev pub needs_fixed_bank : Names → Region → Parts → Bool
+needs_fixed_bank names region parts =
+    not names.sets_fixed && is_common region && is_instruction parts && is_among names.banks.fixed (text_of parts.operand)
 
 -- ## 7: a register's name at another place
 -- two numbers in octal are the same
@@ -342,33 +340,31 @@ is_zero text = same_name text (codes "ZERO")
 abbrev pub is_elsewhere : Option ℕ → List ℕ → Parts → Bool
 is_elsewhere place register parts =
     if is_equals parts.role
-    then has_alone (is_equals parts.role) parts && option_map_or
-    (λ p. is_some (digits_value 8 p.text) && not (is_same_number p.text register)) parts.operand false
+    then has_alone (is_equals parts.role) parts && is_some (digits_value 8 (text_of parts.operand))
+    && not (is_same_number (text_of parts.operand) register)
     else not (is_same_known place (small_number (option_map sized (digits_value 8 register))))
 
-abbrev pub register_warnings : Option ℕ → ℕ → Parts → List Warning
-register_warnings place line parts =
-    at_field (λ p. warned_if (not (is_zero p.text)
-    && option_map_or (λ register. is_elsewhere place register parts) (value_in registers p.text) false) line 7 p) parts.label
+abbrev pub takes_register : Option ℕ → Parts → Bool
+takes_register place parts =
+    option_map_or (λ register. not (is_zero (text_of parts.label)) && is_elsewhere place register parts)
+    (value_in registers (text_of parts.label)) false
 
 -- ## 8: a label that no operand names
-abbrev pub unused_warnings : List (List ℕ) → ℕ → Parts → List Warning
-unused_warnings operands line parts = at_field (λ p. warned_if (is_short p.text && not (is_among operands p.text)) line 8 p) parts.label
+abbrev pub is_unused : List (List ℕ) → Parts → Bool
+is_unused operands parts = is_short (text_of parts.label) && not (is_among operands (text_of parts.label))
 
 -- ## 10: a word that is written on a channel which is a register, and so does not go out
 -- octal digits of channel 1 or 2, which are L and Q
 abbrev pub is_register_channel : List ℕ → Bool
 is_register_channel text = option_map_or (λ number. nat_le 1 number && nat_le number 2) (digits_value 8 text) false
 
-abbrev pub output_warnings : ℕ → Parts → List Warning
-output_warnings line parts = at_field (λ p. warned_if (has_alone (writes_channel parts.role) parts && is_register_channel p.text) line 10 p)
-    parts.operand
+abbrev pub stays_inside : Parts → Bool
+stays_inside parts = has_alone (writes_channel parts.role) parts && is_register_channel (text_of parts.operand)
 
 -- ## 11: a constant or an address at 4000, where a run starts, while an instruction stands in the source
-abbrev pub start_warnings : Bool → Option ℕ → ℕ → Parts → List Warning
-start_warnings instructs place line parts =
-    at_field (λ p. warned_if (instructs && is_same_known place (Some 0o4000) && gives_word parts && is_constant parts.role) line 11 p)
-    parts.operator
+abbrev pub starts_with_constant : Bool → Option ℕ → Parts → Bool
+starts_with_constant instructs place parts =
+    instructs && is_same_known place (Some 0o4000) && gives_word parts && is_constant parts.role
 
 -- ## 12: a routine of an interrupt that changes A, L or Q before it keeps it
 -- none, and all, of A, L and Q: those that a routine has neither kept nor changed, on the straight way from its vector
@@ -384,7 +380,7 @@ is_register_field text = is_some (value_in registers text) || is_register_number
 
 -- TC of a place that is no register
 abbrev pub calls : Parts → Bool
-calls parts = is_call parts.role && option_map_or (λ p. not (is_register_field p.text)) parts.operand false
+calls parts = is_call parts.role && is_some parts.operand && not (is_register_field (text_of parts.operand))
 
 -- FB, Z or BB by name, or a place of 3 to 6 by number
 abbrev pub is_way_register : List ℕ → Bool
@@ -392,7 +388,7 @@ is_way_register text = option_map_or is_jump_register (value_in registers text) 
 
 -- a line stores where the next instruction is found
 abbrev pub stores_way : Parts → Bool
-stores_way parts = stores parts.role && option_map_or (λ p. is_way_register p.text) parts.operand false
+stores_way parts = stores parts.role && is_way_register (text_of parts.operand)
 
 -- the next word is not reached from this one
 abbrev pub goes_elsewhere : Parts → Bool
@@ -436,7 +432,7 @@ abbrev pub is_resume_number : List ℕ → Bool
 is_resume_number text = option_map_or (λ number. number == 0o17 || number == 0o50017) (digits_value 8 text) false
 
 abbrev pub may_resume : Parts → Bool
-may_resume parts = resumes parts.role || option_map_or (λ p. is_resume_number p.text) parts.operand false
+may_resume parts = resumes parts.role || is_resume_number (text_of parts.operand)
 
 -- what the lines so far say of routines of interrupts
 abbrev pub no_handlers : Handlers
@@ -466,10 +462,6 @@ handlers_after handlers parts = record {
 abbrev pub handlers_of : List Parts → Handlers
 handlers_of lines = fold (λ handlers parts. handlers_after handlers parts) no_handlers lines
 
--- the label of a line is one of some names
-abbrev pub has_label : List (List ℕ) → Parts → Bool
-has_label names parts = option_map_or (λ l. is_among names l.text) parts.label false
-
 -- what is unkept at a line, where a way from a vector comes straight or by a jump
 abbrev pub unkept_at : Handlers → Unkept → Parts → Unkept
 unkept_at handlers unkept parts =
@@ -484,25 +476,22 @@ unkept_at handlers unkept parts =
 abbrev pub loses : Unkept → Parts → Bool
 loses unkept parts = (unkept.a && changes_a parts.role) || (unkept.l && changes_l parts.role) || (unkept.q && calls parts)
 
-abbrev pub kept_warnings : Handlers → Unkept → ℕ → Parts → List Warning
-kept_warnings handlers unkept line parts =
-    at_field (λ p. warned_if (handlers.resumes && loses (unkept_at handlers unkept parts) parts) line 12 p) parts.operator
+abbrev pub loses_unkept : Handlers → Unkept → Parts → Bool
+loses_unkept handlers unkept parts = handlers.resumes && loses (unkept_at handlers unkept parts) parts
 
 -- ## 13: an interrupt that does not end: an instruction at a vector, without a label, while RELINT stands in the source and RESUME does
 -- not
 abbrev pub is_begun : Option ℕ → Bool
 is_begun filled = option_map_or (λ count. count == 0) filled false
 
-abbrev pub handler_warnings : Handlers → Option ℕ → ℕ → Parts → List Warning
-handler_warnings handlers filled line parts =
-    at_field (λ p. warned_if (handlers.relints && not handlers.may_resume && is_begun filled && is_instruction parts
-    && not (is_some parts.label)) line 13 p) parts.operator
+abbrev pub is_endless : Handlers → Option ℕ → Parts → Bool
+is_endless handlers filled parts =
+    handlers.relints && not handlers.may_resume && is_begun filled && is_instruction parts && not (is_some parts.label)
 
 -- ## 14: the program runs on over the vectors, to 4004, while RELINT stands in the source and no SETLOC to a vector does
-abbrev pub crossing_warnings : Handlers → Option ℕ → Bool → ℕ → Parts → List Warning
-crossing_warnings handlers place left line parts =
-    at_field (λ p. warned_if (handlers.relints && not handlers.vectors && is_same_known place (Some 0o4004) && not left
-    && is_instruction parts) line 14 p) parts.operator
+abbrev pub crosses : Handlers → Option ℕ → Bool → Parts → Bool
+crosses handlers place left parts =
+    handlers.relints && not handlers.vectors && is_same_known place (Some 0o4004) && not left && is_instruction parts
 
 -- ## 15: a word reserved at a place where an earlier line reserves one
 -- some places and one more
@@ -535,23 +524,19 @@ reserved_after reserved parts = record {
 abbrev pub reserved_of : List Parts → Reserved
 reserved_of lines = fold (λ reserved parts. reserved_after reserved parts) none_reserved lines
 
-abbrev pub again_warnings : Reserved → ℕ → Parts → List Warning
-again_warnings reserved line parts = at_field (λ p. warned_if (reserves_one parts && is_among reserved.again p.text) line 15 p) parts.label
+abbrev pub stands_again : Reserved → Parts → Bool
+stands_again reserved parts = reserves_one parts && is_among reserved.again (text_of parts.label)
 
 -- ## 16: a word behind a jump, to which nothing leads
--- a sign stands first
-abbrev pub is_signed_text : List ℕ → Bool
-is_signed_text text = option_map_or (λ first. first == 0o53 || first == 0o55) (slice_get text 0) false
-
 -- an operand that names no label: a number, a place beside the line, or a register but Q
 abbrev pub is_unnamed : List ℕ → Bool
-is_unnamed text = is_some (digits_value 8 text) || is_signed_text text
+is_unnamed text = is_some (digits_value 8 text) || is_signed text
     || option_map_or (λ place. not (same_name place (codes "2"))) (value_in registers text) false
 
 -- a jump to no label, with an offset or after INDEX
 abbrev pub jumps_unnamed : Bool → Parts → Bool
 jumps_unnamed indexed parts =
-    leads_on_to parts.role && (indexed || is_some parts.offset || option_map_or (λ p. is_unnamed p.text) parts.operand false)
+    leads_on_to parts.role && (indexed || is_some parts.offset || is_unnamed (text_of parts.operand))
 
 -- an address or a name with an offset
 abbrev pub names_beyond : Parts → Bool
@@ -607,10 +592,9 @@ may_enter None bank = option_map_or (λ b. b == 2) bank true
 abbrev pub is_work : Parts → Bool
 is_work parts = is_instruction parts && not (is_jump parts.role || is_call parts.role || is_idle parts.role)
 
-abbrev pub unreached_warnings : Bool → Before → ℕ → Parts → List Warning
-unreached_warnings unnamed before line parts =
-    at_field (λ p. warned_if (not unnamed && before.behind && before.skips == 0 && is_work parts && not (is_some parts.label)
-    && not (may_enter before.place before.bank)) line 16 p) parts.operator
+abbrev pub is_unreached : Bool → Before → Parts → Bool
+is_unreached unnamed before parts = not unnamed && before.behind && before.skips == 0 && is_work parts && not (is_some parts.label)
+    && not (may_enter before.place before.bank)
 
 -- ## What stands before a line
 -- how many words a vector has after a line, or nothing where none is filled
@@ -667,31 +651,44 @@ abbrev pub is_standard : Language → Bool
 is_standard Standard = true
 is_standard Flight = false
 
--- the warnings of a line's label; of one that nothing names where they are asked for
+-- the warnings of a line's label: of an operator's name, of a register's, of a word that stands again, and of one that nothing names
+-- where that is asked for
 abbrev pub name_warnings : Language → Bool → Names → Before → ℕ → Parts → List Warning
-name_warnings language unused names before line parts = label_warnings language line parts ++ register_warnings before.place line parts
-    ++ (if is_standard language then again_warnings names.reserved line parts else [])
-    ++ (if unused then unused_warnings names.operands line parts else [])
+name_warnings language unused names before line parts =
+    warned_if (is_operator_of language (text_of parts.label)) line 1 parts.label
+    ++ warned_if (takes_register before.place parts) line 7 parts.label
+    ++ warned_if (is_standard language && stands_again names.reserved parts) line 15 parts.label
+    ++ warned_if (unused && is_unused names.operands parts) line 8 parts.label
 
 -- those of routines of interrupts, of their vectors, and of what is never reached
 abbrev pub way_warnings : Names → Before → ℕ → Parts → List Warning
 way_warnings names before line parts =
-    kept_warnings names.handlers before.unkept line parts ++ handler_warnings names.handlers before.filled line parts
-    ++ crossing_warnings names.handlers before.place before.left line parts
-    ++ unreached_warnings names.leads.unnamed before line parts
+    warned_if (loses_unkept names.handlers before.unkept parts) line 12 parts.operator
+    ++ warned_if (is_endless names.handlers before.filled parts) line 13 parts.operator
+    ++ warned_if (crosses names.handlers before.place before.left parts) line 14 parts.operator
+    ++ warned_if (is_unreached names.leads.unnamed before parts) line 16 parts.operator
 
 -- the warnings of its operator, by what stands before it and the lines after it
 abbrev pub flow_warnings : Language → Names → Before → List Parts → ℕ → Parts → List Warning
 flow_warnings language names before after line parts
-    = (if is_standard language then end_warnings names.read before after line parts
-    ++ start_warnings names.banks.instructs before.place line parts ++ way_warnings names before line parts else [])
-    ++ vector_warnings before line parts
+    = (if is_standard language then warned_if (runs_out names.read before after parts) line 4 parts.operator
+    ++ warned_if (starts_with_constant names.banks.instructs before.place parts) line 11 parts.operator
+    ++ way_warnings names before line parts else [])
+    ++ warned_if (overruns before parts) line 5 parts.operator
+
+-- those of a bank that is not set, and of a channel that is a register
+abbrev pub place_warnings : Names → Before → ℕ → Parts → List Warning
+place_warnings names before line parts =
+    warned_if (needs_erasable_bank names parts) line 6 parts.operand
+    ++ warned_if (needs_fixed_bank names before.region parts) line 9 parts.operand
+    ++ warned_if (stays_inside parts) line 10 parts.operand
 
 -- the warnings of its operand
 abbrev pub operand_warnings : Names → Before → ℕ → Parts → List Warning
 operand_warnings names before line parts =
-    number_warnings before.indexed line parts ++ pair_warnings names.singles line parts ++ erasable_warnings names line parts
-    ++ fixed_warnings names before.region line parts ++ output_warnings line parts
+    warned_if (reads_number before.indexed parts) line 2 parts.operand
+    ++ warned_if (lacks_word names.singles parts) line 3 parts.operand
+    ++ place_warnings names before line parts
 
 -- the warnings of a line, in the order of its fields
 abbrev pub line_warnings : Language → Bool → Names → Before → List Parts → ℕ → Parts → List Warning

@@ -1,29 +1,26 @@
 //! Likely mistakes in where a program goes on: to a constant, or from a vector into the next.
 
-ghost use Rattle.std.specs.Prelude.{◌≡◌, ◌≤◌, ◌++◌, map, false, OnOk, Some};
+ghost use Rattle.std.specs.Prelude.{◌≡◌, ◌≤◌, map, false};
 ghost use Rattle.yayul.specs.Readings.{parts_in};
 ghost use Rattle.faults.specs.Warnings.{gives_word, is_instruction, is_jump_register, is_jump_place, leaves};
-ghost use Rattle.faults.specs.Warnings.{goes_on_to_instruction, end_warnings, is_vector, sets_vector, word_count};
-ghost use Rattle.faults.specs.Warnings.{is_overrun, vector_warnings, filled_after, before_next, at_start};
-ghost use Rattle.faults.specs.Warnings.{is_among, is_same_known, start_warnings};
+ghost use Rattle.faults.specs.Warnings.{goes_on_to_instruction, runs_out, is_vector, sets_vector, word_count};
+ghost use Rattle.faults.specs.Warnings.{is_overrun, overruns, filled_after, before_next, at_start, starts_with_constant};
 ghost use Rattle.agc_text.specs.Digits.{digits_value};
 ghost use Rattle.agc_text.specs.Tables.{value_in};
-ghost use Rattle.agc_text.specs.Views.{piece};
 ghost use Rattle.symbols.specs.Registers.{registers};
-ghost use Rattle.std.specs.Option.{option_map, option_map_or};
+ghost use Rattle.std.specs.Option.{option_map_or};
 
-use crate::handlers::{Handlers, Unkept};
-use crate::mistakes::{has_alone, indexed_after, is_register_number, warn_if};
+use crate::causes::text_of;
+use crate::handlers::{Handlers, Unkept, has_label};
+use crate::mistakes::{has_alone, indexed_after, is_register_number};
 use crate::names::NameSet;
 use crate::roles::{
     gives_two, is_constant, is_leaving, is_setloc, keeps_location, moves_location, stores,
 };
-use crate::standing::{bank_after, leads_on, place_after};
+use crate::standing::{bank_after, is_same_known, leads_on, place_after};
 use crate::switched::{Region, region_after};
-use crate::told::Warning;
 use crate::unreached::{behind_after, skips_after};
-use agc_text::{Field, Number, octal_value};
-use std::alloc::AllocError;
+use agc_text::{Number, octal_value};
 use symbols::register_place;
 use yayul::Reading;
 
@@ -121,22 +118,11 @@ pub(crate) fn word_count(parts: &Reading<'_>) -> u8
     }
 }
 
-/// A word that stands behind the four of a vector, where these go on to it.
-pub(crate) fn warn_of_vector(
-    before: Before,
-    line: u32,
-    parts: &Reading<'_>,
-    found: &mut Vec<Warning>,
-) -> Result<(), AllocError>
-    ensures { OnOk result (found.new.items ≡ found.old.items ++ vector_warnings before line (parts_in parts.now)) }
+/// Whether a word stands behind the four of a vector, where these go on to it.
+pub(crate) fn overruns(before: Before, parts: &Reading<'_>) -> bool
+    ensures { result ≡ overruns before (parts_in parts.now) }
 {
-    match parts.operator {
-        Some(operator) => {
-            let runs_on = is_overrun(before) && gives_word(parts);
-            warn_if(runs_on, line, 5, operator, found)
-        }
-        None => Ok(()),
-    }
+    is_overrun(before) && gives_word(parts)
 }
 
 fn is_overrun(before: Before) -> bool
@@ -149,10 +135,7 @@ fn is_overrun(before: Before) -> bool
 pub(crate) fn sets_vector(parts: &Reading<'_>) -> bool
     ensures { result ≡ sets_vector (parts_in parts.now) }
 {
-    match parts.operand {
-        Some(operand) => has_alone(is_setloc(parts.role), parts) && is_vector(operand.text),
-        None => false,
-    }
+    has_alone(is_setloc(parts.role), parts) && is_vector(text_of(parts.operand))
 }
 
 // The place of a vector where an interrupt enters.
@@ -169,73 +152,31 @@ pub(crate) fn is_vector_place(place: u32) -> bool
     place % 4 == 0 && (0o4004..=0o4050).contains(&place)
 }
 
-/// An instruction that goes on to a constant, or where no word stands.
-pub(crate) fn warn_of_end(
+/// Whether an instruction goes on to a constant, or where no word stands.
+pub(crate) fn runs_out(
     read: &NameSet,
     before: Before,
     after: &[Reading<'_>],
-    line: u32,
     parts: &Reading<'_>,
-    found: &mut Vec<Warning>,
-) -> Result<(), AllocError>
-    ensures { OnOk result (found.new.items
-        ≡ found.old.items ++ end_warnings read.now before (map parts_in after.now) line (parts_in parts.now)) }
+) -> bool
+    ensures { result ≡ runs_out read.now before (map parts_in after.now) (parts_in parts.now) }
 {
-    match parts.operator {
-        Some(operator) => {
-            let ends = parts.role.is_some()
-                && is_instruction(parts)
-                && !leaves(parts)
-                && !is_read(read, parts)
-                && !goes_on_to_instruction(
-                    place_after(before.place, parts),
-                    bank_after(before.bank, parts),
-                    after,
-                );
-            warn_if(ends, line, 4, operator, found)
-        }
-        None => Ok(()),
-    }
+    parts.role.is_some()
+        && is_instruction(parts)
+        && !leaves(parts)
+        && !has_label(read, parts)
+        && !goes_on_to_instruction(
+            place_after(before.place, parts),
+            bank_after(before.bank, parts),
+            after,
+        )
 }
 
-/// A constant or an address where a run starts, while an instruction stands in the source.
-pub(crate) fn warn_of_start(
-    instructs: bool,
-    place: Option<u32>,
-    line: u32,
-    parts: &Reading<'_>,
-    found: &mut Vec<Warning>,
-) -> Result<(), AllocError>
-    ensures { OnOk result (found.new.items
-        ≡ found.old.items ++ start_warnings instructs place line (parts_in parts.now)) }
+/// Whether a constant or an address stands where a run starts, while an instruction stands in the source.
+pub(crate) fn starts_with_constant(instructs: bool, place: Option<u32>, parts: &Reading<'_>) -> bool
+    ensures { result ≡ starts_with_constant instructs place (parts_in parts.now) }
 {
-    match parts.operator {
-        Some(operator) => {
-            let starts = instructs
-                && is_start(place)
-                && gives_word(parts)
-                && is_constant(parts.role);
-            warn_if(starts, line, 11, operator, found)
-        }
-        None => Ok(()),
-    }
-}
-
-// Whether a place is known to be the one where a run starts.
-fn is_start(place: Option<u32>) -> bool
-    ensures { result ≡ is_same_known place (Some 0o4000) }
-{
-    matches!(place, Some(0o4000))
-}
-
-// Whether the label of a line is among those that are read.
-fn is_read(read: &NameSet, parts: &Reading<'_>) -> bool
-    ensures { result ≡ option_map_or (λ l. is_among read.now l.text) (parts_in parts.now).label false }
-{
-    match parts.label {
-        Some(label) => read.has(label.text),
-        None => false,
-    }
+    instructs && is_same_known(place, Some(0o4000)) && gives_word(parts) && is_constant(parts.role)
 }
 
 // Whether of some lines the first that gives words or moves the location to another place gives an instruction.
@@ -271,17 +212,14 @@ pub fn is_instruction(parts: &Reading<'_>) -> bool
 fn leaves(parts: &Reading<'_>) -> bool
     ensures { result ≡ leaves (parts_in parts.now) }
 {
-    is_leaving(parts.role) || (stores(parts.role) && names_jump_place(parts.operand))
+    is_leaving(parts.role) || (stores(parts.role) && is_jump_place(text_of(parts.operand)))
 }
 
-// Whether a field is a place whose change may lead elsewhere.
-fn names_jump_place(field: Option<Field<'_>>) -> bool
-    ensures { result ≡ option_map_or is_jump_place (option_map piece field.entry) false }
+// Whether a text is a place whose change may lead elsewhere.
+fn is_jump_place(text: &[u8]) -> bool
+    ensures { result ≡ is_jump_place text.now }
 {
-    match field {
-        Some(field) => is_jump_name(field.text) || is_register_number(field.text),
-        None => false,
-    }
+    is_jump_name(text) || is_register_number(text)
 }
 
 /// Whether a text is the name of a register whose change may lead elsewhere.

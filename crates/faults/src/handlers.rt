@@ -1,28 +1,26 @@
 //! Likely mistakes in routines of interrupts: what they do not keep, that they do not end, and a program that runs over
 //! the places where they are entered.
 
-ghost use Rattle.std.specs.Prelude.{◌≡◌, ◌++◌, ◌&&◌, not, false, Some, OnOk};
-ghost use Rattle.std.specs.Option.{option_map, option_map_or};
-ghost use Rattle.agc_text.specs.Views.{piece};
+ghost use Rattle.std.specs.Prelude.{◌≡◌, ◌&&◌, not, OnOk};
 ghost use Rattle.yayul.specs.Readings.{parts_in};
 ghost use Rattle.faults.specs.Warnings.{all_unkept, none_unkept};
 ghost use Rattle.faults.specs.Warnings.{is_register_field, calls, is_way_register, stores_way, goes_elsewhere};
 ghost use Rattle.faults.specs.Warnings.{unkept_after, unkept_at, unkept_less, on_straight};
 ghost use Rattle.faults.specs.Warnings.{closes_a, closes_l};
 ghost use Rattle.faults.specs.Warnings.{with_target, is_resume_number, may_resume, no_handlers, handlers_after};
-ghost use Rattle.faults.specs.Warnings.{has_label, loses, kept_warnings, is_begun, handler_warnings};
-ghost use Rattle.faults.specs.Warnings.{crossing_warnings, is_same_known};
+ghost use Rattle.faults.specs.Warnings.{has_label, loses, loses_unkept, is_begun, is_endless, crosses};
 
+use crate::causes::text_of;
 use crate::flow::{gives_word, is_instruction, is_jump_name, sets_vector};
-use crate::mistakes::{add_field, has_alone, is_register_number, warn_if};
+use crate::mistakes::{add_field, has_alone, is_register_number};
 use crate::names::NameSet;
 use crate::roles::{
     changes_a, changes_l, is_call, is_leaving, keeps_a, keeps_l, keeps_location, keeps_q,
     leads_to_fixed, moves_location, releases, resumes, stores,
 };
+use crate::standing::is_same_known;
 use crate::switched::{BankRegister, is_bank_number};
-use crate::told::Warning;
-use agc_text::{Field, Number, octal_value};
+use agc_text::{Number, octal_value};
 use std::alloc::{AllocError, Global};
 use symbols::register_place;
 use yayul::Reading;
@@ -178,73 +176,33 @@ impl Handlers {
         }
     }
 
-    /// A routine that changes A, L or Q before it keeps it.
-    pub(crate) fn warn_of_lost(
-        &self,
-        unkept: Unkept,
-        line: u32,
-        parts: &Reading<'_>,
-        found: &mut Vec<Warning>,
-    ) -> Result<(), AllocError>
-        ensures { OnOk result (found.new.items
-            ≡ found.old.items ++ kept_warnings self.now unkept line (parts_in parts.now)) }
+    /// Whether a routine changes A, L or Q before it keeps it.
+    pub(crate) fn loses_unkept(&self, unkept: Unkept, parts: &Reading<'_>) -> bool
+        ensures { result ≡ loses_unkept self.now unkept (parts_in parts.now) }
     {
-        match parts.operator {
-            Some(operator) => {
-                let lost = self.resumes && self.unkept_at(unkept, parts).is_lost(parts);
-                warn_if(lost, line, 12, operator, found)
-            }
-            None => Ok(()),
-        }
+        self.resumes && self.unkept_at(unkept, parts).is_lost(parts)
     }
 
-    /// An interrupt that does not end.
-    pub(crate) fn warn_of_endless(
-        &self,
-        filled: Option<u8>,
-        line: u32,
-        parts: &Reading<'_>,
-        found: &mut Vec<Warning>,
-    ) -> Result<(), AllocError>
-        ensures { OnOk result (found.new.items
-            ≡ found.old.items ++ handler_warnings self.now filled line (parts_in parts.now)) }
+    /// Whether an interrupt enters that does not end.
+    pub(crate) fn is_endless(&self, filled: Option<u8>, parts: &Reading<'_>) -> bool
+        ensures { result ≡ is_endless self.now filled (parts_in parts.now) }
     {
-        match parts.operator {
-            Some(operator) => {
-                let endless = self.relints
-                    && !self.may_resume
-                    && is_begun(filled)
-                    && is_instruction(parts)
-                    && parts.label.is_none();
-                warn_if(endless, line, 13, operator, found)
-            }
-            None => Ok(()),
-        }
+        self.relints
+            && !self.may_resume
+            && is_begun(filled)
+            && is_instruction(parts)
+            && parts.label.is_none()
     }
 
-    /// A program that runs over the vectors.
-    pub(crate) fn warn_of_crossing(
-        &self,
-        place: Option<u32>,
-        left: bool,
-        line: u32,
-        parts: &Reading<'_>,
-        found: &mut Vec<Warning>,
-    ) -> Result<(), AllocError>
-        ensures { OnOk result (found.new.items
-            ≡ found.old.items ++ crossing_warnings self.now place left line (parts_in parts.now)) }
+    /// Whether a program runs over the vectors.
+    pub(crate) fn crosses(&self, place: Option<u32>, left: bool, parts: &Reading<'_>) -> bool
+        ensures { result ≡ crosses self.now place left (parts_in parts.now) }
     {
-        match parts.operator {
-            Some(operator) => {
-                let crosses = self.relints
-                    && !self.vectors
-                    && is_first_vector(place)
-                    && !left
-                    && is_instruction(parts);
-                warn_if(crosses, line, 14, operator, found)
-            }
-            None => Ok(()),
-        }
+        self.relints
+            && !self.vectors
+            && is_same_known(place, Some(0o4004))
+            && !left
+            && is_instruction(parts)
     }
 }
 
@@ -276,27 +234,11 @@ fn is_begun(filled: Option<u8>) -> bool
     matches!(filled, Some(0))
 }
 
-// Whether a place is known to be the first where an interrupt enters.
-fn is_first_vector(place: Option<u32>) -> bool
-    ensures { result ≡ is_same_known place (Some 0o4004) }
-{
-    matches!(place, Some(0o4004))
-}
-
 // RESUME, or a number by which it can be made.
 fn may_resume(parts: &Reading<'_>) -> bool
     ensures { result ≡ may_resume (parts_in parts.now) }
 {
-    resumes(parts.role) || names_resume(parts.operand)
-}
-
-fn names_resume(field: Option<Field<'_>>) -> bool
-    ensures { result ≡ option_map_or (λ p. is_resume_number p.text) (option_map piece field.entry) false }
-{
-    match field {
-        Some(field) => is_resume_number(field.text),
-        None => false,
-    }
+    resumes(parts.role) || is_resume_number(text_of(parts.operand))
 }
 
 fn is_resume_number(text: &[u8]) -> bool
@@ -309,10 +251,7 @@ fn is_resume_number(text: &[u8]) -> bool
 fn calls(parts: &Reading<'_>) -> bool
     ensures { result ≡ calls (parts_in parts.now) }
 {
-    match parts.operand {
-        Some(operand) => is_call(parts.role) && !is_register_field(operand.text),
-        None => false,
-    }
+    is_call(parts.role) && parts.operand.is_some() && !is_register_field(text_of(parts.operand))
 }
 
 // A register or a counter, by name or by number.
@@ -333,10 +272,7 @@ pub(crate) fn goes_elsewhere(parts: &Reading<'_>) -> bool
 pub(crate) fn stores_way(parts: &Reading<'_>) -> bool
     ensures { result ≡ stores_way (parts_in parts.now) }
 {
-    match parts.operand {
-        Some(operand) => stores(parts.role) && is_way_register(operand.text),
-        None => false,
-    }
+    stores(parts.role) && is_way_register(text_of(parts.operand))
 }
 
 // FB, Z or BB by name, or a place of 3 to 6 by number.

@@ -4,23 +4,24 @@ ghost use Rattle.std.specs.Prelude.{◌≡◌, ◌+◌, ◌<◌, ◌≤◌, ◌+
 ghost use Rattle.std.specs.Option.{option_map};
 ghost use Rattle.agc_text.specs.Views.{piece};
 ghost use Rattle.yayul.specs.Readings.{parts_in};
-ghost use Rattle.faults.specs.Warnings.{is_among, has_operator, has_alone, warned_if, label_warnings};
-ghost use Rattle.faults.specs.Warnings.{is_register_number, indexed_after, number_warnings, reserves_one, with_field};
-ghost use Rattle.faults.specs.Warnings.{with_single, pair_warnings, unused_warnings, name_warnings, flow_warnings};
-ghost use Rattle.faults.specs.Warnings.{operand_warnings, erasable_warnings, fixed_warnings, with_read, banks_after};
+ghost use Rattle.faults.specs.Warnings.{is_among, has_operator, has_alone, warned_if, is_standard, is_unused};
+ghost use Rattle.faults.specs.Warnings.{is_register_number, indexed_after, reads_number, reserves_one, with_field};
+ghost use Rattle.faults.specs.Warnings.{with_single, lacks_word, name_warnings, flow_warnings};
+ghost use Rattle.faults.specs.Warnings.{operand_warnings, place_warnings, with_read, banks_after, needs_erasable_bank};
 ghost use Rattle.faults.specs.Warnings.{names_of, at_start, line_warnings, lines_apart, warned_lines, warnings};
-ghost use Rattle.faults.specs.Warnings.{handlers_after, reserved_after, leads_after, way_warnings};
+ghost use Rattle.faults.specs.Warnings.{handlers_after, reserved_after, leads_after, way_warnings, needs_fixed_bank};
 
-use crate::flow::{Before, is_instruction, warn_of_end, warn_of_start, warn_of_vector};
+use crate::causes::text_of;
+use crate::flow::{Before, is_instruction, overruns, runs_out, starts_with_constant};
 use crate::handlers::Handlers;
 use crate::names::{NameSet, is_among, is_short};
-use crate::outputs::warn_of_output;
-use crate::registers::warn_of_register;
+use crate::outputs::stays_inside;
+use crate::registers::takes_register;
 use crate::reserved::Reserved;
 use crate::roles::{is_erase, is_index, keeps_location, reads, reads_word, takes_pair};
 use crate::switched::{Banks, Region, is_common};
 use crate::told::Warning;
-use crate::unreached::{Leads, warn_of_unreached};
+use crate::unreached::{Leads, is_unreached};
 use agc_text::{Field, Number, next_line, octal_value};
 use std::alloc::{AllocError, Global};
 use yayul::{Language, Reading, Span, is_operator, most_lines, reading_of};
@@ -193,13 +194,13 @@ impl Names {
             ≡ found.old.items ++ line_warnings language unused self.now before (map parts_in after.now) line
             (parts_in parts.now)) }
     {
-        self.warn_of_names(language, unused, before, line, parts, found)?;
+        self.warn_of_label(language, unused, before, line, parts, found)?;
         self.warn_of_flow(language, before, after, line, parts, found)?;
         self.warn_of_operand(before, line, parts, found)
     }
 
     // Appends those of its label.
-    fn warn_of_names(
+    fn warn_of_label(
         &self,
         language: Language,
         unused: bool,
@@ -211,15 +212,13 @@ impl Names {
         ensures { OnOk result (found.new.items
             ≡ found.old.items ++ name_warnings language unused self.now before line (parts_in parts.now)) }
     {
-        warn_of_label(language, line, parts, found)?;
-        warn_of_register(before.place, line, parts, found)?;
-        if matches!(language, Language::Standard) {
-            self.reserved.warn_of_again(line, parts, found)?;
-        }
-        if unused {
-            warn_of_unused(&self.operands, line, parts, found)?;
-        }
-        Ok(())
+        let label = parts.label;
+        let again = is_standard(language) && self.reserved.has_again(parts);
+        let unnamed = unused && is_unused(&self.operands, parts);
+        warn_if(is_operator(language, text_of(label)), line, 1, label, found)?;
+        warn_if(takes_register(before.place, parts), line, 7, label, found)?;
+        warn_if(again, line, 15, label, found)?;
+        warn_if(unnamed, line, 8, label, found)
     }
 
     // Appends those of its operator.
@@ -236,12 +235,15 @@ impl Names {
             ≡ found.old.items ++ flow_warnings language self.now before (map parts_in after.now) line
             (parts_in parts.now)) }
     {
-        if matches!(language, Language::Standard) {
-            warn_of_end(&self.read, before, after, line, parts, found)?;
-            warn_of_start(self.banks.instructs, before.place, line, parts, found)?;
+        if is_standard(language) {
+            let instructs = self.banks.instructs;
+            let starts = starts_with_constant(instructs, before.place, parts);
+            let ends = runs_out(&self.read, before, after, parts);
+            warn_if(ends, line, 4, parts.operator, found)?;
+            warn_if(starts, line, 11, parts.operator, found)?;
             self.warn_of_ways(before, line, parts, found)?;
         }
-        warn_of_vector(before, line, parts, found)
+        warn_if(overruns(before, parts), line, 5, parts.operator, found)
     }
 
     // Appends those of routines of interrupts, of their vectors, and of what is never reached.
@@ -255,11 +257,15 @@ impl Names {
         ensures { OnOk result (found.new.items
             ≡ found.old.items ++ way_warnings self.now before line (parts_in parts.now)) }
     {
-        let handlers = &self.handlers;
-        handlers.warn_of_lost(before.unkept, line, parts, found)?;
-        handlers.warn_of_endless(before.filled, line, parts, found)?;
-        handlers.warn_of_crossing(before.place, before.left, line, parts, found)?;
-        warn_of_unreached(self.leads.unnamed, before, line, parts, found)
+        let operator = parts.operator;
+        let lost = self.handlers.loses_unkept(before.unkept, parts);
+        let endless = self.handlers.is_endless(before.filled, parts);
+        let crosses = self.handlers.crosses(before.place, before.left, parts);
+        let unreached = is_unreached(self.leads.unnamed, before, parts);
+        warn_if(lost, line, 12, operator, found)?;
+        warn_if(endless, line, 13, operator, found)?;
+        warn_if(crosses, line, 14, operator, found)?;
+        warn_if(unreached, line, 16, operator, found)
     }
 
     // Appends those of its operand.
@@ -273,55 +279,49 @@ impl Names {
         ensures { OnOk result (found.new.items
             ≡ found.old.items ++ operand_warnings self.now before line (parts_in parts.now)) }
     {
-        warn_of_number(before.indexed, line, parts, found)?;
-        warn_of_pair(&self.singles, line, parts, found)?;
-        self.warn_of_erasable(line, parts, found)?;
-        self.warn_of_fixed(before.region, line, parts, found)?;
-        warn_of_output(line, parts, found)
+        let is_read = reads_number(before.indexed, parts);
+        let lacks = lacks_word(&self.singles, parts);
+        warn_if(is_read, line, 2, parts.operand, found)?;
+        warn_if(lacks, line, 3, parts.operand, found)?;
+        self.warn_of_place(before, line, parts, found)
     }
 
-    // Appends that of a word in a switched erasable bank, where no line sets EB.
-    fn warn_of_erasable(
+    // Appends those of a bank that is not set, and of a channel that is a register.
+    fn warn_of_place(
         &self,
+        before: Before,
         line: u32,
         parts: &Reading<'_>,
         found: &mut Vec<Warning>,
     ) -> Result<(), AllocError>
         ensures { OnOk result (found.new.items
-            ≡ found.old.items ++ erasable_warnings self.now line (parts_in parts.now)) }
+            ≡ found.old.items ++ place_warnings self.now before line (parts_in parts.now)) }
     {
-        match parts.operand {
-            Some(operand) => {
-                let reached = !self.sets_erasable
-                    && self.banks.erasable.has(operand.text)
-                    && is_instruction(parts);
-                warn_if(reached, line, 6, operand, found)
-            }
-            None => Ok(()),
-        }
+        let erasable = self.needs_erasable_bank(parts);
+        let fixed = self.needs_fixed_bank(before.region, parts);
+        let stays = stays_inside(parts);
+        warn_if(erasable, line, 6, parts.operand, found)?;
+        warn_if(fixed, line, 9, parts.operand, found)?;
+        warn_if(stays, line, 10, parts.operand, found)
     }
 
-    // Appends that of a place in a switched bank of fixed memory, where no line sets FB.
-    fn warn_of_fixed(
-        &self,
-        region: Region,
-        line: u32,
-        parts: &Reading<'_>,
-        found: &mut Vec<Warning>,
-    ) -> Result<(), AllocError>
-        ensures { OnOk result (found.new.items
-            ≡ found.old.items ++ fixed_warnings self.now region line (parts_in parts.now)) }
+    // Whether a line reaches a word in a switched erasable bank, where none sets EB.
+    fn needs_erasable_bank(&self, parts: &Reading<'_>) -> bool
+        ensures { result ≡ needs_erasable_bank self.now (parts_in parts.now) }
     {
-        match parts.operand {
-            Some(operand) => {
-                let reached = !self.sets_fixed
-                    && is_common(region)
-                    && self.banks.fixed.has(operand.text)
-                    && is_instruction(parts);
-                warn_if(reached, line, 9, operand, found)
-            }
-            None => Ok(()),
-        }
+        !self.sets_erasable
+            && self.banks.erasable.has(text_of(parts.operand))
+            && is_instruction(parts)
+    }
+
+    // Whether a line of banks 2 and 3 reaches a place in a switched bank of fixed memory, where none sets FB.
+    fn needs_fixed_bank(&self, region: Region, parts: &Reading<'_>) -> bool
+        ensures { result ≡ needs_fixed_bank self.now region (parts_in parts.now) }
+    {
+        !self.sets_fixed
+            && is_common(region)
+            && self.banks.fixed.has(text_of(parts.operand))
+            && is_instruction(parts)
     }
 }
 
@@ -343,29 +343,40 @@ pub(crate) fn add_field(names: &mut NameSet, field: Option<Field<'_>>) -> Result
     }
 }
 
-/// Appends a warning of a number at a field of a line, where a condition holds.
-pub(crate) fn warn_if(
+// Appends a warning of a number at a field of a line, where it stands and a condition holds.
+fn warn_if(
     condition: bool,
     line: u32,
     number: u8,
-    field: Field<'_>,
+    field: Option<Field<'_>>,
     found: &mut Vec<Warning>,
 ) -> Result<(), AllocError>
-    ensures { OnOk result (found.new.items ≡ found.old.items ++ warned_if condition line number (piece field.entry)) }
+    ensures { OnOk result (found.new.items
+        ≡ found.old.items ++ warned_if condition line number (option_map piece field.entry)) }
 {
-    if condition {
-        let span = Span {
-            start: field.start,
-            width: field.text.len(),
-        };
-        found.push(Warning {
-            line,
-            number,
-            span,
-            doubt: None,
-        })?;
+    match field {
+        Some(field) if condition => {
+            let span = Span {
+                start: field.start,
+                width: field.text.len(),
+            };
+            found.push(Warning {
+                line,
+                number,
+                span,
+                doubt: None,
+            })?;
+            Ok(())
+        }
+        _ => Ok(()),
     }
-    Ok(())
+}
+
+// Whether a source has no forms of flight programs.
+fn is_standard(language: Language) -> bool
+    ensures { result ≡ is_standard language }
+{
+    matches!(language, Language::Standard)
 }
 
 /// Whether the operator is one of some. It is brought into its callers with its names.
@@ -386,38 +397,11 @@ pub(crate) fn has_alone(condition: bool, parts: &Reading<'_>) -> bool
     condition && parts.offset.is_none()
 }
 
-// An operator's name as a label.
-fn warn_of_label(
-    language: Language,
-    line: u32,
-    parts: &Reading<'_>,
-    found: &mut Vec<Warning>,
-) -> Result<(), AllocError>
-    ensures { OnOk result (found.new.items ≡ found.old.items ++ label_warnings language line (parts_in parts.now)) }
+// Whether no operand names the label of a line.
+fn is_unused(operands: &NameSet, parts: &Reading<'_>) -> bool
+    ensures { result ≡ is_unused operands.now (parts_in parts.now) }
 {
-    match parts.label {
-        Some(label) => warn_if(is_operator(language, label.text), line, 1, label, found),
-        None => Ok(()),
-    }
-}
-
-// A label that no operand names.
-fn warn_of_unused(
-    operands: &NameSet,
-    line: u32,
-    parts: &Reading<'_>,
-    found: &mut Vec<Warning>,
-) -> Result<(), AllocError>
-    ensures { OnOk result (found.new.items
-        ≡ found.old.items ++ unused_warnings operands.now line (parts_in parts.now)) }
-{
-    match parts.label {
-        Some(label) => {
-            let unused = is_short(label.text) && !operands.has(label.text);
-            warn_if(unused, line, 8, label, found)
-        }
-        None => Ok(()),
-    }
+    is_short(text_of(parts.label)) && !operands.has(text_of(parts.label))
 }
 
 /// Whether a word that adds to the next address stands last before the word that follows a line.
@@ -431,42 +415,18 @@ pub(crate) fn indexed_after(indexed: bool, parts: &Reading<'_>) -> bool
     }
 }
 
-// The number of a register or a counter where a word is read, and nothing is added to its address.
-fn warn_of_number(
-    indexed: bool,
-    line: u32,
-    parts: &Reading<'_>,
-    found: &mut Vec<Warning>,
-) -> Result<(), AllocError>
-    ensures { OnOk result (found.new.items ≡ found.old.items ++ number_warnings indexed line (parts_in parts.now)) }
+// Whether a line reads a word by the number of a register or a counter, and nothing is added to its address.
+fn reads_number(indexed: bool, parts: &Reading<'_>) -> bool
+    ensures { result ≡ reads_number indexed (parts_in parts.now) }
 {
-    match parts.operand {
-        Some(operand) => {
-            let is_read = !indexed
-                && has_alone(reads(parts.role), parts)
-                && is_register_number(operand.text);
-            warn_if(is_read, line, 2, operand, found)
-        }
-        None => Ok(()),
-    }
+    !indexed && has_alone(reads(parts.role), parts) && is_register_number(text_of(parts.operand))
 }
 
-// Two words of a name for which one is reserved.
-fn warn_of_pair(
-    singles: &NameSet,
-    line: u32,
-    parts: &Reading<'_>,
-    found: &mut Vec<Warning>,
-) -> Result<(), AllocError>
-    ensures { OnOk result (found.new.items ≡ found.old.items ++ pair_warnings singles.now line (parts_in parts.now)) }
+// Whether a line takes two words of a name for which one is reserved.
+fn lacks_word(singles: &NameSet, parts: &Reading<'_>) -> bool
+    ensures { result ≡ lacks_word singles.now (parts_in parts.now) }
 {
-    match parts.operand {
-        Some(operand) => {
-            let lacks_one = has_alone(takes_pair(parts.role), parts) && singles.has(operand.text);
-            warn_if(lacks_one, line, 3, operand, found)
-        }
-        None => Ok(()),
-    }
+    has_alone(takes_pair(parts.role), parts) && singles.has(text_of(parts.operand))
 }
 
 /// ERASE without an operand.

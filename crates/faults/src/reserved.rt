@@ -1,14 +1,14 @@
 //! Words that are reserved at a place where an earlier line reserves one.
 
-ghost use Rattle.std.specs.Prelude.{◌≡◌, ◌++◌, [], OnOk};
+ghost use Rattle.std.specs.Prelude.{◌≡◌, [], OnOk};
 ghost use Rattle.yayul.specs.Readings.{parts_in};
 ghost use Rattle.faults.specs.Warnings.{is_reserved, with_place, is_again, names_one, none_reserved, reserved_after};
-ghost use Rattle.faults.specs.Warnings.{again_warnings};
+ghost use Rattle.faults.specs.Warnings.{stands_again};
 
-use crate::mistakes::{add_field, reserves_one, warn_if};
+use crate::causes::text_of;
+use crate::mistakes::{add_field, reserves_one};
 use crate::names::NameSet;
 use crate::standing::place_after;
-use crate::told::Warning;
 use std::alloc::{AllocError, Global};
 use std::marker::Model;
 use yayul::Reading;
@@ -122,23 +122,11 @@ impl Reserved {
         Ok(())
     }
 
-    /// A word that is reserved where an earlier line reserves one.
-    pub(crate) fn warn_of_again(
-        &self,
-        line: u32,
-        parts: &Reading<'_>,
-        found: &mut Vec<Warning>,
-    ) -> Result<(), AllocError>
-        ensures { OnOk result (found.new.items
-            ≡ found.old.items ++ again_warnings self.now line (parts_in parts.now)) }
+    /// Whether a line reserves a word where an earlier line reserves one.
+    pub(crate) fn has_again(&self, parts: &Reading<'_>) -> bool
+        ensures { result ≡ stands_again self.now (parts_in parts.now) }
     {
-        match parts.label {
-            Some(label) => {
-                let again = reserves_one(parts) && self.again.has(label.text);
-                warn_if(again, line, 15, label, found)
-            }
-            None => Ok(()),
-        }
+        reserves_one(parts) && self.again.has(text_of(parts.label))
     }
 }
 

@@ -1,16 +1,15 @@
 //! Where a line stands, as far as the fields of the lines before it tell.
 
 ghost use Rattle.std.specs.Prelude.{◌≡◌, ◌||◌};
-ghost use Rattle.std.specs.Option.{option_map};
-ghost use Rattle.agc_text.specs.Views.{piece};
 ghost use Rattle.yayul.specs.Readings.{parts_in};
-ghost use Rattle.faults.specs.Warnings.{number_in, number_beside, place_past, place_after, bank_after, is_same_known};
+ghost use Rattle.faults.specs.Warnings.{number_beside, place_past, place_after, bank_after, is_same_known};
 ghost use Rattle.faults.specs.Warnings.{leads_on, small_number};
 
+use crate::causes::text_of;
 use crate::flow::word_count;
 use crate::mistakes::{has_alone, reserves_one};
 use crate::roles::{is_erase, is_setloc, names_bank};
-use agc_text::{Field, Number, octal_value};
+use agc_text::{Number, octal_value};
 use yayul::Reading;
 
 /// One past the last place of bank 3, as SETLOC takes it.
@@ -76,22 +75,15 @@ fn place_past(count: u8, place: Option<u32>) -> Option<u32>
     }
 }
 
-// The number of a line's operand, where this is so of its operator and no offset stands.
+// The number that a line's operand is in octal, where this is so of its operator and no offset stands.
 fn number_beside(condition: bool, parts: &Reading<'_>) -> Option<u32>
     ensures { result ≡ number_beside condition (parts_in parts.now) }
 {
     if has_alone(condition, parts) {
-        number_in(parts.operand)
+        small_number(octal_value(text_of(parts.operand)))
     } else {
         None
     }
-}
-
-// The number that a field is in octal.
-fn number_in(field: Option<Field<'_>>) -> Option<u32>
-    ensures { result ≡ number_in (option_map piece field.entry) }
-{
-    small_number(octal_value(field?.text))
 }
 
 /// A number that is told itself.

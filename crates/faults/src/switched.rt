@@ -1,20 +1,19 @@
 //! Words of switched banks that are reached while no line sets the register of these banks.
 
-ghost use Rattle.std.specs.Prelude.{◌≡◌, false, OnOk};
+ghost use Rattle.std.specs.Prelude.{◌≡◌, OnOk};
 ghost use Rattle.std.specs.List.{list_any};
-ghost use Rattle.std.specs.Option.{option_map, option_map_or};
-ghost use Rattle.agc_text.specs.Views.{piece};
 ghost use Rattle.yayul.specs.Readings.{parts_in};
 ghost use Rattle.faults.specs.Warnings.{region_of_place, region_of_bank, region_at, region_after, is_common};
 ghost use Rattle.faults.specs.Warnings.{is_switched_erasable, is_switched_fixed, with_erasable, with_fixed};
 ghost use Rattle.faults.specs.Warnings.{is_bank_place, is_bank_number, is_bank_field, with_bank_name, with_stored};
 ghost use Rattle.faults.specs.Warnings.{banks_after, no_banks, may_set_erasable, may_set_fixed};
 
+use crate::causes::text_of;
 use crate::flow::is_instruction;
 use crate::mistakes::{add_field, has_alone};
 use crate::names::NameSet;
 use crate::roles::{is_equals, is_erase, is_setloc, names_bank, sets_bank, stores};
-use agc_text::{Field, Number, octal_value};
+use agc_text::{Number, octal_value};
 use std::alloc::{AllocError, Global};
 use yayul::Reading;
 
@@ -156,7 +155,7 @@ fn add_bank_name(
 ) -> Result<(), AllocError>
     ensures { OnOk result (names.new ≡ with_bank_name register names.old (parts_in parts.now)) }
 {
-    if has_alone(is_equals(parts.role), parts) && names_bank_place(register, parts.operand) {
+    if has_alone(is_equals(parts.role), parts) && is_bank_number(register, text_of(parts.operand)) {
         add_field(names, parts.label)
     } else {
         Ok(())
@@ -171,16 +170,6 @@ fn add_stored(names: &mut NameSet, parts: &Reading<'_>) -> Result<(), AllocError
         add_field(names, parts.operand)
     } else {
         Ok(())
-    }
-}
-
-// Whether a field is the number of a place by which a register is set.
-fn names_bank_place(register: BankRegister, field: Option<Field<'_>>) -> bool
-    ensures { result ≡ option_map_or (λ p. is_bank_number register p.text) (option_map piece field.entry) false }
-{
-    match field {
-        Some(field) => is_bank_number(register, field.text),
-        None => false,
     }
 }
 
@@ -209,26 +198,23 @@ pub(crate) fn region_after(region: Region, parts: &Reading<'_>) -> Region
     ensures { result ≡ region_after region (parts_in parts.now) }
 {
     if has_alone(is_setloc(parts.role), parts) {
-        region_at_place(parts.operand)
+        region_at_place(text_of(parts.operand))
     } else if is_setloc(parts.role) {
         Region::Elsewhere
     } else if names_bank(parts.role) {
-        region_at_bank(parts.operand)
+        region_at_bank(text_of(parts.operand))
     } else {
         region
     }
 }
 
-// The region of a field that is a place as SETLOC takes it.
-fn region_at_place(field: Option<Field<'_>>) -> Region
-    ensures { result ≡ region_at region_of_place (option_map piece field.entry) }
+// The region of a text that is a place as SETLOC takes it.
+fn region_at_place(text: &[u8]) -> Region
+    ensures { result ≡ region_at region_of_place text.now }
 {
-    match field {
-        Some(field) => match octal_value(field.text) {
-            Some(Number::Small(place)) => region_of_place(place),
-            _ => Region::Elsewhere,
-        },
-        None => Region::Elsewhere,
+    match octal_value(text) {
+        Some(Number::Small(place)) => region_of_place(place),
+        _ => Region::Elsewhere,
     }
 }
 
@@ -243,16 +229,13 @@ fn region_of_place(place: u32) -> Region
     }
 }
 
-// The region of a field that is a bank of fixed memory.
-fn region_at_bank(field: Option<Field<'_>>) -> Region
-    ensures { result ≡ region_at region_of_bank (option_map piece field.entry) }
+// The region of a text that is a bank of fixed memory.
+fn region_at_bank(text: &[u8]) -> Region
+    ensures { result ≡ region_at region_of_bank text.now }
 {
-    match field {
-        Some(field) => match octal_value(field.text) {
-            Some(Number::Small(bank)) => region_of_bank(bank),
-            _ => Region::Elsewhere,
-        },
-        None => Region::Elsewhere,
+    match octal_value(text) {
+        Some(Number::Small(bank)) => region_of_bank(bank),
+        _ => Region::Elsewhere,
     }
 }
 

@@ -1,25 +1,23 @@
 //! Words behind a jump, to which nothing leads.
 
-ghost use Rattle.std.specs.Prelude.{◌≡◌, ◌++◌, not, codes, false, OnOk};
-ghost use Rattle.std.specs.Option.{option_map, option_map_or};
+ghost use Rattle.std.specs.Prelude.{◌≡◌, not, codes, false};
+ghost use Rattle.std.specs.Option.{option_map_or};
 ghost use Rattle.agc_text.specs.Tables.{same_name, value_in};
-ghost use Rattle.agc_text.specs.Views.{piece};
 ghost use Rattle.yayul.specs.Readings.{parts_in};
 ghost use Rattle.symbols.specs.Registers.{registers};
-ghost use Rattle.faults.specs.Warnings.{is_signed_text, is_unnamed, leads_unnamed, no_leads, leads_after};
+ghost use Rattle.faults.specs.Warnings.{is_unnamed, leads_unnamed, no_leads, leads_after};
 ghost use Rattle.faults.specs.Warnings.{jumps_unnamed, names_beyond, goes_by_register};
-ghost use Rattle.faults.specs.Warnings.{skipping, skips_after, behind_after, may_enter, is_work, unreached_warnings};
+ghost use Rattle.faults.specs.Warnings.{skipping, skips_after, behind_after, may_enter, is_work, is_unreached};
 
+use crate::causes::{is_signed, text_of};
 use crate::flow::{Before, gives_word, is_instruction, is_vector_place};
 use crate::handlers::stores_way;
-use crate::mistakes::{indexed_after, warn_if};
+use crate::mistakes::indexed_after;
 use crate::roles::{
     computes_way, goes_back, has_four_ways, is_call, is_constant, is_equals, is_idle, is_index,
     is_jump, leads_on_to, may_skip, moves_location, sets_bank,
 };
-use crate::told::Warning;
-use agc_text::{Field, octal_value};
-use std::alloc::AllocError;
+use agc_text::octal_value;
 use symbols::register_place;
 use yayul::Reading;
 
@@ -65,7 +63,8 @@ fn leads_unnamed(indexed: bool, parts: &Reading<'_>) -> bool
 fn jumps_unnamed(indexed: bool, parts: &Reading<'_>) -> bool
     ensures { result ≡ jumps_unnamed indexed (parts_in parts.now) }
 {
-    leads_on_to(parts.role) && (indexed || parts.offset.is_some() || is_unnamed(parts.operand))
+    leads_on_to(parts.role)
+        && (indexed || parts.offset.is_some() || is_unnamed(text_of(parts.operand)))
 }
 
 // An address or a name with an offset.
@@ -82,28 +81,11 @@ fn goes_by_register(parts: &Reading<'_>) -> bool
     sets_bank(parts.role) || computes_way(parts.role) || stores_way(parts)
 }
 
-// Whether a field stands, and names no label.
-fn is_unnamed(field: Option<Field<'_>>) -> bool
-    ensures { result ≡ option_map_or (λ p. is_unnamed p.text) (option_map piece field.entry) false }
+// A number, a place beside the line, or a register but Q.
+fn is_unnamed(text: &[u8]) -> bool
+    ensures { result ≡ is_unnamed text.now }
 {
-    match field {
-        Some(field) => {
-            octal_value(field.text).is_some()
-                || is_signed(field.text)
-                || is_other_register(field.text)
-        }
-        None => false,
-    }
-}
-
-// Whether a sign stands first.
-fn is_signed(text: &[u8]) -> bool
-    ensures { result ≡ is_signed_text text.now }
-{
-    match text.first() {
-        Some(first) => *first == b'+' || *first == b'-',
-        None => false,
-    }
+    octal_value(text).is_some() || is_signed(text) || is_other_register(text)
 }
 
 // A register's name, but that of Q.
@@ -172,27 +154,14 @@ fn is_work(parts: &Reading<'_>) -> bool
     is_instruction(parts) && !(is_jump(parts.role) || is_call(parts.role) || is_idle(parts.role))
 }
 
-/// A word behind a jump, to which nothing leads.
-pub(crate) fn warn_of_unreached(
-    unnamed: bool,
-    before: Before,
-    line: u32,
-    parts: &Reading<'_>,
-    found: &mut Vec<Warning>,
-) -> Result<(), AllocError>
-    ensures { OnOk result (found.new.items
-        ≡ found.old.items ++ unreached_warnings unnamed before line (parts_in parts.now)) }
+/// Whether a word stands behind a jump, to which nothing leads.
+pub(crate) fn is_unreached(unnamed: bool, before: Before, parts: &Reading<'_>) -> bool
+    ensures { result ≡ is_unreached unnamed before (parts_in parts.now) }
 {
-    match parts.operator {
-        Some(operator) => {
-            let unreached = !unnamed
-                && before.behind
-                && before.skips == 0
-                && is_work(parts)
-                && parts.label.is_none()
-                && !may_enter(before.place, before.bank);
-            warn_if(unreached, line, 16, operator, found)
-        }
-        None => Ok(()),
-    }
+    !unnamed
+        && before.behind
+        && before.skips == 0
+        && is_work(parts)
+        && parts.label.is_none()
+        && !may_enter(before.place, before.bank)
 }

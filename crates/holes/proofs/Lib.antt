@@ -3,3 +3,4 @@ pub mod Listed
 pub mod Passed
 pub mod HoleTurns
 pub mod HoleRows
+pub mod HoledWordRows

@@ -8,7 +8,7 @@ use Rattle.arguments.specs.declared.ImageLayout.{ImageLayout}
 use Rattle.arguments.specs.declared.ImageVersion.TheVariants as named
 use Rattle.plans.specs.declared.plan.Plan.{Plan}
 use Rattle.plans.specs.declared.plan.Plan.TheVariants.{Align, Carry, TooManySteps}
-use Rattle.plans.specs.declared.plan.Shown.TheVariants.{Crossed, Instructions, Named, NamedSource, Source, Octals}
+use Rattle.plans.specs.declared.plan.Shown.TheVariants.{Crossed, Holed, Instructions, Named, NamedSource, Source, Octals}
 use Rattle.plans.specs.declared.plan.Image.{Image}
 use Rattle.plans.specs.Plans.{aligned, bank_of, first_of, form_of, image_of, is_before, language_of, last_of, shown_of, version_of}
 use Rattle.plans.specs.Plans.{with_steps}
@@ -88,24 +88,27 @@ last_bank = refl
 no_bank : bank_of (Some 0o50) ≡ None
 no_bank = refl
 
--- --symbols, with --xref and without, --source, both and neither
-as_instructions : shown_of None false false false ≡ Instructions
+-- --symbols, with --xref, with --holes and without, --source, both and neither
+as_instructions : shown_of None false false false false ≡ Instructions
 as_instructions = refl
 
-as_source : shown_of None true false false ≡ Source
+as_source : shown_of None true false false false ≡ Source
 as_source = refl
 
-as_octals : shown_of None false true false ≡ Octals
+as_octals : shown_of None false true false false ≡ Octals
 as_octals = refl
 
-with_names : (table : Bor (List ℕ)) → shown_of (Some table) false false false ≡ Named table
+with_names : (table : Bor (List ℕ)) → shown_of (Some table) false false false false ≡ Named table
 with_names table = refl
 
-source_with_names : (table : Bor (List ℕ)) → shown_of (Some table) true false false ≡ NamedSource table
+source_with_names : (table : Bor (List ℕ)) → shown_of (Some table) true false false false ≡ NamedSource table
 source_with_names table = refl
 
-crossed : (table : Bor (List ℕ)) → shown_of (Some table) false false true ≡ Crossed table
+crossed : (table : Bor (List ℕ)) → shown_of (Some table) false false true false ≡ Crossed table
 crossed table = refl
+
+with_holes : (source : Bor (List ℕ)) → shown_of (Some source) false false false true ≡ Holed source
+with_holes source = refl
 
 -- align with --symbols, and without
 names_carried : (table : Bor (List ℕ)) (old new : Image) → aligned (Some table) old new ≡ Carry table old new

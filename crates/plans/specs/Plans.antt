@@ -50,7 +50,7 @@ use Rattle.plans.specs.declared.plan.Listed.{Listed}
 use Rattle.plans.specs.declared.plan.Kind.{Kind}
 use Rattle.plans.specs.declared.plan.Kind.TheVariants as kind
 use Rattle.plans.specs.declared.plan.Shown.{Shown}
-use Rattle.plans.specs.declared.plan.Shown.TheVariants.{Crossed, Instructions, Named, NamedSource, Source, Octals}
+use Rattle.plans.specs.declared.plan.Shown.TheVariants.{Crossed, Holed, Instructions, Named, NamedSource, Source, Octals}
 use Rattle.plans.specs.declared.plan.Words.{Words}
 
 -- how the bytes of an image are taken, by --form hardware and --parity ignore
@@ -178,12 +178,13 @@ abbrev pub run_of_listed : Listed → Bor (List ℕ) → Program
 run_of_listed l feed = record { path = l.path; form = l.form; kind = l.kind; symbols = l.symbols; feed = feed }
 
 -- what is reached, beside a run or not
-abbrev pub reach_by : Listed → Option RunOf → Plan
-reach_by l None = Reach l
-reach_by l (Some run) = with_steps run.steps (ReachRun (record { program = run_of_listed l run.feed; steps = run.steps }))
+abbrev pub reach_by : Listed → Bool → Option RunOf → Plan
+reach_by l roots None = Reach (record { listed = l; shows_roots = roots })
+reach_by l roots (Some run) =
+    with_steps run.steps (ReachRun (record { program = run_of_listed l run.feed; steps = run.steps; shows_roots = roots }))
 
 abbrev pub reach_of : ReachArguments → Plan
-reach_of a = reach_by (listed_of a) a.run
+reach_of a = reach_by (listed_of a) a.shows_roots a.run
 
 -- the most cycles of a routine
 abbrev pub bound_of : BoundArguments → Plan
@@ -262,15 +263,16 @@ check_of a = Check (record {
   notation = notation_of a.is_json;
 })
 
--- how words are shown: with the names of a table where one is given, and with --xref as a cross-reference of these; as a source with
--- --source, or as octal words with --octal
-abbrev pub shown_of : Option (Bor (List ℕ)) → Bool → Bool → Bool → Shown
-shown_of (Some table) true _ _ = NamedSource table
-shown_of (Some table) false _ true = Crossed table
-shown_of (Some table) false _ false = Named table
-shown_of None true _ _ = Source
-shown_of None false true _ = Octals
-shown_of None false false _ = Instructions
+-- how words are shown: with the names of a table where one is given, and with --xref as a cross-reference of these, with --holes with
+-- those of a flight source; as a source with --source, or as octal words with --octal
+abbrev pub shown_of : Option (Bor (List ℕ)) → Bool → Bool → Bool → Bool → Shown
+shown_of (Some table) true _ _ _ = NamedSource table
+shown_of (Some table) false _ true _ = Crossed table
+shown_of (Some source) false _ false true = Holed source
+shown_of (Some table) false _ false false = Named table
+shown_of None true _ _ _ = Source
+shown_of None false true _ _ = Octals
+shown_of None false false _ _ = Instructions
 
 -- the bank of a number
 abbrev pub bank_of : Option ℕ → Option ℕ
@@ -282,7 +284,7 @@ abbrev pub words_of : WordsArguments → Words
 words_of a = record {
   image = image_of a.image;
   bank = bank_of a.bank;
-  shown = shown_of a.symbols a.is_source a.is_octal a.has_xref;
+  shown = shown_of a.symbols a.is_source a.is_octal a.has_xref a.has_holes;
   tells_where = a.tells_where;
 }
 

@@ -9,6 +9,6 @@ mod steps;
 pub use making::planned;
 pub use plan::{
     Accesses, Assembly, Check, Image, Kind, Listed, Original, Pair, Plan, Profile, Program,
-    Reaching, Routine, Run, Shown, Tests, Timed, Tracing, Trials, Verdicts, Words,
+    Reachable, Reaching, Routine, Run, Shown, Tests, Timed, Tracing, Trials, Verdicts, Words,
 };
 pub use steps::Steps;

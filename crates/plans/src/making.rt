@@ -40,7 +40,7 @@ ghost use Rattle.plans.specs.Plans.{
 
 use crate::plan::{
     Accesses, Assembly, Check, Image, Kind, Listed, Original, Pair, Plan, Profile, Program,
-    Reaching, Routine, Run, Shown, Tests, Timed, Tracing, Trials, Verdicts, Words,
+    Reachable, Reaching, Routine, Run, Shown, Tests, Timed, Tracing, Trials, Verdicts, Words,
 };
 use crate::steps::Steps;
 use arguments::{
@@ -204,11 +204,15 @@ fn reach<'a>(asked: ReachArguments<'a>) -> Plan<'a>
 {
     let listed = listed(asked);
     match asked.run {
-        None => Plan::Reach(listed),
+        None => Plan::Reach(Reachable {
+            listed,
+            shows_roots: asked.shows_roots,
+        }),
         Some(run) => match Steps::try_new(run.steps) {
             Some(steps) => Plan::ReachRun(Reaching {
                 program: run_of_listed(listed, run.feed),
                 steps,
+                shows_roots: asked.shows_roots,
             }),
             None => Plan::TooManySteps,
         },
@@ -336,18 +340,26 @@ fn words<'a>(asked: WordsArguments<'a>) -> Words<'a>
             asked.is_source,
             asked.is_octal,
             asked.has_xref,
+            asked.has_holes,
         ),
         tells_where: asked.tells_where,
     }
 }
 
 /// How the words of an image are shown.
-fn shown<'a>(symbols: Option<&'a str>, is_source: bool, is_octal: bool, has_xref: bool) -> Shown<'a>
-    ensures { result ≡ shown_of symbols.entry is_source is_octal has_xref }
+fn shown<'a>(
+    symbols: Option<&'a str>,
+    is_source: bool,
+    is_octal: bool,
+    has_xref: bool,
+    has_holes: bool,
+) -> Shown<'a>
+    ensures { result ≡ shown_of symbols.entry is_source is_octal has_xref has_holes }
 {
     match symbols {
         Some(table) if is_source => Shown::NamedSource(table),
         Some(table) if has_xref => Shown::Crossed(table),
+        Some(source) if has_holes => Shown::Holed(source),
         Some(table) => Shown::Named(table),
         None if is_source => Shown::Source,
         None if is_octal => Shown::Octals,

@@ -26,7 +26,7 @@ pub enum Plan<'a> {
     /// A run is profiled.
     Cover(Profile<'a>),
     /// It is shown which words of a program are reached.
-    Reach(Listed<'a>),
+    Reach(Reachable<'a>),
     /// The same beside a run.
     ReachRun(Reaching<'a>),
     /// The most cycles of a routine are told.
@@ -149,6 +149,15 @@ pub struct Listed<'a> {
     pub symbols: Option<&'a str>,
 }
 
+/// What is shown of a program without a run.
+#[derive(Clone, Copy)]
+pub struct Reachable<'a> {
+    /// The program.
+    pub listed: Listed<'a>,
+    /// Whether the root of each word is shown.
+    pub shows_roots: bool,
+}
+
 /// What is shown of a program beside a run.
 #[derive(Clone, Copy)]
 pub struct Reaching<'a> {
@@ -156,6 +165,8 @@ pub struct Reaching<'a> {
     pub program: Program<'a>,
     /// How many steps.
     pub steps: Steps,
+    /// Whether the root of each word is shown.
+    pub shows_roots: bool,
 }
 
 /// Two runs that are made beside each other.
@@ -331,6 +342,8 @@ pub enum Shown<'a> {
     Octals,
     /// As a cross-reference of the names of the table of a file.
     Crossed(&'a str),
+    /// As instructions, with the names of a flight source, whose lines of the interpretive language are holes.
+    Holed(&'a str),
 }
 
 /// In which form verdicts are told.

@@ -1,5 +1,5 @@
 -- What a run executes, step by step, and what is reached from there.
-use Rattle.std.proofs.Common.{◌≡◌, ℕ, zero, suc, ◌+◌, Bool, List, [], ◌∷◌, ◌++◌, Result, Ok, Err, sym, subst, inl, inr, add-one, refl}
+use Rattle.std.proofs.Common.{◌≡◌, ℕ, ◌+◌, Bool, List, [], ◌++◌, Result, Ok, Err, sym, subst, inl, inr, add-one, refl}
 use Rattle.std.specs.Prelude.{IfOk}
 use Rattle.rope.specs.Places.{Words}
 use Rattle.cpu.specs.NextStep.{next_step}
@@ -58,7 +58,8 @@ executed_by scenario now n s old new same from h are marks order =
     step_more scenario n old new h (rw (same, from) at are) (rw (same, from) at marks) (rw (same, from) at order)
 
 -- what is reached from some roots is reached from any that have them
-reached_from : (words : Words) (roots more : List Spot) → ((q : Spot) → Among q roots → Among q more) → (q : Spot) → Reached words roots q
+pub reached_from : (words : Words) (roots more : List Spot) → ((q : Spot) → Among q roots → Among q more) → (q : Spot)
+    → Reached words roots q
     → Reached words more q
 reached_from words roots more has q (Root r root) = Root r (has r root)
 reached_from words roots more has q (Way p r before way) = Way p r (reached_from words roots more has p before) way

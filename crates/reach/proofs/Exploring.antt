@@ -6,7 +6,7 @@ use Rattle.rope.specs.Places.{Words}
 use Rattle.reach.specs.declared.spot.Spot.{Spot}
 use Rattle.reach.specs.Ways.{Among, Reached, leads}
 use Rattle.reach.specs.Ways.Reached.{Root, Way}
-use Rattle.reach.specs.Marks.{AreReached, IsSpot, has, spots}
+use Rattle.reach.specs.Marks.{AreReached, IsSpot}
 use Rattle.reach.specs.Inside.Seen.{Agree, Explored, IsNothing, marks_all, order_all, unmarked}
 use Rattle.reach.proofs.Lists.{among_taken}
 use Rattle.reach.proofs.Marking.{come_to_all, nothing_agrees}
@@ -54,7 +54,7 @@ explored_more words roots marks order done p x lt is i =
     last_is r e = cc
 
 -- where none is left each is in order that is reached
-stands : (words : Words) (roots : List Spot) (marks : List Bool) (order : List Spot) (done : ℕ) → Explored words roots marks order done
+pub stands : (words : Words) (roots : List Spot) (marks : List Bool) (order : List Spot) (done : ℕ) → Explored words roots marks order done
     → take done order ≡ order
     → (q : Spot) → Reached words roots q → Among q order
 stands words roots marks order done x whole _ (Root q root) = x.rooted q root
@@ -95,14 +95,29 @@ explored_more_by words roots marks m order o done p ways x lt is w e f i =
     (subst (λ ps. Explored words roots (marks_all marks (leads words p)) ps (done + 1)) (sym second)
     (explored_more words roots marks order done p x lt is are))
 
-pub less_left_by : (words : Words) (roots : List Spot) (marks m : List Bool) (order o : List Spot) (done : ℕ) (p : Spot) (ways : List Spot)
-    → Explored words roots marks order done
-    → done < length order → p ≡ get_or order done p → ways ≡ leads words p → m ≡ marks_all marks ways → o ≡ order_all marks order ways
-    → ((q : Spot) → Among q ways → IsSpot q)
+pub less_left_by : (marks m : List Bool) (order o : List Spot) (done : ℕ) (ways : List Spot) → Agree marks order → done < length order
+    → m ≡ marks_all marks ways → o ≡ order_all marks order ways → ((q : Spot) → Among q ways → IsSpot q)
     → 2 * unmarked m + length o - (done + 1) < 2 * unmarked marks + length order - done
-less_left_by words roots marks m order o done p ways x lt is w e f i =
-    let all = come_to_all marks order ways x.agree i in
+less_left_by marks m order o done ways a lt e f i =
+    let all = come_to_all marks order ways a i in
     let less : 2 * unmarked m + length o ≤ 2 * unmarked marks + length order =
     subst (λ ms. 2 * unmarked ms + length o ≤ 2 * unmarked marks + length order) (sym e)
     (subst (λ ps. 2 * unmarked (marks_all marks ways) + length ps ≤ 2 * unmarked marks + length order) (sym f) all.less) in
     omega (arith, less, lt)
+
+-- what was come to agrees, and stands in front of what is come to next
+pub agree_more_by : (marks m : List Bool) (order o ways : List Spot) → Agree marks order → m ≡ marks_all marks ways
+    → o ≡ order_all marks order ways → ((q : Spot) → Among q ways → IsSpot q) → Agree m o
+agree_more_by marks m order o ways a e f i =
+    subst (λ ms. Agree ms o) (sym e) (subst (λ ps. Agree (marks_all marks ways) ps) (sym f) (come_to_all marks order ways a i).agree)
+
+pub stays_more_by : (marks : List Bool) (order o ways : List Spot) (n : ℕ) → Agree marks order → o ≡ order_all marks order ways
+    → ((q : Spot) → Among q ways → IsSpot q) → n ≤ length order → take n o ≡ take n order
+stays_more_by marks order o ways n a f i le = ap (take n) f ∙ (come_to_all marks order ways a i).front n le
+
+pub longer_by : (marks : List Bool) (order o ways : List Spot) → Agree marks order → o ≡ order_all marks order ways
+    → ((q : Spot) → Among q ways → IsSpot q) → length order ≤ length o
+longer_by marks order o ways a f i =
+    let all = come_to_all marks order ways a i in
+    let same : length o ≡ length (order_all marks order ways) = ap length f in
+    omega (arith, same, all.longer)

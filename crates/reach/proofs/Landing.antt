@@ -1,9 +1,9 @@
 -- Where an instruction leads that goes as its word tells.
-use Rattle.std.proofs.Common.{◌≡◌, ◌≢◌, ℕ, zero, suc, ◌+◌, ◌-◌, ◌*◌, ◌/◌, ◌%◌, ◌^◌, ◌<◌, ◌≤◌, ◌==◌, ◌||◌, ◌&&◌, ◌⊎◌, Bool, true, false}
+use Rattle.std.proofs.Common.{◌≡◌, ◌≢◌, ℕ, zero, suc, ◌+◌, ◌-◌, ◌*◌, ◌/◌, ◌%◌, ◌<◌, ◌≤◌, ◌==◌, ◌&&◌, ◌⊎◌, Bool, true, false}
 use Rattle.std.proofs.Common.{cond, not, List, [], ◌∷◌, ◌++◌, Option, Some, None, refl, sym, ap, subst, ◌∙◌, inl, inr, arith, nat_lt}
 use Rattle.std.specs.Prelude.{is_some, nat_le}
 use Rattle.std.specs.List.{list_any}
-use Rattle.std.proofs.lemmas.Bool.{cases_Bool, cases_lt, or_parts, and_parts}
+use Rattle.std.proofs.lemmas.Bool.{cases_Bool, cases_lt, or_parts}
 use Rattle.std.proofs.lemmas.Bool.Decides.{nat_tests}
 use Rattle.words.specs.Numbers.{correct, dabs, extend}
 use Rattle.words.specs.Signs.{over}
@@ -18,23 +18,21 @@ use Rattle.space.proofs.CellLaws.{at-put, at-put_other}
 use Rattle.cpu.specs.declared.instruction.Instruction.{Instruction}
 use Rattle.cpu.specs.declared.instruction.Instruction.TheVariants.{Bzf, Bzmf, Ccs, Dca, Dcs, Extend, Index, Resume, Tc, Tcf, Ts}
 use Rattle.cpu.specs.State.{State}
-use Rattle.cpu.specs.Codes.{Code}
 use Rattle.cpu.specs.Operands.{address_of}
-use Rattle.cpu.specs.Effects.{accumulator_of, after, bzf, bzmf, ccs, ccs_skip, changes, change, carry, edits, erasable_in, erasable_number}
-use Rattle.cpu.specs.Effects.{has_overflow, is_at_zero, is_at_zero_or_minus, next_address, operand, place_in, tc, tcf, ts, value_at}
+use Rattle.cpu.specs.Effects.{accumulator_of, after, bzf, bzmf, ccs, ccs_skip, changes, carry, edits, erasable_in, erasable_number}
+use Rattle.cpu.specs.Effects.{has_overflow, is_at_zero, is_at_zero_or_minus, next_address, operand, place_in, tc, tcf, ts}
 use Rattle.cpu.specs.Effects.Change.{AtPlace}
 use Rattle.cpu.specs.Links.{Flow, flows_of, is_in, overflow_in, place_cells, targets_by}
-use Rattle.cpu.specs.Next.{extra_after, fetched, following_address}
+use Rattle.cpu.specs.Next.{following_address}
 use Rattle.cpu.proofs.Flowing.{put_miss}
-use Rattle.cpu.proofs.Following.{Leads, ts_list}
+use Rattle.cpu.proofs.Following.{ts_list}
 use Rattle.cpu.proofs.Linking.{fetched_by, fetched_place}
 use Rattle.cpu.proofs.Leaving.{Spared, leaves}
-use Rattle.cpu.proofs.LeavingBeside.{left_sum, leaves_waiting}
 use Rattle.cpu.proofs.Trails.{not_first, not_second}
 use Rattle.reach.specs.declared.spot.How.{How}
 use Rattle.reach.specs.declared.spot.How.TheVariants.{Executes, Reads}
 use Rattle.reach.specs.declared.spot.Spot.{Spot}
-use Rattle.reach.specs.Ways.{Among, at_address, first_fixed, first_unbanked, further, is_register, kind_of, leads_by, named, plain, second}
+use Rattle.reach.specs.Ways.{Among, at_address, further, is_register, kind_of, leads_by, named, plain, second}
 use Rattle.reach.specs.Ways.{spot, target}
 use Rattle.reach.specs.Runs.{is_told, opens, spot_at, spot_of, steers}
 use Rattle.reach.proofs.Lists.{among_left, among_right}

@@ -1,6 +1,6 @@
 -- What a run executes is reached.
-use Rattle.std.proofs.Common.{◌≡◌, ℕ, zero, suc, ◌+◌, ◌-◌, ◌*◌, ◌/◌, ◌%◌, ◌^◌, ◌<◌, ◌≤◌, ◌==◌, ◌||◌, ◌⊎◌, Bool, true, false, cond, List, []}
-use Rattle.std.proofs.Common.{◌∷◌, ◌++◌, map, Option, Some, None, refl, sym, ap, subst, ◌∙◌, inl, inr, arith, nat_lt, find, add-one}
+use Rattle.std.proofs.Common.{◌≡◌, ℕ, zero, suc, ◌+◌, ◌-◌, ◌*◌, ◌/◌, ◌%◌, ◌^◌, ◌<◌, ◌≤◌, ◌==◌, ◌||◌, Bool, true, false, cond, List, []}
+use Rattle.std.proofs.Common.{◌∷◌, map, Option, Some, None, refl, sym, ap, subst, ◌∙◌, inl, inr, arith, nat_lt, find, add-one}
 use Rattle.std.specs.Prelude.{is_some}
 use Rattle.std.specs.FinSet as set
 use Rattle.std.specs.List.{range_with_len}
@@ -14,8 +14,7 @@ use Rattle.rope.specs.Places.{Words}
 use Rattle.space.specs.Cells.{Cells, accumulator, at, channel_cell, erasable_bank, fixed_bank, get, kept, lower_accumulator}
 use Rattle.space.specs.Cells.{program_counter, put, put_channel, superbank, superbank_channel, zero_cells}
 use Rattle.space.specs.Places.{place}
-use Rattle.space.specs.declared.place.Linear.{Linear}
-use Rattle.space.specs.declared.place.Linear.TheVariants.{Erasable, Fixed}
+use Rattle.space.specs.declared.place.Linear.TheVariants.{Fixed}
 use Rattle.feed.specs.Counters.{counter_place}
 use Rattle.feed.specs.declared.input.Counter.{Counter}
 use Rattle.feed.specs.declared.input.Input.{Input}
@@ -37,7 +36,7 @@ use Rattle.cpu.specs.Effects.Change.{AtPlace, OnChannel, Inhibits, Serves, Waits
 use Rattle.cpu.specs.Inputs.{asked, asked_after, asked_on, carried, carries_into, count_of, counted, input_effect, is_overflow, received}
 use Rattle.cpu.specs.Inputs.{step_of, stepped, take}
 use Rattle.cpu.specs.Links.{cell_of_channel, is_in, place_cells}
-use Rattle.cpu.specs.Laws.{EntersInterrupt, ExecutesCode, TakesInput}
+use Rattle.cpu.specs.Laws.{EntersInterrupt, ExecutesCode}
 use Rattle.cpu.specs.Next.{entered, entry, execute, execute_code, executed, extra_after, fetched, following_address, instruction_word}
 use Rattle.cpu.specs.Next.{least_request, next, next_by, word_at_z}
 use Rattle.cpu.specs.Run.{run}
@@ -51,11 +50,11 @@ use Rattle.cpu.proofs.RunLaws.{counted_in}
 use Rattle.reach.specs.declared.spot.How.{How}
 use Rattle.reach.specs.declared.spot.How.TheVariants.{Executes}
 use Rattle.reach.specs.declared.spot.Spot.{Spot}
-use Rattle.reach.specs.Ways.{Among, Reached, at_address, kind_of, leads, leads_by, leads_from, plain, spot, vector, vectors, word_of}
+use Rattle.reach.specs.Ways.{Among, at_address, kind_of, leads, leads_by, leads_from, plain, vector, vectors, word_of}
 use Rattle.reach.specs.Ways.Reached.{Root, Way}
-use Rattle.reach.specs.Runs.{GoesAsTold, HaveVectors, IsCovered, IsTold, RunIsCovered, SparesWay, StepIsCovered, spot_at, spot_of}
+use Rattle.reach.specs.Runs.{GoesAsTold, HaveVectors, IsCovered, RunIsCovered, SparesWay, StepIsCovered, spot_at, spot_of}
 use Rattle.reach.specs.Runs.IsTold.{ByInput, ByEntry, ByInstruction}
-use Rattle.reach.proofs.Landing.{IsOwn, Lands, Shape, how_after, landed, lands, same_bank, shape, window_place}
+use Rattle.reach.proofs.Landing.{IsOwn, Lands, Shape, how_after, landed, lands, same_bank, shape}
 
 -- ## An instruction
 by_code : (scenario : Scenario) (s : State) (code : Code) → ExecutesCode scenario s code

@@ -1,15 +1,12 @@
 -- Where words lead, worked by hand from the instructions' own rules.
-use Rattle.std.proofs.Common.{◌≡◌, ℕ, List, [], ◌∷◌, Some, None, false, true, refl}
-use Rattle.std.specs.List.{flat_map}
+use Rattle.std.proofs.Common.{◌≡◌, ℕ, List, [], ◌∷◌, false, true, refl}
 use Rattle.space.specs.declared.place.Linear.{Linear}
-use Rattle.space.specs.declared.place.Linear.TheVariants.{Erasable, Fixed}
 use Rattle.space.specs.Places.{place}
-use Rattle.cpu.specs.declared.instruction.Instruction.TheVariants.{Ca, Dxch, Resume, Tc, Tcf, Ts, Xch, Write}
-use Rattle.cpu.specs.Codes.{Code, basic_rows, code_of, extracode_rows}
-use Rattle.reach.specs.declared.spot.How.{How}
+use Rattle.cpu.specs.declared.instruction.Instruction.TheVariants.{Ca, Dxch, Resume, Tc, Xch}
+use Rattle.cpu.specs.Codes.{basic_rows, code_of, extracode_rows}
 use Rattle.reach.specs.declared.spot.How.TheVariants.{Executes, Reads}
 use Rattle.reach.specs.declared.spot.Spot.{Spot}
-use Rattle.reach.specs.Ways.{leads_of, plain, spot, vectors}
+use Rattle.reach.specs.Ways.{leads_of, plain, spot}
 use Rattle.reach.specs.Runs.{opens}
 
 -- at 4001, which is bank 2

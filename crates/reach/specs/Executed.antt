@@ -1,6 +1,5 @@
 -- The words of fixed memory that a run executes, as they are come to.
-use Rattle.std.specs.Prelude.{◌≡◌, ℕ, zero, suc, Bool, if◌then◌else◌, List, [], ◌∷◌, ◌++◌, Option, Some, None, is_some}
-use Rattle.space.specs.declared.place.Linear.{Linear}
+use Rattle.std.specs.Prelude.{ℕ, zero, suc, Bool, if◌then◌else◌, List, [], ◌∷◌, ◌++◌, Option, Some, None, is_some}
 use Rattle.cpu.specs.declared.next_step.Fetched.{Fetched}
 use Rattle.cpu.specs.declared.next_step.NextStep.{NextStep}
 use Rattle.cpu.specs.declared.next_step.NextStep.TheVariants.{Takes, Enters, Executes}
@@ -11,7 +10,6 @@ use Rattle.cpu.specs.State.{Scenario, State}
 use Rattle.reach.specs.declared.spot.How.TheVariants as how
 use Rattle.reach.specs.declared.spot.Spot.{Spot}
 use Rattle.reach.specs.Inside.Seen.{Agree}
-use Rattle.reach.specs.Marks.{IsSpot, has}
 use Rattle.reach.specs.Runs.{spot_at}
 use Rattle.reach.specs.Ways.{Among, vectors}
 

@@ -3,6 +3,7 @@ pub mod Marks
 pub mod Runs
 pub mod Executed
 pub mod Named
+pub mod Roots
 pub mod ReachText
 pub mod RunText
 pub mod Inside

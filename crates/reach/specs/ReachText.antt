@@ -1,5 +1,5 @@
 -- What is reached as text: the rows of a listing, or the words of an image, each with whether a way leads to it before it.
-use Rattle.std.specs.Prelude.{ℕ, ◌+◌, ◌*◌, Bool, true, false, ◌==◌, ◌&&◌, ◌||◌, if◌then◌else◌, List, [], ◌∷◌, ◌++◌, codes, Option, None}
+use Rattle.std.specs.Prelude.{ℕ, ◌+◌, ◌*◌, Bool, true, false, ◌==◌, ◌&&◌, ◌||◌, if◌then◌else◌, List, ◌++◌, codes, Option, None}
 use Rattle.std.specs.Prelude.{Some}
 use Rattle.std.specs.List.{range_with_len, flat_map}
 use Rattle.agc_text.specs.Lines.{lines}
@@ -12,6 +12,7 @@ use Rattle.cover.specs.declared.shown.Shown.{Shown}
 use Rattle.cover.specs.declared.shown.Shown.TheVariants as shown
 use Rattle.reach.specs.declared.spot.How.TheVariants.{Executes, Reads}
 use Rattle.reach.specs.Marks.{has}
+use Rattle.reach.specs.Roots.{Rooting, roots_column}
 use Rattle.reach.specs.Ways.{spot}
 
 -- whether a word is executed at an address, and whether it is read there
@@ -27,10 +28,12 @@ is_read marks bank address = has marks (spot bank address Reads)
 abbrev pub at_place : (ℕ → ℕ → Bool) → ℕ → ℕ → Bool
 at_place test bank offset = test bank (0o2000 + offset) || ((bank == 2 || bank == 3) && test bank (0o2000 * bank + offset))
 
--- the marks of what is reached from the vectors, and of what is reached from these and the places that a program names
+-- the marks of what is reached from the vectors, and of what is reached from these and the places that a program names; and the roots,
+-- where they are shown
 pub record Led : Type 0 where
   pub start : List Bool
   pub named : List Bool
+  pub roots : Option Rooting
 
 -- the column of a word to which a way leads from a named place at most: NAMED where one does, DATA where an instruction reads it that is
 -- reached so, else a sign
@@ -49,9 +52,12 @@ column led bank offset =
     else column_beyond led.named bank offset)
 
 -- what stands before a row, by the place of its word
+abbrev pub led_column : Led → Margin
+led_column led None = blanks 6
+led_column led (Some p) = column led p.0 p.1
+
 abbrev pub margin_of : Led → Margin
-margin_of led None = blanks 6
-margin_of led (Some p) = column led p.0 p.1
+margin_of led word = led_column led word ++ roots_column led.roots word
 
 -- the words of an image, each after what stands before it
 abbrev pub image_row : Margin → Option SymbolTable → Words → ℕ → ℕ → List ℕ

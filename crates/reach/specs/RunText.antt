@@ -1,15 +1,17 @@
 -- What is reached, beside a run: of each word the kind of root from which a way leads to it, and whether the run has executed it.
 use Rattle.std.specs.Prelude.{ℕ, ◌&&◌, not, Bool, List, ◌++◌, codes, Option, None, Some, if◌then◌else◌}
 use Rattle.yayul.specs.Listing.{Margin, blanks}
+use Rattle.reach.specs.Roots.{Rooting, roots_column}
 use Rattle.reach.specs.ReachText.{at_place, column_beyond, is_executed, is_read}
 
 -- the marks of what is reached from the vectors, of what is reached from these and all that a run executes, of what is reached from all of
--- these and the places that a program names, and of what the run executes
+-- these and the places that a program names, and of what the run executes; and the roots, where they are shown
 pub record Found : Type 0 where
   pub start : List Bool
   pub run : List Bool
   pub named : List Bool
   pub done : List Bool
+  pub roots : Option Rooting
 
 -- the column of the root: START where a way leads to the word from 4000 or an entry, RUN where one leads only from what the run executes,
 -- DATA where an instruction that is reached so reads it, else that of named places
@@ -27,10 +29,11 @@ is_idle f bank offset = at_place (is_executed f.run) bank offset && not (at_plac
 abbrev pub idle_column : Found → ℕ → ℕ → List ℕ
 idle_column f bank offset = if is_idle f bank offset then codes "IDLE " else codes "     "
 
-abbrev pub found_columns : Found → ℕ → ℕ → List ℕ
-found_columns f bank offset = root_column f bank offset ++ idle_column f bank offset
+-- both, by the place of a word
+abbrev pub found_columns : Found → Margin
+found_columns f None = blanks 11
+found_columns f (Some p) = root_column f p.0 p.1 ++ idle_column f p.0 p.1
 
 -- what stands before a row, by the place of its word
 abbrev pub found_margin : Found → Margin
-found_margin f None = blanks 11
-found_margin f (Some p) = found_columns f p.0 p.1
+found_margin f word = found_columns f word ++ roots_column f.roots word

@@ -1,6 +1,6 @@
 -- What a run executes is reached, as long as it goes on where words tell.
-use Rattle.std.specs.Prelude.{◌≡◌, ℕ, suc, ◌+◌, ◌<◌, ◌≤◌, ◌⊎◌, Bool, true, false, not, ◌==◌, ◌&&◌, ◌||◌, nat_lt, nat_le, if◌then◌else◌}
-use Rattle.std.specs.Prelude.{List, [], ◌∷◌, Option, Some, None, is_some}
+use Rattle.std.specs.Prelude.{◌≡◌, ℕ, ◌+◌, ◌<◌, ◌≤◌, ◌⊎◌, Bool, true, false, not, ◌==◌, ◌&&◌, ◌||◌, nat_lt, nat_le, if◌then◌else◌}
+use Rattle.std.specs.Prelude.{List, Option, Some, None, is_some}
 use Rattle.std.specs.List.{list_any}
 use Rattle.words.specs.declared.wide.Overflow.TheVariants.{No}
 use Rattle.space.specs.Cells.{channel_cell, fixed_bank, program_counter, superbank_channel}

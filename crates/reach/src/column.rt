@@ -78,21 +78,21 @@ fn is_read(marks: &Marks, bank: Bank, address: Addr12) -> bool
 }
 
 /// Whether addresses from 04000 on lead to a bank.
-fn is_unbanked(bank: Bank) -> bool
+pub(crate) fn is_unbanked(bank: Bank) -> bool
     ensures { result ≡ (bank == 2 || bank == 3) }
 {
     bank.number() == 2 || bank.number() == 3
 }
 
 /// The address of a place where FB selects its bank.
-fn banked(offset: Offset) -> Addr12
+pub(crate) fn banked(offset: Offset) -> Addr12
     ensures { result ≡ 0o2000 + offset }
 {
     Addr12::of_low_bits(BANK_WORDS + offset.number())
 }
 
 /// The address of a place of bank 2 or 3 whatever FB holds.
-fn unbanked(bank: Bank, offset: Offset) -> Addr12
+pub(crate) fn unbanked(bank: Bank, offset: Offset) -> Addr12
     requires { bank ≤ 3 }
     ensures { result ≡ 0o2000 * bank + offset }
 {

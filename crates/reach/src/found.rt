@@ -7,6 +7,8 @@ ghost use Rattle.reach.specs.RunText.{found_columns, idle_column, root_column};
 use crate::column::{column_beyond, executes, reads};
 use crate::executed::Executed;
 use crate::marks::Marks;
+use crate::root_column::roots_column;
+use crate::roots::Roots;
 use space::{Bank, Offset};
 use std::marker::Model;
 use words::{Write, WriteFailed, write_all};
@@ -14,13 +16,14 @@ use yayul::Margin;
 
 /// What is reached from where a run starts and from the entries of interrupts; what is reached from there and from all
 /// that the run executes; what is reached from all of these and from the places that a program names; and what the run
-/// executes.
+/// executes; and the roots, where they are shown.
 #[derive(Drop)]
 pub struct Found {
     start: Marks,
     run: Marks,
     named: Marks,
     done: Executed,
+    roots: Option<Roots>,
 }
 
 impl Model for Found {
@@ -28,7 +31,14 @@ impl Model for Found {
 
     ghost Value = { OfRun };
 
-    ghost view = { λ f. record { start = f.start; run = f.run; named = f.named; done = f.done.marks } };
+    ghost view = { λ f. record {
+      start = f.start;
+      run = f.run;
+      named = f.named;
+      done = f.done.marks;
+      roots
+          = f.roots;
+    } };
 }
 
 /// The columns where a row has no word.
@@ -44,41 +54,51 @@ impl Margin for Found {
         word: Option<(Bank, Offset)>,
         writer: &mut W,
     ) -> Result<(), WriteFailed> {
-        match word {
-            Some((bank, offset)) => self.write_columns(bank, offset, writer),
-            None => write_all(writer, NO_COLUMNS),
-        }
+        self.write_columns(&word, writer)?;
+        write_all(writer, roots_column(&self.roots, &word).as_slice())
     }
 }
 
 impl Found {
     /// What is reached from where a run starts and from the entries of interrupts; what is reached from there and from
     /// all that the run executes; what is reached from all of these and from the places that a program names; and what
-    /// the run executes.
-    pub fn new(start: Marks, run: Marks, named: Marks, done: Executed) -> Found
-        ensures { result ≡ record { start = start; run = run; named = named; done = done.marks } }
+    /// the run executes; and the roots, where they are shown.
+    pub fn new(
+        start: Marks,
+        run: Marks,
+        named: Marks,
+        done: Executed,
+        roots: Option<Roots>,
+    ) -> Found
+        ensures { result
+            ≡ record { start = start; run = run; named = named; done = done.marks; roots = roots } }
     {
         Found {
             start,
             run,
             named,
             done,
+            roots,
         }
     }
 
-    /// Writes the columns of a word.
+    /// Writes the columns before a row.
     fn write_columns<W: Write>(
         &self,
-        bank: Bank,
-        offset: Offset,
+        word: &Option<(Bank, Offset)>,
         writer: &mut W,
     ) -> Result<(), WriteFailed>
         ensures written { W.told ≡ true → Writes (W.written writer.old) (W.written writer.new)
-            (found_columns self.now bank offset) result }
+            (found_columns self.now word.now) result }
         ensures failures { W.failures writer.new ≡ failures_after (W.failures writer.old) result }
     {
-        write_all(writer, self.root_column(bank, offset))?;
-        write_all(writer, self.idle_column(bank, offset))
+        match word {
+            Some((bank, offset)) => {
+                write_all(writer, self.root_column(*bank, *offset))?;
+                write_all(writer, self.idle_column(*bank, *offset))
+            }
+            None => write_all(writer, NO_COLUMNS),
+        }
     }
 
     /// The kind of root from which a way leads to a word.

@@ -1,21 +1,24 @@
 //! What is found of each word.
 
 ghost use Rattle.std.specs.Prelude.{◌≡◌};
-ghost use Rattle.reach.specs.ReachText.{column};
+ghost use Rattle.reach.specs.ReachText.{column, led_column};
 
 use crate::column::{column_beyond, executes, reads};
 use crate::marks::Marks;
+use crate::root_column::roots_column;
+use crate::roots::Roots;
 use space::{Bank, Offset};
 use std::marker::Model;
 use words::{Write, WriteFailed, write_all};
 use yayul::Margin;
 
 /// What is reached from where a run starts and from the entries of interrupts; and what is reached from there and from
-/// the places that a program names.
+/// the places that a program names; and the roots, where they are shown.
 #[derive(Drop)]
 pub struct Led {
     start: Marks,
     named: Marks,
+    roots: Option<Roots>,
 }
 
 impl Model for Led {
@@ -23,7 +26,7 @@ impl Model for Led {
 
     ghost Value = { OfWords };
 
-    ghost view = { λ l. record { start = l.start; named = l.named } };
+    ghost view = { λ l. record { start = l.start; named = l.named; roots = l.roots } };
 }
 
 /// The column where a row has no word.
@@ -39,20 +42,32 @@ impl Margin for Led {
         word: Option<(Bank, Offset)>,
         writer: &mut W,
     ) -> Result<(), WriteFailed> {
-        match word {
-            Some((bank, offset)) => write_all(writer, self.column(bank, offset)),
-            None => write_all(writer, NO_COLUMN),
-        }
+        write_all(writer, self.led_column(&word))?;
+        write_all(writer, roots_column(&self.roots, &word).as_slice())
     }
 }
 
 impl Led {
     /// What is reached from where a run starts and from the entries of interrupts; and what is reached from there and
-    /// from the places that a program names.
-    pub fn new(start: Marks, named: Marks) -> Led
-        ensures { result ≡ record { start = start; named = named } }
+    /// from the places that a program names; and the roots, where they are shown.
+    pub fn new(start: Marks, named: Marks, roots: Option<Roots>) -> Led
+        ensures { result ≡ record { start = start; named = named; roots = roots } }
     {
-        Led { start, named }
+        Led {
+            start,
+            named,
+            roots,
+        }
+    }
+
+    /// The column before a row.
+    fn led_column(&self, word: &Option<(Bank, Offset)>) -> &'static [u8]
+        ensures { result.now ≡ led_column self.now word.now }
+    {
+        match word {
+            Some((bank, offset)) => self.column(*bank, *offset),
+            None => NO_COLUMN,
+        }
     }
 
     /// The column before a word: START where a way leads to it, DATA where an instruction reads it, else that of named

@@ -58,7 +58,7 @@ fn named_spots(alloc: Global, places: &[(Bank, Offset)]) -> Result<Vec<Spot>, Al
 }
 
 /// The spot of a place: the word there, executed at the address at which a program reaches it.
-fn named_spot(place: (Bank, Offset)) -> Spot
+pub(crate) fn named_spot(place: (Bank, Offset)) -> Spot
     ensures { result ≡ named_spot place }
 {
     let (bank, offset) = place;

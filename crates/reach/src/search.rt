@@ -1,7 +1,7 @@
 //! The search for what is reached.
 
-ghost use Rattle.std.specs.Prelude.{◌≡◌, ◌≤◌, IfOk, OnOk};
-ghost use Rattle.reach.specs.Inside.Seen.{marks_all, marks_by, order_all, order_by};
+ghost use Rattle.std.specs.Prelude.{◌≡◌, ◌≤◌, IfOk, List, OnOk, length, take, ℕ};
+ghost use Rattle.reach.specs.Inside.Seen.{Agree, Explored, marks_all, marks_by, order_all, order_by};
 ghost use Rattle.reach.specs.Marks.{AreReached, IsSpot};
 ghost use Rattle.reach.specs.Ways.{Among, vector, vectors};
 ghost use Rattle.reach.specs.declared.spot.Spot.{Spot};
@@ -27,17 +27,40 @@ pub(crate) fn reached(alloc: Global, rope: &Rope, roots: &[Spot]) -> Result<Mark
     let mut marks = Marks::nothing(alloc)?;
     let mut order = Vec::new(alloc);
     come_to_all(&mut marks, &mut order, roots)?;
-    let mut done = 0;
-    while done < order.len() {
-        let ways = leads(rope, &order[done]);
-        come_to_all(&mut marks, &mut order, ways.as_slice())?;
-        done += 1;
-    }
+    explore(rope, &mut marks, &mut order, 0)?;
     Ok(marks)
 }
 
+/// Comes to all to which those lead that were come to, of which so many are done.
+pub(crate) fn explore(
+    rope: &Rope,
+    marks: &mut Marks,
+    order: &mut Vec<Spot>,
+    first: usize,
+) -> Result<(), AllocError>
+    requires agree { Agree marks.old order.old.items }
+    ensures agree { OnOk result (Agree marks.new order.new.items) }
+    ensures longer { OnOk result (length order.old.items ≤ length order.new.items) }
+    ensures stays { OnOk result ((n : ℕ) → n ≤ length order.old.items
+        → take n order.new.items ≡ take n order.old.items) }
+    ensures explored { OnOk result ((roots : List Spot) → Explored rope.now roots marks.old order.old.items first
+        → Explored rope.now roots marks.new order.new.items (length order.new.items)) }
+{
+    let mut done = first;
+    while done < order.len() {
+        let ways = leads(rope, &order[done]);
+        come_to_all(marks, order, ways.as_slice())?;
+        done += 1;
+    }
+    Ok(())
+}
+
 /// Comes to some spots, one after another.
-fn come_to_all(marks: &mut Marks, order: &mut Vec<Spot>, spots: &[Spot]) -> Result<(), AllocError>
+pub(crate) fn come_to_all(
+    marks: &mut Marks,
+    order: &mut Vec<Spot>,
+    spots: &[Spot],
+) -> Result<(), AllocError>
     ensures marks { OnOk result (marks.new ≡ marks_all marks.old spots.now) }
     ensures order { OnOk result (order.new.items ≡ order_all marks.old order.old.items spots.now) }
     ensures are { OnOk result ((q : Spot) → Among q spots.now → IsSpot q) }

@@ -1,15 +1,14 @@
 -- Laws of the words of fixed memory, for the crates above.
-use Rattle.std.proofs.Common.{◌≡◌, ◌≢◌, ℕ, ◌<◌, ◌≤◌, ◌&&◌, ◌==◌, Bool, true, false, cond, if◌then◌else◌, nat_lt, List, length, get_or, []}
+use Rattle.std.proofs.Common.{◌≡◌, ◌≢◌, ℕ, ◌<◌, ◌≤◌, ◌&&◌, ◌==◌, Bool, true, false, cond, if◌then◌else◌, nat_lt, List, get_or, []}
 use Rattle.std.proofs.Common.{◌∷◌, ◌++◌, Option, Some, None, ◌⊎◌, refl, sym, ◌∙◌, ap, inl, inr, arith}
 use Rattle.std.specs.Ordering.{nat_cmp, eq_by_cmp}
 use Rattle.std.specs.Cmp.{nat_cmp_total}
 use Rattle.std.specs.FinMap as map
 use Rattle.std.proofs.lemmas.Bool.{cases_lt, lt-ltb, le-ltb, cases_eq, eq-eqb, ne_eqb}
-use Rattle.rope.specs.Places.{banks, bank_words, fixed_places, Words, place_number, no_words, with_word, slot_at, stands, Placed}
+use Rattle.rope.specs.Places.{banks, bank_words, Words, place_number, no_words, with_word, slot_at, stands, Placed}
 use Rattle.rope.specs.Places.{with_words}
 use Rattle.rope.proofs.SlotWords.{same_order, other_order, get-words_of}
-use Rattle.rope.specs.Slots.{words_of}
-use Rattle.std.proofs.lemmas.List.{get_or_past}
+use Rattle.rope.specs.Slots.{words_of, IsEmptyBeyond}
 
 -- what is known of a place inside the banks, and of one outside
 by_place : (P : Type 0) → (bank offset : ℕ) → (bank < banks → offset < bank_words → P)
@@ -149,11 +148,11 @@ with_words-append words [] qs = refl
 with_words-append words (p ∷ ps) qs = with_words-append (with_word words p.bank p.offset p.word) ps qs
 
 -- the slots of a rope are its places
-pub slot_at-words_of : (slots : List (Option ℕ)) (bank offset : ℕ) → length slots ≡ fixed_places → offset < bank_words
+pub slot_at-words_of : (slots : List (Option ℕ)) (bank offset : ℕ) → IsEmptyBeyond slots → offset < bank_words
     → slot_at (words_of slots) bank offset ≡ get_or slots (place_number bank offset) None
-slot_at-words_of slots bank offset full in_bank =
+slot_at-words_of slots bank offset empty in_bank =
     elim (cases_lt bank banks) [
       | inl in_banks ↦ slot_at-within (words_of slots) bank offset in_banks in_bank ∙ get-words_of slots (place_number bank offset)
       | inr beyond ↦ slot_at-beyond (words_of slots) bank offset beyond
-          ∙ sym (get_or_past slots (place_number bank offset) None (omega arith))
+          ∙ sym (empty (place_number bank offset) (omega arith))
     ]

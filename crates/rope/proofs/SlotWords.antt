@@ -50,12 +50,13 @@ words_of-set slots i w lt = map.same_map nat_cmp_total map.nat_cmp-IsAntisymmetr
           | inr other ↦ rw (other_order q i other, get-words_of) (get_or-set_other slots i q (Some w) None other)
         ]
 
--- empty slots hold nothing
+-- no empty slot holds anything
+pub nothing : (n q : ℕ) → get_or {A = Option ℕ} (replicate n None) q None ≡ None
+nothing zero q = refl
+nothing (suc n) zero = refl
+nothing (suc n) (suc q) = nothing n q
+
+-- so the words of empty slots are none
 pub words_of-none : (n : ℕ) → words_of (replicate n None) ≡ map.empty
 words_of-none n = map.same_map nat_cmp_total map.nat_cmp-IsAntisymmetric _ _
     (λ q. get-words_of (replicate n None) q ∙ nothing n q ∙ sym (map.get-empty nat_cmp q))
-  where
-    nothing : (n q : ℕ) → get_or {A = Option ℕ} (replicate n None) q None ≡ None
-    nothing zero q = refl
-    nothing (suc n) zero = refl
-    nothing (suc n) (suc q) = nothing n q

@@ -1,7 +1,8 @@
 //! Fixed memory.
 
 ghost use Rattle.std.specs.Prelude.{◌≡◌, ◌<◌, ℕ, true, false, None, IfOk, IfErr, replicate, length, slice_index_or};
-ghost use Rattle.rope.specs.Places.{place_number, fixed_places, banks, no_words, with_word, slot_at, stands, word_at};
+ghost use Rattle.rope.specs.Places.{place_number, banks, no_words, with_word, slot_at, stands, word_at};
+ghost use Rattle.rope.specs.Slots.{slot_count};
 ghost use Rattle.rope.specs.declared.fault.RopeFault.TheVariants.{NoMemory};
 
 use crate::fault::RopeFault;
@@ -23,6 +24,9 @@ pub(crate) const ENTRIES: usize = BANKS as usize;
 /// The places of the banks 0 to 043.
 pub(crate) const PLACES: usize = ENTRIES * BANK_WORDS;
 
+/// The slots, which those of the banks 044 to 047 are among: no word is looked up by a test of its bank.
+const SLOTS: usize = 0o50 * BANK_WORDS;
+
 /// Fixed memory, seen as the words that stand in it, each at its bank and offset.
 #[derive(Drop)]
 pub struct Rope {
@@ -34,8 +38,7 @@ impl Model for Rope {
     ghost use Rattle.std.specs.Ordering.{nat_cmp};
     ghost use Rattle.std.specs.Coded.{coded_ℕ};
     ghost use Rattle.std.specs.FinMap as map;
-    ghost use Rattle.rope.specs.Places.{fixed_places};
-    ghost use Rattle.rope.specs.Slots.{words_of};
+    ghost use Rattle.rope.specs.Slots.{words_of, slot_count, IsEmptyBeyond};
 
     ghost Value = { map.FinMap nat_cmp ℕ };
 
@@ -43,7 +46,7 @@ impl Model for Rope {
 
     ghost view = { λ r. words_of r.slots.items };
 
-    ghost invariant = { λ r. vec_len r.slots ≡ fixed_places };
+    ghost invariant = { λ r. (vec_len r.slots ≡ slot_count) × IsEmptyBeyond r.slots.items };
 }
 
 impl Rope {
@@ -113,9 +116,6 @@ impl Rope {
     fn slot(&self, bank: Bank, offset: Offset) -> Slot
         ensures { result ≡ slot_at self.now bank offset }
     {
-        if bank.number() >= BANKS {
-            return Slot::EMPTY;
-        }
         slot_of(&self.slots, slot_number(bank, offset))
     }
 }
@@ -127,18 +127,19 @@ fn slot_of(slots: &[Slot], number: usize) -> Slot
     slots[number]
 }
 
+// The sum is of 16 bits, so that LLVM makes one of it and of the quotient and the remainder of an address.
 fn slot_number(bank: Bank, offset: Offset) -> usize
     ensures { result ≡ place_number bank offset }
 {
-    usize::from(bank.number()) * BANK_WORDS + usize::from(offset.number())
+    usize::from(bank.number() * space::BANK_WORDS + offset.number())
 }
 
-// A slot for each place, all of them empty.
+// The slots, all of them empty.
 fn empty_slots(alloc: Global) -> Result<Vec<Slot>, AllocError>
-    ensures { IfOk result (λ v. v.items ≡ replicate fixed_places None) }
+    ensures { IfOk result (λ v. v.items ≡ replicate slot_count None) }
 {
-    let mut slots = Vec::with_capacity(alloc, PLACES)?;
-    slots.resize(PLACES, Slot::EMPTY)?;
+    let mut slots = Vec::with_capacity(alloc, SLOTS)?;
+    slots.resize(SLOTS, Slot::EMPTY)?;
     Ok(slots)
 }
 
@@ -146,7 +147,7 @@ fn empty_slots(alloc: Global) -> Result<Vec<Slot>, AllocError>
 fn copied_slots(alloc: Global, slots: &[Slot]) -> Result<Vec<Slot>, AllocError>
     ensures { IfOk result (λ v. v.items ≡ slots.now) }
 {
-    let mut copy = Vec::with_capacity(alloc, PLACES)?;
+    let mut copy = Vec::with_capacity(alloc, SLOTS)?;
     copy.extend_from_slice(slots)?;
     Ok(copy)
 }

@@ -49,8 +49,8 @@ pub fn resolve_fixed(address: Addr12) -> (Bank, Offset)
     requires { 0o4000 ≤ address }
     ensures { (eb fb : ℕ) (sup : Bool) → place address eb fb sup ≡ Linear.Fixed result.0 result.1 }
 {
-    let within = address.number() % 0o4000;
-    (Bank::new(2 + within / 0o2000), Offset::new(within % 0o2000))
+    let number = address.number();
+    (Bank::new(number / 0o2000), Offset::new(number % 0o2000))
 }
 
 /// The first address whose place the erasable bank selects.

@@ -11,6 +11,7 @@ pub mod Checks
 pub mod Crossing
 pub mod Holed
 pub mod HoledRuns
+pub mod HoledWords
 pub mod Debugging
 pub mod Executed
 pub mod Expectations

@@ -21,6 +21,7 @@ mod expecting;
 mod fault;
 mod holed;
 mod holed_run;
+pub mod holed_words;
 mod idling;
 mod inputs;
 pub mod laws;

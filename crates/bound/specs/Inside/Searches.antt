@@ -1,8 +1,9 @@
 -- What private functions find of a routine.
-use Rattle.std.specs.Prelude.{ℕ, Bool, false, not, ◌&&◌, ◌||◌, List, [], ◌∷◌, ◌++◌, All, if◌then◌else◌, is_some}
+use Rattle.std.specs.Prelude.{ℕ, ◌≡◌, Bool, false, not, ◌&&◌, None, ◌||◌, List, [], ◌∷◌, ◌++◌, All, if◌then◌else◌, is_some}
 use Rattle.std.specs.List.{list_all, list_any, position}
 use Rattle.rope.specs.Places.{Words}
 use Rattle.bound.specs.declared.charge.Limit.{Limit}
+use Rattle.bound.specs.declared.checking.Row.{Row}
 use Rattle.bound.specs.declared.finding.Attempt.{Attempt}
 use Rattle.bound.specs.declared.finding.Attempt.TheVariants as attempt
 use Rattle.bound.specs.declared.graph.Explored.{Explored}
@@ -12,7 +13,7 @@ use Rattle.bound.specs.declared.turn.Turn.{Turn}
 use Rattle.bound.specs.declared.turn.Turn.TheVariants.{Back, Through, One, Two, Four, Stop}
 use Rattle.bound.specs.declared.turn.Why.{Why}
 use Rattle.bound.specs.Bounds.{AreCounted, CallsAt, Has, IsBound, IsCause, stands_at}
-use Rattle.bound.specs.Inside.Checks.{same}
+use Rattle.bound.specs.Inside.Checks.{number_at, same}
 use Rattle.bound.specs.Turns.{turn}
 
 -- the words of its routine to which a turn leads
@@ -72,6 +73,17 @@ abbrev pub IsExplored : Words → List ℕ → Site → Explored → Type 0
 IsExplored words kept r explored.Whole = Unit {0}
 IsExplored words kept r (explored.Calls p t) = CallsAt words kept r p t
 IsExplored words kept r (explored.Stops p why) = (limits : List Limit) → Fails words kept limits r p why
+
+-- a routine that is found to be called is none of those whose bounds are known
+abbrev pub IsNew : List Row → Explored → Type 0
+IsNew known explored.Whole = Unit {0}
+IsNew known (explored.Calls p t) = number_at known t ≡ None
+IsNew known (explored.Stops p why) = Unit {0}
+
+abbrev pub IsNewAttempt : List Row → Attempt → Type 0
+IsNewAttempt known (attempt.Most most loops) = Unit {0}
+IsNewAttempt known (attempt.Calls p t) = number_at known t ≡ None
+IsNewAttempt known (attempt.Stops p why) = Unit {0}
 
 -- the same of an attempt to find the bound of a routine
 abbrev pub IsAttempt : Words → List ℕ → List Limit → Site → Attempt → Type 0

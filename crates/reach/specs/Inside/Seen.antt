@@ -1,9 +1,7 @@
 -- Marks of spots, and how they are set one after another.
-use Rattle.std.specs.Prelude.{◌≡◌, ℕ, ◌+◌, ◌*◌, ◌<◌, ◌≤◌, Bool, true, false, not, if◌then◌else◌, List, [], ◌∷◌, ◌++◌, length, get_or, set}
+use Rattle.std.specs.Prelude.{◌≡◌, ℕ, ◌+◌, ◌≤◌, Bool, true, false, if◌then◌else◌, List, [], ◌∷◌, ◌++◌, length, get_or, set}
 use Rattle.std.specs.Prelude.{take}
 use Rattle.rope.specs.Places.{Words}
-use Rattle.reach.specs.declared.spot.How.{How}
-use Rattle.reach.specs.declared.spot.How.TheVariants.{Executes, Reads}
 use Rattle.reach.specs.declared.spot.Spot.{Spot}
 use Rattle.reach.specs.Ways.{Among, Reached, leads}
 use Rattle.reach.specs.Marks.{IsSpot, has, number, spots}

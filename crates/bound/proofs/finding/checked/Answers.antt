@@ -1,11 +1,11 @@
 use Rattle.std.proofs.Common.{◌∙◌, map, subst, sym}
 use Rattle.bound.specs.Bounds.{AreCounted}
-use Rattle.bound.proofs.Chains.{too_many}
+use Rattle.bound.proofs.Chains.{many_cycles}
 use Rattle.bound.proofs.Sound.{bound_is, counted_are}
 use Rattle.bound.proofs.finding.checked.Goals as goal
 
-pub returns-in-Some : goal.returns-in-Some
-returns-in-Some c =
+pub returns-in-Some-clause-attempt : goal.returns-in-Some-clause-attempt
+returns-in-Some-clause-attempt c =
     let all = sym c.all_hold.ensures ∙ c.if-not-all_hold.false in
     let counted = sym c.all_count.ensures ∙ c.if-all_count.true in (
       bound_is c.args.rope.now c.args.kept.now c.args.charges.now c.args.counts.now c.args.known.now c.args.rows.now _ all
@@ -15,10 +15,10 @@ returns-in-Some c =
           c.requires.bounds c.args.routine.now c.in-Some.ensures.0 c.in-Some.ensures.1 counted),
     )
 
-pub returns-then-not-all_hold : goal.returns-then-not-all_hold
-returns-then-not-all_hold c =
-    too_many c.args.rope.now c.args.kept.now (map (λ charge. charge.limit) c.args.charges.now) c.args.routine.now
+pub returns-then-not-all_hold-clause-attempt : goal.returns-then-not-all_hold-clause-attempt
+returns-then-not-all_hold-clause-attempt c =
+    many_cycles c.args.rope.now c.args.kept.now (map (λ charge. charge.limit) c.args.charges.now) c.args.routine.now
 
-pub returns-in_default : goal.returns-in_default
-returns-in_default c =
-    too_many c.args.rope.now c.args.kept.now (map (λ charge. charge.limit) c.args.charges.now) c.args.routine.now
+pub returns-in_default-clause-attempt : goal.returns-in_default-clause-attempt
+returns-in_default-clause-attempt c =
+    many_cycles c.args.rope.now c.args.kept.now (map (λ charge. charge.limit) c.args.charges.now) c.args.routine.now

@@ -1,4 +1,4 @@
-use Rattle.std.proofs.Common.{Some, None}
+use Rattle.std.proofs.Common.{None}
 use Rattle.debugger.proofs.NeverFound.{came_found}
 use Rattle.debugger.proofs.never.last_came.Goals as goal
 

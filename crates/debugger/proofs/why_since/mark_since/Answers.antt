@@ -1,4 +1,4 @@
-use Rattle.std.proofs.Common.{List, [], Bool, cond, not, ap, sym, ◌∙◌}
+use Rattle.std.proofs.Common.{[], Bool, cond, not, ap, sym, ◌∙◌}
 use Rattle.cpu.specs.Run.{run}
 use Rattle.debugger.specs.WhysSince.{entered_since, since_step}
 use Rattle.debugger.specs.Whys.{last_outside}

@@ -1,5 +1,4 @@
-use Rattle.std.proofs.Common.{◌≡◌, ◌++◌, List, [], refl}
-use Rattle.reach.specs.declared.spot.Spot.{Spot}
+use Rattle.std.proofs.Common.{◌≡◌, ◌++◌, [], refl}
 use Rattle.reach.specs.Ways.{vectors}
 use Rattle.reach.proofs.Executing.{mapped, reached_run}
 use Rattle.reach.proofs.executed.reached_with_run.Goals as goal

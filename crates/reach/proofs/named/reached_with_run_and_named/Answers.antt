@@ -1,4 +1,4 @@
-use Rattle.std.proofs.Common.{◌≡◌, ◌++◌, List, map, append_assoc}
+use Rattle.std.proofs.Common.{◌≡◌, ◌++◌, map, append_assoc}
 use Rattle.reach.specs.Named.{named_spot}
 use Rattle.reach.specs.Ways.{vectors}
 use Rattle.reach.proofs.Executing.{mapped, reached_run}

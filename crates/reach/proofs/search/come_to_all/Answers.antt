@@ -1,4 +1,3 @@
-use Rattle.std.proofs.Common.{arith}
 use Rattle.reach.proofs.Coming.{are_end, are_more, marks_more, order_more}
 use Rattle.reach.proofs.search.come_to_all.Goals as goal
 

@@ -12,5 +12,6 @@ returns-in_err-write_reach g c =
       run = c.in-Ok.ensures.run;
       named = c.in-Ok.ensures.named;
       done = c.in-Ok.ensures.done;
+      roots = c.in-Ok.ensures.roots;
       writes = ((λ told. rw same at (c.in_err-write_reach.ensures.written told)), c.in_err-write_reach.ensures.failures);
     }))

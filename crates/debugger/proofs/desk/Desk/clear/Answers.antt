@@ -4,4 +4,4 @@ use Rattle.debugger.proofs.desk.Desk.clear.Goals as goal
 
 pub returns-clause-brings : goal.returns-clause-brings
 unfolding answer reply
-returns-clause-brings c = λ s m answers additions. rw (c.text_line.ensures.items, c.clear.ensures) refl
+returns-clause-brings g c = λ m answers additions. rw (c.text_line.ensures.items, c.clear.ensures) refl

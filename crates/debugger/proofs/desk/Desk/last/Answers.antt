@@ -6,4 +6,5 @@ use Rattle.debugger.proofs.desk.Desk.last.Goals as goal
 pub returns-clause-brings : goal.returns-clause-brings
 unfolding answer reply history
 returns-clause-brings g c = λ m answers additions.
-    rw (c.last_line.ensures, c.last_change.ensures.last, c.last_change.ensures.looked.scenario, c.last_change.ensures.looked.steps) refl
+    let looks = c.last_change.ensures.looked in
+    rw (c.last_line.ensures, c.last_change.ensures.last, looks.session.scenario, looks.session.steps, looks.position, looks.breakpoints) refl

@@ -11,7 +11,7 @@ use Rattle.debugger.proofs.desk.Desk.last_change.Goals as goal
 pub returns-clause-last : goal.returns-clause-last
 unfolding history
 returns-clause-last g c =
-    let s = c.args.session.now in
+    let s = c.args.self.now.session.now in
     let shown = c.show.follows.lender-at-none in
     let place = c.args.place in
     let p = c.args.self.now.position in

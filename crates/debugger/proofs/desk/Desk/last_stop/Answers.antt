@@ -8,7 +8,7 @@ use Rattle.debugger.proofs.desk.Desk.last_stop.Goals as goal
 
 pub returns-then-is_some-clause-last : goal.returns-then-is_some-clause-last
 returns-then-is_some-clause-last g c =
-    let s = c.args.session.now in
+    let s = c.args.self.now.session.now in
     let p = c.args.self.now.position in
     let stops = c.at-stops.result in
     let all = last_led_on s.scenario stops.breakpoints.now c.args.self.now.breakpoints stops.looks (p - 1) p c.seek_step_back.result
@@ -20,7 +20,7 @@ returns-then-is_some-clause-last g c =
 
 pub returns-then-is_some-clause-hit : goal.returns-then-is_some-clause-hit
 returns-then-is_some-clause-hit g c =
-    let s = c.args.session.now in
+    let s = c.args.self.now.session.now in
     let p = c.args.self.now.position in
     let stops = c.at-stops.result in
     let all = last_led_on s.scenario stops.breakpoints.now c.args.self.now.breakpoints stops.looks (p - 1) p c.seek_step_back.result
@@ -30,7 +30,7 @@ returns-then-is_some-clause-hit g c =
 
 pub returns-clause-last : goal.returns-clause-last
 returns-clause-last g c =
-    let s = c.args.session.now in
+    let s = c.args.self.now.session.now in
     let p = c.args.self.now.position in
     let stops = c.at-stops.result in
     let all = last_led_on s.scenario stops.breakpoints.now c.args.self.now.breakpoints stops.looks (p - 1) p c.seek_step_back.result
@@ -41,5 +41,5 @@ returns-clause-last g c =
     all.2 none c.stop_at_start.result (c.stop_at_start.ensures s.scenario)
 
 pub returns-clause-before : goal.returns-clause-before
-returns-clause-before g c = start_within c.stop_at_start.result (hit_at (history c.args.session.now.scenario) c.args.self.now.breakpoints 0)
-    _ (c.stop_at_start.ensures c.args.session.now.scenario)
+returns-clause-before g c = start_within c.stop_at_start.result (hit_at (history c.args.self.now.session.now.scenario) c.args.self.now.breakpoints 0)
+    _ (c.stop_at_start.ensures c.args.self.now.session.now.scenario)

@@ -10,7 +10,7 @@ led_to-requires g c = within_by c.seek_step_on.result (c.args.self.now.position)
 
 pub returns-clause-next : goal.returns-clause-next
 returns-clause-next g c =
-    let s = c.args.session.now in
+    let s = c.args.self.now.session.now in
     let stops = c.at-stops.result in
     let count : c.min-count.result ≡ min c.args.steps (s.n - c.args.self.now.position) = omega
     (arith, c.steps.ensures.value, c.min-count.ensures) in
@@ -21,7 +21,7 @@ returns-clause-next g c =
 
 pub returns-clause-hit : goal.returns-clause-hit
 returns-clause-hit g c =
-    let s = c.args.session.now in
+    let s = c.args.self.now.session.now in
     let stops = c.at-stops.result in
     let count : c.min-count.result ≡ min c.args.steps (s.n - c.args.self.now.position) = omega
     (arith, c.steps.ensures.value, c.min-count.ensures) in
@@ -32,5 +32,5 @@ returns-clause-hit g c =
 
 pub returns-clause-within : goal.returns-clause-within
 returns-clause-within g c = rw c.led_to.ensures
-    (led_by_within c.seek_step_on.result c.args.self.now.position (c.args.self.now.position + c.min-count.result) c.args.session.now.n
+    (led_by_within c.seek_step_on.result c.args.self.now.position (c.args.self.now.position + c.min-count.result) c.args.self.now.session.now.n
     (omega (arith, c.steps.ensures.value, c.min-count.ensures)) c.seek_step_on.ensures.between)

@@ -23,13 +23,13 @@ returns-in-Seek-clause-executes g c = λ told.
 pub returns-in-Break-clause-executes : goal.returns-in-Break-clause-executes
 returns-in-Break-clause-executes g c = λ told.
     executes-text c.args.manner g.K.Keeper.may_refuse _ _ _ _ _ _ _ _ _ (ap Known c.in-Break.is)
-    (c.set_breakpoint.ensures.brings c.args.session.now c.args.manner) c.as_slice-in-Break.ensures.value
+    (c.set_breakpoint.ensures.brings c.args.manner) c.as_slice-in-Break.ensures.value
     (c.write_all-in-Break.ensures.written told)
 
 pub returns-in-Clear-clause-executes : goal.returns-in-Clear-clause-executes
 returns-in-Clear-clause-executes g c = λ told.
     executes-text c.args.manner g.K.Keeper.may_refuse _ _ _ _ _ _ _ _ _ (ap Known c.in-Clear.is)
-    (c.clear.ensures.brings c.args.session.now c.args.manner) c.as_slice-in-Clear.ensures.value
+    (c.clear.ensures.brings c.args.manner) c.as_slice-in-Clear.ensures.value
     (c.write_all-in-Clear.ensures.written told)
 
 pub returns-in-Registers-clause-executes : goal.returns-in-Registers-clause-executes
@@ -67,7 +67,7 @@ pub returns-in-Tail-clause-executes : goal.returns-in-Tail-clause-executes
 unfolding answer reply history
 returns-in-Tail-clause-executes g c = λ told.
     executes-text c.args.manner g.K.Keeper.may_refuse _ _ _ _ _ _ _ _ _ (ap Known c.in-Tail.is)
-    (λ answers additions. rw (c.text.ensures, c.requires.tail) refl) c.as_slice-in-Tail.ensures.value
+    (λ answers additions. rw (c.text.ensures, c.args.self.now.kept) refl) c.as_slice-in-Tail.ensures.value
     (c.write_all-in-Tail.ensures.written told)
 
 pub returns-in-Quit-clause-executes : goal.returns-in-Quit-clause-executes

@@ -10,15 +10,15 @@ view r = record { steps = r.steps; outer = r.outside.list.items; inner = r.insid
 pub returns-clause-outside : goal.returns-clause-outside
 returns-clause-outside g c =
     let none = c.none-routines.ensures in
-    let small : c.args.self.now.position < 2 ^ 64 = omega (arith, c.requires, c.steps-limited.ensures.limit, c.steps-limited.ensures.value)
+    let small : c.args.self.now.position < 2 ^ 64 = omega (arith, c.args.self.now.within, c.steps-limited.ensures.limit, c.steps-limited.ensures.value)
     in
-    (seen _ view (λ w q s v h. h) c.args.session.now.scenario c.args.self.now.position _ _ small
+    (seen _ view (λ w q s v h. h) c.args.self.now.session.now.scenario c.args.self.now.position _ _ small
     (rw (none.steps, none.outside, none.inside) refl) c.look_over.ensures.looked).outside
 
 pub returns-clause-inside : goal.returns-clause-inside
 returns-clause-inside g c =
     let none = c.none-routines.ensures in
-    let small : c.args.self.now.position < 2 ^ 64 = omega (arith, c.requires, c.steps-limited.ensures.limit, c.steps-limited.ensures.value)
+    let small : c.args.self.now.position < 2 ^ 64 = omega (arith, c.args.self.now.within, c.steps-limited.ensures.limit, c.steps-limited.ensures.value)
     in
-    (seen _ view (λ w q s v h. h) c.args.session.now.scenario c.args.self.now.position _ _ small
+    (seen _ view (λ w q s v h. h) c.args.self.now.session.now.scenario c.args.self.now.position _ _ small
     (rw (none.steps, none.outside, none.inside) refl) c.look_over.ensures.looked).inside

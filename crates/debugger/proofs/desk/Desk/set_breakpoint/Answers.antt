@@ -12,12 +12,12 @@ room n h e = grind (arith, nat_tests)
 
 pub returns-then-is_full-clause-brings : goal.returns-then-is_full-clause-brings
 unfolding answer reply
-returns-then-is_full-clause-brings c = λ s m answers additions.
+returns-then-is_full-clause-brings g c = λ m answers additions.
     rw (full (length c.args.self.now.breakpoints) c.if-is_full.ensures.few c.if-is_full.ensures.value, c.text_line.ensures.items) refl
 
 pub returns-clause-brings : goal.returns-clause-brings
 unfolding answer reply
-returns-clause-brings c = λ s m answers additions.
+returns-clause-brings g c = λ m answers additions.
     let count : c.len.result ≡ length c.args.self.now.breakpoints + 1 =
     c.len.ensures.value ∙ ap (λ (bs : List Breakpoint). length bs) c.push.ensures
     ∙ length-append c.args.self.now.breakpoints (c.args.breakpoint ∷ []) in

@@ -9,8 +9,8 @@ use Rattle.debugger.proofs.desk.Desk.why_step.Goals as goal
 
 pub returns-in_err-write_all-clause-writes : goal.returns-in_err-write_all-clause-writes
 returns-in_err-write_all-clause-writes g c = λ told.
-    let symbols = c.args.symbols.now in
-    let scenario = c.args.session.now.scenario in
+    let symbols = c.args.self.now.symbols.now in
+    let scenario = c.args.self.now.session.now.scenario in
     let t = c.args.self.now.position - 1 in
     let xs = target_spots scenario t in
     let scene = c.cells_written-pending.ensures.looked.scenario in
@@ -24,8 +24,8 @@ returns-in_err-write_all-clause-writes g c = λ told.
 
 pub returns-clause-writes : goal.returns-clause-writes
 returns-clause-writes g c = λ told.
-    let symbols = c.args.symbols.now in
-    let scenario = c.args.session.now.scenario in
+    let symbols = c.args.self.now.symbols.now in
+    let scenario = c.args.self.now.session.now.scenario in
     let t = c.args.self.now.position - 1 in
     let xs = target_spots scenario t in
     let pending = c.cells_written-pending.ensures.cells in

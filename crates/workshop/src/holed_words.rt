@@ -1,0 +1,60 @@
+//! The engine that shows the words of an image beside a source with lines of the interpretive language, which are holes.
+
+ghost use Rattle.workshop.specs.Failures.{reader, writer};
+ghost use Rattle.workshop.specs.HoledWords.{ShowsHoled, ShowsWithHoles};
+ghost use Rattle.workshop.specs.Ropes.{showing};
+
+use crate::fault::WorkshopFault;
+use holes::{assemble_with_holes, write_holed_words};
+use rope::{Rope, Version};
+use space::Bank;
+use std::alloc::Global;
+use trace::PlaceNames;
+use words::{Read, Write};
+use yayul::Program;
+
+/// Assembles a source of the language of flight programs, in which each line of the interpretive language is a hole,
+/// reads a rope image of a version to its end, and writes a line for each word of a bank, or of all banks, as
+/// `named_words_engine` does with the names of the source; but of a hole its place, the word and `HOLE`.
+///
+/// The first fault of the source is answered, or that there is no memory for its names, else the first fault of the
+/// image; then nothing is written.
+pub fn holed_words_engine<R: Read, W: Write>(
+    alloc: Global,
+    source: &[u8],
+    image: &mut R,
+    version: Version,
+    bank: Option<Bank>,
+    out: &mut W,
+) -> Result<(), WorkshopFault>
+    ensures { ShowsHoled source.now version bank
+        (showing (reader R.told R.left R.failures image.old) (writer W.told W.written W.failures out.old))
+        (showing (reader R.told R.left R.failures image.new) (writer W.told W.written W.failures out.new))
+        result }
+{
+    let (program, other) = assemble_with_holes(alloc, source)?;
+    show_with_holes(alloc, program, &other, image, version, bank, out)
+}
+
+/// Reads a rope image, and writes a line for each word with the names of a program with holes.
+fn show_with_holes<R: Read, W: Write>(
+    alloc: Global,
+    program: Program,
+    other: &Rope,
+    image: &mut R,
+    version: Version,
+    bank: Option<Bank>,
+    out: &mut W,
+) -> Result<(), WorkshopFault>
+    ensures { ShowsWithHoles version bank program other.now
+        (showing (reader R.told R.left R.failures image.old) (writer W.told W.written W.failures out.old))
+        (showing (reader R.told R.left R.failures image.new) (writer W.told W.written W.failures out.new))
+        result }
+{
+    let (words, symbols, _) = program.split_all();
+    let Ok(names) = PlaceNames::new(alloc, symbols) else {
+        return Err(WorkshopFault::NoMemory);
+    };
+    let rope = Rope::read(alloc, image, version)?;
+    Ok(write_holed_words(&words, other, &names, &rope, bank, out)?)
+}
