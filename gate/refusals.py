@@ -27,14 +27,14 @@ SUMMING = (passed.sum_of, passed.without_bodies, passed.Sums.texts_of, passed.Su
 TURNS = [
     ["workshop"],
     ["debugger"],
-    ["faults"],
+    ["diagnostics"],
     ["yayul"],
     ["cpu"],
     ["commands", "symbols", "agc_text"],
     ["words", "json_text", "audit", "align"],
     ["replay", "test_devices", "test_keepers"],
     ["feed", "rope", "space", "expect", "certain", "holes"],
-    ["calls", "trace", "names", "cover", "reach", "bound", "notes", "access", "delays", "say", "whatif", "origins", "branches", "idle", "instructions", "addressed", "differ", "xref", "uses", "source_laws", "way_laws", "notation_laws", "named_source", "image_file", "command_line", "plans", "octals", "assumed", "confirmed", "included", "agcws"],
+    ["calls", "trace", "names", "cover", "reach", "bound", "notes", "access", "delays", "say", "whatif", "origins", "branches", "idle", "instructions", "addressed", "differ", "xref", "way_laws", "notation_laws", "named_source", "image_file", "command_line", "plans", "assumed", "confirmed", "included", "agcws"],
 ]
 
 

@@ -4,8 +4,8 @@
 use crate::files::{no_memory, not_opened};
 use crate::joining::{SourceText, source_text};
 use arguments::ImageLayout;
+use audit::{is_beginning, octal_image};
 use included::Joined;
-use octals::{is_beginning, octal_image};
 use plans::Image;
 use std::alloc::{AllocError, Global};
 use std::io::Read;

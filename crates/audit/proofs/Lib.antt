@@ -3,6 +3,10 @@ pub mod DamageRows
 pub mod Ends
 pub mod Folds
 pub mod LayoutRows
+mod OctalBanks
+mod OctalImages
+mod OctalRows
+pub mod OctalSteps
 pub mod OrderSums
 pub mod PartTexts
 pub mod PlaceLines

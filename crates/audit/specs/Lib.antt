@@ -7,7 +7,9 @@ pub mod FormNames
 pub mod FormSums
 pub mod Layouts
 pub mod Mended
+pub mod OctalTexts
 pub mod Octals
+pub mod OctalsBack
 pub mod Orders
 pub mod Parities
 pub mod SourceLines

@@ -10,7 +10,7 @@ use crate::form::UncertainForm;
 use crate::places::{UncertainPlaces, placed_rows};
 use crate::rows::{is_second, place_before, text_on};
 use agc_text::next_line;
-use faults::{Doubt, Warning};
+use diagnostics::{Doubt, Warning};
 use rope::Rope;
 use std::alloc::{AllocError, Global};
 use yayul::{Language, SourceRows, Span, reading_of};

@@ -9,8 +9,8 @@ use Rattle.yayul.specs.declared.faults.Fault.{Fault}
 use Rattle.yayul.specs.Program.{Program, program}
 use Rattle.yayul.specs.declared.language.Language.TheVariants.{Standard}
 use Rattle.audit.specs.SourceLines.{source_text}
-use Rattle.source_laws.specs.GivenBack.{AreWords, IsBank, GivesBack}
-use Rattle.source_laws.proofs.GivenBack as octal
+use Rattle.named_source.specs.GivenBack.{AreWords, IsBank, GivesBack}
+use Rattle.named_source.proofs.OctalGivenBack as octal
 use Rattle.named_source.specs.NamedSources.{bank_given, banks_given, gives_words, is_same, named_source, wanted, with_names}
 
 -- both of two tests hold

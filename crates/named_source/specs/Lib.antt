@@ -1,1 +1,3 @@
+pub mod GivenBack
 pub mod NamedSources
+pub mod OtherOrder

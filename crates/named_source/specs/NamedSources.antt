@@ -19,7 +19,7 @@ use Rattle.cpu.specs.Next.{extracode_after}
 use Rattle.cpu.specs.Texts.{disassembly}
 use Rattle.audit.specs.SourceLines.{source_text}
 use Rattle.audit.specs.WordLines.{extracode_at}
-use Rattle.source_laws.specs.GivenBack.{is_written}
+use Rattle.named_source.specs.GivenBack.{is_written}
 use Rattle.trace.specs.TraceLines.{symbol_at}
 use Rattle.names.specs.NamedLines.{named_instruction}
 use Rattle.names.specs.Tables.{with_name}

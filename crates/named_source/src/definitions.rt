@@ -3,7 +3,7 @@
 ghost use Rattle.std.specs.Prelude.{◌≡◌, ◌++◌, ◌≤◌, IfOk, length};
 ghost use Rattle.named_source.specs.NamedSources.{all_names, erasable_lines, fixed_lines, is_first, label_lines};
 ghost use Rattle.named_source.specs.NamedSources.{labels_of, name_lines, no_label_line, number_line, with_label};
-ghost use Rattle.source_laws.specs.GivenBack.{is_written};
+ghost use Rattle.named_source.specs.GivenBack.{is_written};
 
 use crate::label::is_label;
 use crate::lines::Line;

@@ -4,7 +4,7 @@ ghost use Rattle.std.specs.Prelude.{◌≡◌, ◌<◌};
 ghost use Rattle.rope.specs.Places.{bank_words, banks};
 ghost use Rattle.named_source.specs.NamedSources.{bank_given, banks_given, is_same, wanted};
 ghost use Rattle.rope.specs.Places.{slot_at};
-ghost use Rattle.source_laws.specs.GivenBack.{is_written};
+ghost use Rattle.named_source.specs.GivenBack.{is_written};
 
 use audit::{bank_of, offset_of};
 use rope::Rope;

@@ -2,7 +2,7 @@
 
 ghost use Rattle.std.specs.Prelude.{ℕ};
 ghost use Rattle.symbols.specs.Values.{SymbolTable};
-ghost use Rattle.source_laws.specs.GivenBack.{AreWords, IsBank, GivesBack};
+ghost use Rattle.named_source.specs.GivenBack.{AreWords, IsBank, GivesBack};
 ghost use Rattle.named_source.specs.NamedSources.{named_source};
 
 use rope::Rope;

@@ -6,6 +6,7 @@ mod given;
 mod label;
 mod laws;
 mod lines;
+pub mod octal_laws;
 mod source;
 
 pub use laws::named_source_gives_back;

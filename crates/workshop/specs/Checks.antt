@@ -7,11 +7,11 @@ use Rattle.yayul.specs.Program.{Program, program}
 use Rattle.yayul.specs.declared.faults.Fault.{Fault}
 use Rattle.yayul.specs.declared.language.Language.{Language}
 use Rattle.yayul.specs.declared.language.Language.TheVariants.{Flight, Standard}
-use Rattle.faults.specs.FeedReport.{feed_faults, feed_report}
-use Rattle.faults.specs.Joined.{joined}
-use Rattle.faults.specs.Report.{count_text, report}
-use Rattle.faults.specs.Warnings.{warnings}
-use Rattle.faults.specs.declared.told.Warning.{Warning}
+use Rattle.diagnostics.specs.FeedReport.{feed_faults, feed_report}
+use Rattle.diagnostics.specs.Joined.{joined}
+use Rattle.diagnostics.specs.Report.{count_text, report}
+use Rattle.diagnostics.specs.Warnings.{warnings}
+use Rattle.diagnostics.specs.declared.told.Warning.{Warning}
 use Rattle.certain.specs.Doubted.{doubted}
 use Rattle.workshop.specs.declared.checking.Tally.{Tally}
 use Rattle.workshop.specs.declared.fault.WorkshopFault.{WorkshopFault}

@@ -8,8 +8,8 @@ use Rattle.yayul.specs.Named.{Named, named_places}
 use Rattle.yayul.specs.Program.{Program, Source as Lines}
 use Rattle.yayul.specs.Survey.{told}
 use Rattle.yayul.specs.declared.language.Language.TheVariants.{Standard}
-use Rattle.faults.specs.Report.{report}
-use Rattle.faults.specs.Warnings.{warnings}
+use Rattle.diagnostics.specs.Report.{report}
+use Rattle.diagnostics.specs.Warnings.{warnings}
 use Rattle.cpu.specs.State.{Scenario}
 use Rattle.notes.specs.RunNotes.{notes_text}
 use Rattle.expect.specs.Facts.{Facts, ask_for_check, ask_for_notes, ask_for_instructions}

@@ -2,7 +2,7 @@
 
 ghost use Rattle.std.specs.Prelude.{◌≡◌, ◌^◌, ◌+◌, ◌-◌, min, length, IfErr, IfOk};
 ghost use Rattle.std.specs.Result.{result_map_both};
-ghost use Rattle.faults.specs.Report.{refused_file, report};
+ghost use Rattle.diagnostics.specs.Report.{refused_file, report};
 ghost use Rattle.certain.specs.Doubted.{doubted};
 ghost use Rattle.yayul.specs.Program.{program};
 ghost use Rattle.yayul.specs.declared.language.Language.TheVariants as Language;
@@ -14,7 +14,7 @@ ghost use Rattle.workshop.specs.Loading.{Reads, ReadsText};
 
 use crate::fault::WorkshopFault;
 use certain::doubted_lines;
-use faults::{Warning, counts, feed_report, joined, refused_file, report, warnings};
+use diagnostics::{Warning, counts, feed_report, joined, refused_file, report, warnings};
 use json_text::Notation;
 use std::alloc::{AllocError, Global};
 use words::{MOST_BYTES, Read, Write, read_text, write_all};

@@ -4,7 +4,7 @@ ghost use Rattle.workshop.specs.Crossing.{CrossReferences};
 ghost use Rattle.workshop.specs.Failures.{reader, writer};
 ghost use Rattle.workshop.specs.Making.{MakesText, ShowsMade};
 ghost use Rattle.workshop.specs.Ropes.{showing};
-ghost use Rattle.uses.specs.Uses.{cross_reference};
+ghost use Rattle.names.specs.Uses.{cross_reference};
 
 use crate::fault::WorkshopFault;
 use rope::{Rope, Version};
@@ -63,8 +63,8 @@ fn write_crossed<W: Write>(
     ensures { MakesText (cross_reference names.now rope.now bank) (writer W.told W.written W.failures out.old)
         (writer W.told W.written W.failures out.new) result }
 {
-    let Ok(found) = uses::mentions(alloc, rope, bank) else {
+    let Ok(found) = names::mentions(alloc, rope, bank) else {
         return Err(WorkshopFault::NoMemory);
     };
-    Ok(uses::write_uses(names, &found, out)?)
+    Ok(names::write_uses(names, &found, out)?)
 }

@@ -53,6 +53,10 @@ pub use debugging::{
     open_program, open_session,
 };
 pub use delaying::delays_program;
+pub use diagnostics::{
+    NoteKind, Refusal, all_headings, explanation, near_in, note_explanation, note_kind, refusal_of,
+    warning_explanation, warning_of,
+};
 pub use differing::{Side, differ_program};
 pub use ending::write_end;
 pub use engine::{
@@ -61,10 +65,6 @@ pub use engine::{
 pub use expect::{Asked, Expectation, Refusal as TextRefusal, expectation_in};
 pub use expecting::{Judged, judge_program};
 pub use fault::{WorkshopFault, report};
-pub use faults::{
-    NoteKind, Refusal, all_headings, explanation, near_in, note_explanation, note_kind, refusal_of,
-    warning_explanation, warning_of,
-};
 pub use holed::{asm_filled_with_check_words, asm_with_holes};
 pub use holed_run::{HoledSummary, run_to_hole};
 pub use idling::run_until_idle;

@@ -1,0 +1,61 @@
+-- Texts that grow.
+use Rattle.std.proofs.Common.{◌≡◌, ℕ, ◌+◌, ◌<◌, Bool, true, false, List, [], ◌∷◌, ◌++◌, Some, length, take, drop, find, get_or, map}
+use Rattle.std.proofs.Common.{slice_get, refl, ap, sym, inl, inr, ◌∙◌, append_assoc}
+use Rattle.std.specs.List.{list_all, list_any}
+use Rattle.std.proofs.lemmas.Bool.{cases_Bool}
+use Rattle.std.proofs.lemmas.List.{drop_more, take_more, map-append}
+use Rattle.std.proofs.lemmas.Option.{get_or_from_slice_get, slice_get_within}
+use Rattle.agc_text.specs.Bytes.{is_text_byte}
+use Rattle.diagnostics.specs.Shown.{shown_byte}
+
+-- what is made of so many and one of some things
+pub mapped_more : {A B : Type 0} (f : A → B) (d : A) (text : List A) (i : ℕ) → i < length text
+    → map f (take (i + 1) text) ≡ map f (take i text) ++ f (get_or text i d) ∷ []
+mapped_more f d text i lt = ap (map f) (take_more text i d lt) ∙ map-append f (take i text) (get_or text i d ∷ [])
+
+-- a text that has so far grown by what is made of so many, and then of one more
+pub grown : {A B : Type 0} (f : A → B) (d : A) (text : List A) (i : ℕ) (before so_far : List B) → i < length text
+    → so_far ≡ before ++ map f (take i text)
+    → so_far ++ f (get_or text i d) ∷ [] ≡ before ++ map f (take (i + 1) text)
+grown f d text i before so_far lt e =
+    ap (λ t. t ++ f (get_or text i d) ∷ []) e ∙ append_assoc before (map f (take i text)) (f (get_or text i d) ∷ [])
+    ∙ ap (λ t. before ++ t) (sym (mapped_more f d text i lt))
+
+-- what stands at a place of a list begins what is left of it
+left_at : (names : List (List ℕ)) (i : ℕ) (name : List ℕ) → Some name ≡ slice_get names i → drop i names ≡ name ∷ drop (i + 1) names
+left_at names i name at =
+    drop_more names i [] (slice_get_within names i name (sym at))
+    ∙ ap (λ n. n ∷ drop (i + 1) names) (get_or_from_slice_get names i name [] (sym at))
+
+-- a name that passes is the first that does of those that are left
+pub find_here : (test : List ℕ → Bool) (names : List (List ℕ)) (i : ℕ) (name : List ℕ) → Some name ≡ slice_get names i → test name ≡ true
+    → find test (drop i names) ≡ Some name
+find_here test names i name at passes = rw (left_at names i name at) (rw passes refl)
+
+-- one that does not is passed over
+pub find_on :
+    (test : List ℕ → Bool) (names : List (List ℕ)) (i : ℕ) (name : List ℕ) → Some name ≡ slice_get names i → test name ≡ false
+    → find test (drop i names) ≡ find test (drop (i + 1) names)
+find_on test names i name at fails = rw (left_at names i name at) (rw fails refl)
+
+-- a name that passes is one of those that are left
+pub any_here : (test : List ℕ → Bool) (names : List (List ℕ)) (i : ℕ) (name : List ℕ) → Some name ≡ slice_get names i → test name ≡ true
+    → list_any test (drop i names) ≡ true
+any_here test names i name at passes = rw (left_at names i name at) (rw passes refl)
+
+-- where one does not, only those after it are left
+pub any_on :
+    (test : List ℕ → Bool) (names : List (List ℕ)) (i : ℕ) (name : List ℕ) → Some name ≡ slice_get names i → test name ≡ false
+    → list_any test (drop i names) ≡ list_any test (drop (i + 1) names)
+any_on test names i name at fails = rw (left_at names i name at) (rw fails refl)
+
+-- a text that a line may hold is shown as it is
+pub text_is_shown : (text : List ℕ) → list_all is_text_byte text ≡ true → map shown_byte text ≡ text
+text_is_shown [] all = refl
+text_is_shown (x ∷ xs) all =
+    elim (cases_Bool (is_text_byte x)) [
+      | inl passes ↦ (
+          let rest : list_all is_text_byte xs ≡ true = rw passes at all in
+          rw (passes, text_is_shown xs rest) refl)
+      | inr fails ↦ absurd (let never : false ≡ true = rw fails at all in cc)
+    ]

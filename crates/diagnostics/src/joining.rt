@@ -1,0 +1,36 @@
+//! Two lists of warnings as one.
+
+ghost use Rattle.std.specs.Prelude.{◌≡◌, ◌++◌, IfOk, OnOk};
+ghost use Rattle.diagnostics.specs.Joined.{joined};
+
+use crate::findings::count_before;
+use crate::told::Warning;
+use std::alloc::{AllocError, Global};
+
+/// Two lists of warnings, each in the order of lines, in that order; of one line those of the first list come first.
+pub fn joined(
+    alloc: Global,
+    warnings: &[Warning],
+    others: &[Warning],
+) -> Result<Vec<Warning>, AllocError>
+    ensures { IfOk result (λ all. all.items ≡ joined warnings.now others.now) }
+{
+    let mut all = Vec::new(alloc);
+    let mut rest = others;
+    for warning in warnings {
+        let (earlier, later) = rest.split_at(count_before(warning.line, rest));
+        push_all(&mut all, earlier)?;
+        all.push(*warning)?;
+        rest = later;
+    }
+    push_all(&mut all, rest)?;
+    Ok(all)
+}
+
+// Appends some warnings.
+fn push_all(all: &mut Vec<Warning>, warnings: &[Warning]) -> Result<(), AllocError>
+    ensures { OnOk result (all.new.items ≡ all.old.items ++ warnings.now) }
+{
+    all.extend_from_slice(warnings)?;
+    Ok(())
+}

@@ -1,0 +1,75 @@
+//! What is told of a line: its faults and its warnings.
+
+ghost use Rattle.std.specs.Prelude.{◌≡◌};
+ghost use Rattle.diagnostics.specs.Report.{as_error, as_warning};
+
+use yayul::{Finding, Span};
+
+/// Whether what is found bars a source from assembling.
+#[derive(Clone, Copy, PartialEq, Eq, Debug, Drop)]
+pub enum Severity {
+    /// A fault, which does.
+    Error,
+    /// What is likely a mistake, and does not.
+    Warning,
+}
+
+/// Why it is not certain what the assembler of flight programs makes of a word that stays as in the standard language.
+#[derive(Clone, Copy, Drop)]
+pub enum Doubt {
+    /// 2CADR of banks 030 to 037: the superbank bits of its second word.
+    SuperbankBits,
+    /// EBANK= before an earlier 2CADR: whether it holds for this line too.
+    HeldBank,
+}
+
+/// What in a source is likely a mistake, and where it stands.
+#[derive(Clone, Copy, Drop)]
+pub struct Warning {
+    /// The line, counted from 1.
+    pub line: u32,
+    /// The number that it is told by: one of the manual's table of warnings.
+    pub number: u8,
+    /// The bytes of the line that are to blame.
+    pub span: Span,
+    /// Why a word of the line is not certain, where that is warned of.
+    pub doubt: Option<Doubt>,
+}
+
+/// A fault or a warning as it is told, and where it stands.
+#[derive(Clone, Copy, Drop)]
+pub(crate) struct Told {
+    pub(crate) severity: Severity,
+    /// The number that it is told by.
+    pub(crate) number: u8,
+    /// The line, counted from 1.
+    pub(crate) line: u32,
+    /// The bytes of the line that are to blame.
+    pub(crate) span: Span,
+}
+
+impl Told {
+    /// A fault of a source.
+    pub(crate) fn error(fault: &Finding) -> Told
+        ensures { result ≡ as_error fault.now }
+    {
+        Told {
+            severity: Severity::Error,
+            number: fault.kind.number(),
+            line: fault.line,
+            span: fault.span,
+        }
+    }
+
+    /// A warning.
+    pub(crate) fn warning(warning: &Warning) -> Told
+        ensures { result ≡ as_warning warning.now }
+    {
+        Told {
+            severity: Severity::Warning,
+            number: warning.number,
+            line: warning.line,
+            span: warning.span,
+        }
+    }
+}

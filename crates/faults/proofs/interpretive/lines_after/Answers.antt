@@ -1,5 +1,0 @@
-use Rattle.faults.proofs.Around.{drop_within}
-use Rattle.faults.proofs.interpretive.lines_after.Goals as goal
-
-pub returns : goal.returns
-returns c = drop_within c.min.result c.args.count c.args.texts.now c.min.ensures

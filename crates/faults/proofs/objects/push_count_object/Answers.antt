@@ -1,8 +1,0 @@
-use Rattle.faults.proofs.Merging.{five_appended}
-use Rattle.faults.proofs.objects.push_count_object.Goals as goal
-
-pub returns : goal.returns
-returns c =
-    five_appended c.args.out.now.items _ _ _ _ _ _ _ _ _ _ c.in_ok-extend_from_slice.ensures.items c.in_ok-push_number.ensures
-    c.in_ok-extend_from_slice-2.ensures.items
-    c.in_ok-push_number-2.ensures c.in_ok-extend_from_slice-3.ensures.items

@@ -1,4 +1,0 @@
-pub mod Bytes
-pub mod GivenBack
-pub mod Images
-pub mod OtherOrder

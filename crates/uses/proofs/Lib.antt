@@ -1,3 +1,0 @@
-pub mod UseNames
-pub mod Steps
-mod UseRows

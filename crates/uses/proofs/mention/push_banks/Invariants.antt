@@ -1,7 +1,0 @@
-use Rattle.std.proofs.Common.{◌≡◌, ◌++◌}
-use Rattle.audit.proofs.PartTexts.{front}
-use Rattle.uses.specs.Uses.{bank_mentions}
-use Rattle.uses.proofs.mention.push_banks.Given as goal
-
-abbrev pub invariant-loop-number : goal.invariant-loop-number
-invariant-loop-number l = l.found.items ≡ l.initial.found.items ++ front (bank_mentions l.rope) l.number
