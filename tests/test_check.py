@@ -208,13 +208,26 @@ WARNINGS = [
     (" SETLOC 4054; CA X; CA X; CA X; CA X; TS X;D TCF D;X OCT 1", []),
     # a switched erasable bank, while no line sets EB and while one does
     (" SETLOC 2000;V ERASE; SETLOC 4000; TS V; ADS V +1;A ECADR V;D TCF D; CA A", [(4, 5, 6), (5, 2, 4), (5, 6, 6), (6, 1, 7), (8, 2, 4)]),
-    (" SETLOC 1377;U ERASE;V ERASE; SETLOC 4000; TS U; TS V;D TCF D", []),
+    (" SETLOC 1377;U ERASE;V ERASE; SETLOC 4000; TS U; TS V;D TCF D", [(6, 5, 6)]),
+    (" SETLOC 1377;U ERASE;V ERASE; SETLOC 4000; TS U +1; TS V -1;D TCF D", [(5, 5, 6)]),
+    ("S EQUALS 1024D; SETLOC S;V ERASE; SETLOC 4000;W EQUALS V; TS W;D TCF D", [(6, 5, 6)]),
+    (" FROB 1; SETLOC 2000;V ERAS;W ERASE; SETLOC 4000; TC V; TS W;D TCF D", []),
+    (" FROB 1; SETLOC 2000;V ERAS; SETLOC 2001;W ERASE; SETLOC 4000; TC V; TS W;D TCF D", [(8, 5, 6)]),
+    (" SETLOC 2000;V ERASE; SETLOC 4000; TS NONE; TS V;D TCF D", []),
+    # places by which EB is set: a name in decimal, a word reserved there, one with an offset, the second of two words; and Q, which is none
+    ("B = 3D; SETLOC 2000;V ERASE; SETLOC 4000; TS B; TS V;D TCF D", []),
+    (" SETLOC 3;B ERASE; SETLOC 2000;V ERASE; SETLOC 4000; TS B; TS V;D TCF D", []),
+    ("B EQUALS 1; SETLOC 2000;V ERASE; SETLOC 4000; TS B +2; TS V;D TCF D", []),
+    (" SETLOC 2000;V ERASE; SETLOC 4000; DXCH 2; TS V;D TCF D", []),
+    (" SETLOC 2000;V ERASE; SETLOC 4000; TS 2; TS V;D TCF D", [(5, 5, 6)]),
+    ("K EQUALS 100; SETLOC 2000;V ERASE; SETLOC 4000; INDEX K; TS 0; TS V;D TCF D", []),
     (" SETLOC 2000;V ERASE; SETLOC 4000; TS 3; TS V;D TCF D", []),
     ("EB EQUALS 3; SETLOC 2000;V ERASE; SETLOC 4000; LXCH EB; TS V;D TCF D", []),
     # a switched bank of fixed memory, while no line sets FB and while one does; bank 0, in which a machine starts
     (" TC R;D TCF D;A FCADR R; CA A; TCF D; BANK 10;R CA B; RETURN;B OCT 1", [(1, 5, 9), (3, 1, 7)]),
     (" TC R; CA 4;D TCF D; BANK 0;R RETURN", [(2, 5, 2)]),
     (" TS FB; TC R;D TCF D; BANK 10;R RETURN;FB EQUALS 4", []),
+    (" TS 3; TC S;D TCF D; BANK 8D;R RETURN;S EQUALS R", [(2, 5, 9)]),
     # a line that leads to the very next place, and to another
     (" CA Y; BANK 2; TCF 4000;Y EQUALS 100", []),
     (" CA Y; SETLOC 4001; TCF 4000;Y EQUALS 100", []),
@@ -286,7 +299,7 @@ SILENT = [
     ("", " CA FIVE| EXTEND| WRITE 1|DONE TCF DONE|FIVE OCT 5", [(3, 8, "W10: channel 1 is a register, L or Q, and nothing goes out", "another channel, or, where the register is meant, its name: L EQUALS 1, Q EQUALS 2")]),
     ("", "FIVE OCT 5| CA FIVE|DONE TCF DONE", [(1, 6, "W11: a run starts here, at 4000, and OCT is no instruction", "the program first, or a jump to it, and constants behind its last jump")]),
     ("", " SETLOC 2000|VAR ERASE| SETLOC 4000| CA FIVE| TS VAR|DONE TCF DONE|FIVE OCT 5", [
-        (5, 5, "W6: VAR stands in a switched erasable bank, and no line sets EB", "NAME ECADR VAR on a line of its own; before this CA NAME, and TS 3, which is EB")]),
+        (5, 5, "W6: TS reaches a switched erasable bank, and no line sets EB", "NAME ECADR VAR on a line of its own; before this CA NAME, and TS 3, which is EB")]),
     ("", " SETLOC 100|Q ERASE| SETLOC 4000| TS Q|DONE TCF DONE", [(2, 1, "W7: Q is a register's name, and stands for another place here", "Q EQUALS 2 is the register")]),
     ("", " TCF DONE| CA FIVE|DONE TCF DONE|FIVE OCT 5", [(2, 2, "W16: CA stands behind a jump without a label, and nothing leads here", "a label and a jump to it, or leave it out")]),
     ("", " SETLOC 100|X ERASE| SETLOC 100|Y ERASE| SETLOC 4000| TS X| TS Y|DONE TCF DONE", [(4, 1, "W15: Y stands where an earlier line reserves a word", "no SETLOC between the two; for two names of one word Y EQUALS the other")]),

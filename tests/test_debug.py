@@ -157,6 +157,31 @@ class Debug(Case):
         with self.subTest("a session made anew"):
             self.assertAnswer((ran.returncode, ran.stdout, ran.stderr), 0, b"BREAK 1\nHIT 1\nAT 2 4 4002\n7 CH 010 00012\nHIT 1\nAT 7 12 4002\n")
 
+    def test_counted_outputs(self):
+        """While it is quiet a command's channel lines are counted, in their place; all other lines are as ever, those of `tail` too."""
+        line = r"^\d+ CH \d{3} \d{5}\n"
+        for name, feed in ("five_plus_five", "empty"), ("lost_sum", "lost_sum"), ("waitlist", "waitlist"):
+            files = f"{EXAMPLES}/{name}.agc", f"{EXAMPLES}/{feed}.feed"
+            draw = random.Random(name)
+            moves = ["run", "step", "on", "until", "over", "out", "back", "goto"]
+            parts = [[f"{draw.choice(moves)} {draw.randrange(200)}"] for _ in range(300)] + [["break at 4004"], ["run 1000"], ["clear"]]
+            loud, quiet = replies_of(*files, *parts, ["tail", "tail 9 steps"]), replies_of(*files, ["quiet on"], *parts, ["tail", "tail 9 steps"])
+            with self.subTest(f"{name} tells each"):
+                self.assertEqual((quiet[0], quiet[-1], len(quiet)), ("QUIET on\n", loud[-1], len(loud) + 1))
+            with self.subTest(f"{name} counts each"):
+                counts = [re.subn(line, "", it, flags=re.M) for it in loud[:-1]]
+                self.assertEqual(quiet[1:-1], [rest if count == 0 else f"WORDS {count}\n{rest}" for rest, count in counts])
+            # on and off in turn
+            both = [[f"quiet {draw.choice(['on', 'off'])}", *part] for part in parts]
+            with self.subTest(f"{name} tells some and counts others"):
+                told = [("".join(re.findall(line, it, re.M)), sum(int(n) for n in re.findall(r"^WORDS (\d+)$", it, re.M))) for it in replies_of(*files, *both)]
+                mine = ["".join(re.findall(line, it, re.M)) for it in loud[:-1]]
+                want = [("", it.count("\n")) if part[0] == "quiet on" else (it, 0) for part, it in zip(both, mine)]
+                self.assertEqual(told, want)
+        with self.subTest("a session that is not extended"):
+            ran = subprocess.run([PROGRAM, "debug", *files], input=b"quiet on\nrun 0\n", capture_output=True, timeout=WAIT)
+            self.assertAnswer((ran.returncode, ran.stdout, ran.stderr), 0, b"E50 COMMAND\nAT 0 0 4000\n")
+
     def test_each_command_is_told(self):
         """Each command that `help` tells of stands in the help of `agcws debug`, and in a table of section 7 of the manual."""
         names = re.findall(r"^HELP (\w+) takes", replies_of(f"{EXAMPLES}/lost_sum.agc", f"{EXAMPLES}/empty.feed", ["help"])[0], re.M)

@@ -76,6 +76,11 @@ HOLED_RUNS = [
 ]
 
 
+def spelled(word):
+    """The two bytes of a word of an image."""
+    return (2 * word + (bin(word).count("1") + 1) % 2).to_bytes(2, "big")
+
+
 class Flight(Case):
     """Forms of flight programs, and sources that have none."""
 
@@ -156,23 +161,31 @@ class Flight(Case):
         self.assertEqual(self.compare("--holes"), wanted)
         self.assertEqual(self.compare("--holes", "--banks"), wanted)
         self.assertEqual(self.compare("--banks"), (1, "", "agcws: E15 LINE 7\n"))
+        # 00006 in the last hole of bank 2 is no EXTEND: the words behind it are no DCA.
+        for offset, word in ((4, 6), (5, 0o34007)):
+            rope[2 * offset : 2 * offset + 2] = spelled(word)
+        write(f"{self.room}/rope.img", bytes(rope))
+        wanted = (1, "02,4005 34010 34007 CA 4010, CA 4007\n02,4010 00005 00006 TC 0005, EXTEND\nCOUNT 2\n" + banks.replace("EQUAL 4", "EQUAL 3"), "")
+        self.assertEqual(self.compare("--holes"), wanted)
 
     def test_words_with_holes(self):
-        """A rope's words are shown with the names of the source; but those of holes with HOLE, and no other line changes."""
+        """A rope's words are shown with the names of the source, but those of holes with HOLE; and behind a hole with EXTEND none is an extracode."""
         status, listing, err = self.asm(MODULE, "--flight", "--holes")
         self.assertEqual((status, err), (0, ""))
         write(f"{self.room}/names.lst", listing.encode())
         rope = bytearray(read(f"{self.room}/flight.img"))
-        # at the last hole of bank 2 EXTEND, by which the word behind it is an extracode, and at the others 77777
+        # at the last hole of bank 2 EXTEND, by which without holes the word behind it is an extracode, and at the others 77777
         for offset, word in ((1, 0o77777), (2, 0o77777), (3, 0o77777), (4, 6)):
-            rope[2 * offset : 2 * offset + 2] = (2 * word + (bin(word).count("1") + 1) % 2).to_bytes(2, "big")
+            rope[2 * offset : 2 * offset + 2] = spelled(word)
         write(f"{self.room}/rope.img", bytes(rope))
+        behind, basic = "02,4005 34010 DCA ", "02,4005 34010 CA FIVE"
         for bank in ((), ("02",), ("04",), ("05",)):
             told = [subprocess.run([PROGRAM, "words", *options, f"{self.room}/rope.img", *bank], capture_output=True, timeout=300) for options in (("--symbols", f"{self.room}/names.lst"), ("--flight", "--holes", "--symbols", f"{self.room}/flight.agc"))]
             self.assertEqual([it.returncode for it in told], [0, 0])
             plain, holed = ([line for line in it.stdout.decode().splitlines()] for it in told)
             with self.subTest(bank):
-                self.assertEqual(holed, [line[:13] + " HOLE" if line[:7] in HOLES else line for line in plain])
+                self.assertEqual(holed, [line[:13] + " HOLE" if line[:7] in HOLES else basic if line.startswith(behind) else line for line in plain])
+                self.assertEqual((any(line.startswith(behind) for line in plain), basic in holed), (bank in ((), ("02",)),) * 2)
         self.assertIn("02,4003 77777 HOLE", self.words("02")[1].splitlines())
         for text in (MODULE.replace("CADR VSUB", "CADX VSUB"), MODULE.replace("NOOP", "NOPE")):
             write(f"{self.room}/flight.agc", text.replace(";", "\n").encode() + b"\n")

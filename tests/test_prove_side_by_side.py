@@ -154,6 +154,9 @@ class WholeRuns(unittest.TestCase):
             self.assertTrue(os.access(f"{room}/crates/top/out/top", os.X_OK))
             later = subprocess.run(["rt", "check", "--jobs", "1"], cwd=f"{room}/crates/top", capture_output=True, text=True, check=False)
             self.assertRegex(later.stdout, r"(?m)^crate top: modules loaded=\d+ checked=0$")
+            write(f"{room}/crates/middle/src/lib.rt", HEAD + TWO_MORE.replace("one_more(x) + 1", "one_more(x)  +  1"))
+            untidy = ran(room, "middle")
+            self.assertEqual((untidy.stdout.splitlines()[-1], untidy.returncode), ("not in the layout of rt fmt: middle", 1))
 
     def test_names_that_are_no_crates(self):
         told = ran(os.path.dirname(RUNNER), "no_such_crate")

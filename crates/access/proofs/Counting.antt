@@ -7,6 +7,7 @@ use Rattle.std.proofs.lemmas.Bool.Decides.{eqb_tells}
 use Rattle.std.specs.List.{flat_map}
 use Rattle.std.proofs.lemmas.List.Concat.{flat_map-append}
 use Rattle.std.proofs.lemmas.List.{append-nil, get_or-set_same, get_or-set_other, length-replicate, length-set}
+use Rattle.words.proofs.Replicated.{get_replicated}
 use Rattle.cover.specs.Tallies.{account_count, account_number, is_account}
 use Rattle.cpu.specs.Profiles.{account_of}
 use Rattle.cpu.specs.declared.spot.Spot.{Spot}
@@ -26,14 +27,10 @@ abbrev pub no_count : ℕ
 no_count = 0
 
 none_held : (n k : ℕ) → get_or (replicate n no_count) k no_count ≡ no_count
-none_held zero k = refl
-none_held (suc n) zero = refl
-none_held (suc n) (suc k) = none_held n k
+none_held n k = get_replicated no_count n k
 
 none_kept : (n k : ℕ) → get_or (replicate n no_kept) k no_kept ≡ no_kept
-none_kept zero k = refl
-none_kept (suc n) zero = refl
-none_kept (suc n) (suc k) = none_kept n k
+none_kept n k = get_replicated no_kept n k
 
 none_owed : (n i : ℕ) → owed (replicate n no_kept) i ≡ 0
 none_owed zero i = refl
@@ -246,25 +243,26 @@ settled_more old new number lt e before j le =
           rw (e, get_or-set_other old number j was no_kept apart.1) earlier
     ]
 
+settled : {A : Type 0} (f : Kept → A) (old new : List Kept) (number : ℕ) → number < length old
+    → new ≡ set old number (record (get_or old number no_kept) { count = 0 })
+    → f (record (get_or old number no_kept) { count = 0 }) ≡ f (get_or old number no_kept)
+    → (j : ℕ) → f (get_or new j no_kept) ≡ f (get_or old j no_kept)
+settled f old new number lt e alike j =
+    let was = record (get_or old number no_kept) { count = 0 } in
+    elim (eqb_tells j number) [
+      | inl same ↦ rw (same.1, e, get_or-set_same old number was no_kept lt) alike
+      | inr apart ↦ rw (e, get_or-set_other old number j was no_kept apart.1) refl
+    ]
+
 pub slots_settled : (old new : List Kept) (number : ℕ) → number < length old
     → new ≡ set old number (record (get_or old number no_kept) { count = 0 })
     → (j : ℕ) → (get_or new j no_kept).slots ≡ (get_or old j no_kept).slots
-slots_settled old new number lt e j =
-    let was = record (get_or old number no_kept) { count = 0 } in
-    elim (eqb_tells j number) [
-      | inl same ↦ rw (same.1, e, get_or-set_same old number was no_kept lt) refl
-      | inr apart ↦ rw (e, get_or-set_other old number j was no_kept apart.1) refl
-    ]
+slots_settled old new number lt e j = settled (λ k. k.slots) old new number lt e refl j
 
 pub kinds_settled : (old new : List Kept) (number : ℕ) → number < length old
     → new ≡ set old number (record (get_or old number no_kept) { count = 0 })
     → (j : ℕ) → (get_or new j no_kept).kind ≡ (get_or old j no_kept).kind
-kinds_settled old new number lt e j =
-    let was = record (get_or old number no_kept) { count = 0 } in
-    elim (eqb_tells j number) [
-      | inl same ↦ rw (same.1, e, get_or-set_same old number was no_kept lt) refl
-      | inr apart ↦ rw (e, get_or-set_other old number j was no_kept apart.1) refl
-    ]
+kinds_settled old new number lt e j = settled (λ k. k.kind) old new number lt e refl j
 
 kept_past : (ks : List Kept) (j : ℕ) → length ks ≤ j → get_or ks j no_kept ≡ no_kept
 kept_past [] j le = refl

@@ -1,6 +1,5 @@
 mod Slots
 pub mod Counting
-pub mod Nearest
 mod Repeating
 pub mod Sums
 pub mod Texts

@@ -6,7 +6,7 @@ use Rattle.symbols.specs.Values.{SymbolTable}
 use Rattle.yayul.specs.declared.language.Language.{Language}
 use Rattle.yayul.specs.Program.{Source}
 use Rattle.yayul.specs.Readings.{Parts, parts_for}
-use Rattle.certain.specs.Rows.{is_second, place_before, placed_rows, text_on}
+use Rattle.yayul.specs.PlaceMargin.{is_second, place_before, placed_rows, text_on}
 use Rattle.addressed.specs.Words.{Place, named_by}
 
 -- what the words of a line name, the first of which stands at a place

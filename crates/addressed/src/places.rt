@@ -8,15 +8,14 @@ ghost use Rattle.addressed.specs.Places.{with_place};
 
 use crate::word::{LineWords, named_by};
 use agc_text::next_line;
-use certain::{PlaceMargin, is_second, place_before, text_on};
-use json_text::Notation;
 use rope::Rope;
 use space::{Bank, Offset};
 use std::alloc::{AllocError, Global};
 use std::marker::Model;
 use symbols::Symbols;
-use words::Buffer;
-use yayul::{Language, Reading, SourceRows, reading_of};
+use yayul::{
+    Language, Reading, SourceRows, is_second, place_before, placed_rows, reading_of, text_on,
+};
 
 /// The places of fixed memory that the address words of a source name, in the order of its lines.
 #[derive(Drop)]
@@ -35,7 +34,7 @@ impl Model for AddressedPlaces {
 
 impl AddressedPlaces {
     /// Those of a source of a language, whose words stand in a fixed memory. `None` is that memory ran out.
-    #[tactic(auto, unfolding(crate::specs::Places::addressed, certain::specs::Rows::placed_rows))]
+    #[tactic(auto, unfolding(crate::specs::Places::addressed))]
     pub fn of(
         alloc: Global,
         language: Language,
@@ -45,10 +44,7 @@ impl AddressedPlaces {
     ) -> Option<AddressedPlaces>
         ensures { IfSome result (λ places. places ≡ addressed language symbols.now rows.now rope.now) }
     {
-        let mut listing = Buffer::new(alloc);
-        let Ok(()) = rows.write(Notation::Text, rope, &PlaceMargin, &mut listing) else {
-            return None;
-        };
+        let listing = placed_rows(alloc, rows, rope)?;
         match places_on(alloc, language, symbols, rope, listing.as_slice()) {
             Ok(places) => Some(AddressedPlaces { places }),
             Err(_) => None,

@@ -12,6 +12,9 @@ use workshop::{Form, InForm, Origin, Symbols, WorkshopFault, read_names, unread_
 /// A file that is read.
 pub type ReadFile = ReadAhead<Std<fs::File>>;
 
+/// The file of a program, whose bytes are taken in a form.
+pub type ProgramFile = InForm<ReadAhead<Std<ImageBytes>>>;
+
 /// Standard output, with what is to be written gathered.
 type StandardOutput<'a> = Std<Gathered<'a>>;
 
@@ -128,10 +131,7 @@ fn names_of(
 }
 
 /// An image, in the form in which its bytes are taken.
-pub fn opened_image(
-    rt: &HostRuntime,
-    image: &Image<'_>,
-) -> Result<InForm<ReadAhead<Std<ImageBytes>>>, WorkshopFault> {
+pub fn opened_image(rt: &HostRuntime, image: &Image<'_>) -> Result<ProgramFile, WorkshopFault> {
     let bytes = opened_bytes(rt, image)?;
     let form = form_of(&bytes, image.form);
     Ok(InForm::new(ReadAhead::new(Std::new(bytes)), form))
@@ -149,7 +149,7 @@ fn opened_file(rt: &HostRuntime, path: &str) -> Result<Std<fs::File>, WorkshopFa
 
 /// A file whose bytes are taken in a form. It is made where it is read, since what is read ahead lies in it: each move
 /// takes as long as reading so many bytes.
-pub fn taken_in(file: Std<ImageBytes>, form: Form) -> InForm<ReadAhead<Std<ImageBytes>>> {
+pub fn taken_in(file: Std<ImageBytes>, form: Form) -> ProgramFile {
     InForm::new(ReadAhead::new(file), form)
 }
 
@@ -163,6 +163,40 @@ pub fn with_stdout<'a, T: Drop, F: FnOnce(&mut StandardOutput<'a>) -> Result<T, 
 {
     let mut out = Std::new(Gathered::new(rt).map_err(not_buffered)?);
     let outcome = engine(&mut out);
+    flushed(&mut out, outcome)
+}
+
+/// Opens the files of a program, and calls an engine with where its words come from, its file, its feed, and standard
+/// output, as `with_stdout` does.
+pub fn with_program<
+    'a,
+    T: Drop,
+    F: FnOnce(
+        Origin,
+        &mut ProgramFile,
+        &mut Std<fs::File>,
+        &mut StandardOutput<'a>,
+    ) -> Result<T, WorkshopFault>,
+>(rt: &'a HostRuntime, program: &Program<'_>, engine: F) -> Result<T, WorkshopFault>
+    requires { F.IsAlwaysCallable engine }
+{
+    let OpenProgram {
+        origin,
+        file,
+        form,
+        mut feed,
+    } = opened_program(rt, program)?;
+    let mut file = taken_in(file, form);
+    let mut out = Std::new(Gathered::new(rt).map_err(not_buffered)?);
+    let outcome = engine(origin, &mut file, &mut feed, &mut out);
+    flushed(&mut out, outcome)
+}
+
+/// What an engine has answered, where standard output can be flushed then.
+fn flushed<T: Drop>(
+    out: &mut StandardOutput<'_>,
+    outcome: Result<T, WorkshopFault>,
+) -> Result<T, WorkshopFault> {
     match out.flush() {
         Ok(()) => outcome,
         Err(_) => Err(WorkshopFault::WriteFailed),

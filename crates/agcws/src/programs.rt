@@ -4,7 +4,7 @@ ghost use Rattle.std.specs.Prelude.{◌≤◌, ◌-◌, ◌^◌};
 
 use crate::files::{
     OpenListed, OpenProgram, no_memory, opened, opened_listed, opened_program, taken_in,
-    with_stdout,
+    with_program, with_stdout,
 };
 use crate::hints::tell_reached;
 use crate::joining::{SourceText, source_text};
@@ -29,8 +29,7 @@ pub fn run(rt: &HostRuntime, asked: &Run<'_>) -> Result<u8, WorkshopFault> {
     if asked.has_holes {
         return run_holed(rt, asked);
     }
-    let program = opened_program(rt, &asked.program)?;
-    let summary = with_stdout(rt, |out| run_told(rt, program, asked, out))?;
+    let summary = run_told(rt, asked)?;
     if asked.tells_end {
         write_end(&summary, &mut Std::new(rt.stderr()))?;
     } else {
@@ -75,80 +74,30 @@ fn tell_hole(
 }
 
 /// Runs a program, and tells on standard error what is to be told beside its lines.
-fn run_told<W: Write>(
-    rt: &HostRuntime,
-    program: OpenProgram,
-    asked: &Run<'_>,
-    out: &mut W,
-) -> Result<Summary, WorkshopFault> {
-    let steps = asked.steps.count();
-    let OpenProgram {
-        origin,
-        file,
-        form,
-        mut feed,
-    } = program;
-    let mut file = taken_in(file, form);
+fn run_told(rt: &HostRuntime, asked: &Run<'_>) -> Result<Summary, WorkshopFault> {
+    let (alloc, notation, steps) = (rt.alloc(), asked.notation, asked.steps.count());
     let mut progress = make_listener(rt, asked.tells_progress);
-    if asked.tells_notes {
-        run_with_notes(
-            rt.alloc(),
-            asked.notation,
-            origin,
-            &mut file,
-            &mut feed,
-            steps,
-            out,
-            &mut progress,
-            &mut Std::new(rt.stderr()),
-        )
-    } else if asked.until_idle {
-        run_until_idle(
-            rt.alloc(),
-            origin,
-            &mut file,
-            &mut feed,
-            steps,
-            out,
-            &mut progress,
-        )
-    } else {
-        run_and_tell(
-            rt.alloc(),
-            origin,
-            &mut file,
-            &mut feed,
-            steps,
-            out,
-            &mut progress,
-        )
-    }
+    with_program(rt, &asked.program, |origin, file, feed, out| {
+        let told = &mut progress;
+        if asked.tells_notes {
+            let notes = &mut Std::new(rt.stderr());
+            run_with_notes(alloc, notation, origin, file, feed, steps, out, told, notes)
+        } else if asked.until_idle {
+            run_until_idle(alloc, origin, file, feed, steps, out, told)
+        } else {
+            run_and_tell(alloc, origin, file, feed, steps, out, told)
+        }
+    })
 }
 
 /// `agcws trace [--progress] [--reads | --say] .. SRC FEED N [--from T] [--to T]`. All files are opened before anything
 /// is read.
 pub fn trace(rt: &HostRuntime, asked: &Tracing<'_>) -> Result<u8, WorkshopFault> {
-    let OpenProgram {
-        origin,
-        file,
-        form,
-        mut feed,
-    } = opened_program(rt, &asked.program)?;
-    let mut file = taken_in(file, form);
-    let (first, last) = (asked.first, asked.last.count());
+    let (first, last, form) = (asked.first, asked.last.count(), line_form(asked));
     let mut progress = make_listener(rt, asked.tells_progress);
-    with_stdout(rt, |out| {
-        trace_program(
-            rt.alloc(),
-            origin,
-            &mut file,
-            &mut feed,
-            line_form(asked),
-            first,
-            last,
-            out,
-            &mut progress,
-        )
+    with_program(rt, &asked.program, |origin, file, feed, out| {
+        let told = &mut progress;
+        trace_program(rt.alloc(), origin, file, feed, form, first, last, out, told)
     })?;
     Ok(DONE)
 }
@@ -166,26 +115,11 @@ fn line_form(asked: &Tracing<'_>) -> LineForm {
 
 /// `agcws cover [--progress] [--json] .. SRC FEED N`. All files are opened before anything is read.
 pub fn cover(rt: &HostRuntime, asked: &Profile<'_>) -> Result<u8, WorkshopFault> {
-    let OpenProgram {
-        origin,
-        file,
-        form,
-        mut feed,
-    } = opened_program(rt, &asked.program)?;
-    let mut file = taken_in(file, form);
-    let steps = asked.steps.count();
+    let (notation, steps) = (asked.notation, asked.steps.count());
     let mut progress = make_listener(rt, asked.tells_progress);
-    with_stdout(rt, |out| {
-        cover_program(
-            rt.alloc(),
-            asked.notation,
-            origin,
-            &mut file,
-            &mut feed,
-            steps,
-            out,
-            &mut progress,
-        )
+    with_program(rt, &asked.program, |origin, file, feed, out| {
+        let told = &mut progress;
+        cover_program(rt.alloc(), notation, origin, file, feed, steps, out, told)
     })?;
     Ok(DONE)
 }
@@ -204,25 +138,9 @@ pub fn reach(rt: &HostRuntime, asked: &Reachable<'_>) -> Result<u8, WorkshopFaul
 
 /// `agcws reach [--roots] .. SRC --feed FEED --steps N`. All files are opened before anything is read.
 pub fn reach_beside_run(rt: &HostRuntime, asked: &Reaching<'_>) -> Result<u8, WorkshopFault> {
-    let OpenProgram {
-        origin,
-        file,
-        form,
-        mut feed,
-    } = opened_program(rt, &asked.program)?;
-    let mut file = taken_in(file, form);
-    let steps = asked.steps.count();
-    let shows_roots = asked.shows_roots;
-    with_stdout(rt, |out| {
-        reach_run(
-            rt.alloc(),
-            origin,
-            &mut file,
-            &mut feed,
-            steps,
-            shows_roots,
-            out,
-        )
+    let (steps, shows_roots) = (asked.steps.count(), asked.shows_roots);
+    with_program(rt, &asked.program, |origin, file, feed, out| {
+        reach_run(rt.alloc(), origin, file, feed, steps, shows_roots, out)
     })?;
     Ok(DONE)
 }
@@ -247,27 +165,14 @@ pub fn bound(rt: &HostRuntime, asked: &Routine<'_>) -> Result<u8, WorkshopFault>
 
 /// `agcws access [--progress] .. SRC FEED N [PLACE]`. All files are opened before anything is read.
 pub fn access(rt: &HostRuntime, asked: &Accesses<'_>) -> Result<u8, WorkshopFault> {
-    let OpenProgram {
-        origin,
-        file,
-        form,
-        mut feed,
-    } = opened_program(rt, &asked.program)?;
-    let mut file = taken_in(file, form);
-    let steps = asked.steps.count();
-    let place = asked.place.map(|place| place.as_bytes());
+    let (place, steps) = (
+        asked.place.map(|place| place.as_bytes()),
+        asked.steps.count(),
+    );
     let mut progress = make_listener(rt, asked.tells_progress);
-    let is_found = with_stdout(rt, |out| {
-        access_program(
-            rt.alloc(),
-            origin,
-            &mut file,
-            &mut feed,
-            place,
-            steps,
-            out,
-            &mut progress,
-        )
+    let is_found = with_program(rt, &asked.program, |origin, file, feed, out| {
+        let told = &mut progress;
+        access_program(rt.alloc(), origin, file, feed, place, steps, out, told)
     })?;
     if is_found {
         Ok(DONE)
@@ -286,24 +191,11 @@ fn refuse_cell(rt: &HostRuntime, place: &[u8]) -> Result<u8, WorkshopFault> {
 
 /// `agcws delays [--progress] .. SRC FEED N`. All files are opened before anything is read.
 pub fn delays(rt: &HostRuntime, asked: &Timed<'_>) -> Result<u8, WorkshopFault> {
-    let OpenProgram {
-        origin,
-        file,
-        form,
-        mut feed,
-    } = opened_program(rt, &asked.program)?;
-    let mut file = taken_in(file, form);
+    let steps = asked.steps.count();
     let mut progress = make_listener(rt, asked.tells_progress);
-    with_stdout(rt, |out| {
-        delays_program(
-            rt.alloc(),
-            origin,
-            &mut file,
-            &mut feed,
-            asked.steps.count(),
-            out,
-            &mut progress,
-        )
+    with_program(rt, &asked.program, |origin, file, feed, out| {
+        let told = &mut progress;
+        delays_program(rt.alloc(), origin, file, feed, steps, out, told)
     })?;
     Ok(DONE)
 }
@@ -441,16 +333,9 @@ fn refuse_trials(rt: &HostRuntime, path: &str, fault: WorkshopFault) -> Result<u
 
 /// `agcws debug .. SRC FEED`. All files are opened before anything is read; commands come from standard input.
 pub fn debug(rt: &HostRuntime, program: &Program<'_>) -> Result<u8, WorkshopFault> {
-    let OpenProgram {
-        origin,
-        file,
-        form,
-        mut feed,
-    } = opened_program(rt, program)?;
-    let mut file = taken_in(file, form);
     let mut commands = Counted::new(Std::new(rt.stdin()));
-    with_stdout(rt, |out| {
-        debug_program(rt.alloc(), origin, &mut file, &mut feed, &mut commands, out)
+    with_program(rt, program, |origin, file, feed, out| {
+        debug_program(rt.alloc(), origin, file, feed, &mut commands, out)
     })?;
     tell_commands_end(commands.bytes(), &mut Std::new(rt.stderr()))?;
     Ok(DONE)
@@ -458,16 +343,9 @@ pub fn debug(rt: &HostRuntime, program: &Program<'_>) -> Result<u8, WorkshopFaul
 
 /// `agcws debug --extended .. SRC FEED`: files as without `--extended`.
 pub fn debug_extended(rt: &HostRuntime, program: &Program<'_>) -> Result<u8, WorkshopFault> {
-    let OpenProgram {
-        origin,
-        file,
-        form,
-        mut feed,
-    } = opened_program(rt, program)?;
-    let mut file = taken_in(file, form);
     let mut commands = Std::new(rt.stdin());
-    with_stdout(rt, |out| {
-        workshop::debug_extended(rt.alloc(), origin, &mut file, &mut feed, &mut commands, out)
+    with_program(rt, program, |origin, file, feed, out| {
+        workshop::debug_extended(rt.alloc(), origin, file, feed, &mut commands, out)
     })?;
     Ok(DONE)
 }

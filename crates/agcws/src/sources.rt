@@ -22,19 +22,79 @@ use workshop::{
 /// `agcws asm [--flight] [--rope VERSION] SRC ROPE`. The file ROPE is made at the first write, so that a refused source
 /// leaves none. A path of the source, or of one, is refused for ROPE before anything is opened.
 pub fn assemble(rt: &HostRuntime, assembly: &Assembly<'_>) -> Result<u8, WorkshopFault> {
+    assemble_whole(rt, assembly, Way::AsWritten)
+}
+
+/// `agcws asm --sums [--flight] [--rope VERSION] SRC ROPE`: files as without `--sums`. A bank without room is told in
+/// words.
+pub fn assemble_with_sums(rt: &HostRuntime, assembly: &Assembly<'_>) -> Result<u8, WorkshopFault> {
+    assemble_whole(rt, assembly, Way::WithSums)
+}
+
+/// Assembles a source without holes.
+fn assemble_whole(
+    rt: &HostRuntime,
+    assembly: &Assembly<'_>,
+    way: Way<'_>,
+) -> Result<u8, WorkshopFault> {
+    match source_for(rt, assembly)? {
+        Ok(source) => list(rt, assembly, &source, way),
+        Err(unfit) => refuse_assembly(rt, unfit),
+    }
+}
+
+/// `agcws asm --flight --holes [--fill FILE] [--rope VERSION] SRC ROPE`: files as without `--holes`. A fault of the
+/// image of which holes have their words is told by its name.
+pub fn assemble_holed(
+    rt: &HostRuntime,
+    assembly: &Assembly<'_>,
+    filling: Option<&str>,
+) -> Result<u8, WorkshopFault> {
+    match filling {
+        Some(name) => assemble_filled(rt, assembly, name, false),
+        None => assemble_whole(rt, assembly, Way::WithHoles(None)),
+    }
+}
+
+/// `agcws asm --flight --holes --fill FILE --sums [--rope VERSION] SRC ROPE`: as without `--sums`, and a bank without
+/// room for its check words is told in words.
+pub fn assemble_filled_with_sums(
+    rt: &HostRuntime,
+    assembly: &Assembly<'_>,
+    filling: &str,
+) -> Result<u8, WorkshopFault> {
+    assemble_filled(rt, assembly, filling, true)
+}
+
+/// Assembles a source with holes that a file fills, with check words or without.
+fn assemble_filled(
+    rt: &HostRuntime,
+    assembly: &Assembly<'_>,
+    filling: &str,
+    has_sums: bool,
+) -> Result<u8, WorkshopFault> {
     let source = match source_for(rt, assembly)? {
         Ok(source) => source,
         Err(unfit) => return refuse_assembly(rt, unfit),
     };
-    with_stdout(rt, |out| match &source.joined {
-        None => write_plain(rt, assembly, &source.text, out),
-        Some(joined) => {
-            let mut listing = Buffer::new(rt.alloc());
-            write_plain(rt, assembly, &source.text, &mut listing)?;
-            write_listing(rt.alloc(), joined, listing.as_slice(), out)
-        }
-    })?;
-    Ok(DONE)
+    match filling_of(rt, filling, assembly.version) {
+        Ok(words) if has_sums => list(rt, assembly, &source, Way::FilledWithSums(&words)),
+        Ok(words) => list(rt, assembly, &source, Way::WithHoles(Some(&words))),
+        Err(fault) => refused_file(rt, filling, fault),
+    }
+}
+
+/// How a source is assembled.
+#[derive(Clone, Copy, Drop)]
+enum Way<'a> {
+    /// As it is written.
+    AsWritten,
+    /// With check words.
+    WithSums,
+    /// With holes, which have the words of an image where there is one.
+    WithHoles(Option<&'a Rope>),
+    /// With holes that have the words of an image, and check words.
+    FilledWithSums(&'a Rope),
 }
 
 /// Why an assembly is not begun.
@@ -75,26 +135,72 @@ fn source_for(
     Ok(Ok(SourceText { text, joined }))
 }
 
-/// Assembles a source, and writes what comes of it.
-fn write_plain<W: Write>(
+/// Assembles a source, and writes what comes of it, by the files of its lines. A bank without room for its check words
+/// is told in words.
+fn list(
+    rt: &HostRuntime,
+    assembly: &Assembly<'_>,
+    source: &SourceText,
+    way: Way<'_>,
+) -> Result<u8, WorkshopFault> {
+    let full = with_stdout(rt, |out| match &source.joined {
+        None => write_assembled(rt, assembly, &source.text, way, out),
+        Some(joined) => {
+            let mut listing = Buffer::new(rt.alloc());
+            let full = write_assembled(rt, assembly, &source.text, way, &mut listing)?;
+            write_listing(rt.alloc(), joined, listing.as_slice(), out)?;
+            Ok(full)
+        }
+    })?;
+    match full {
+        Some(bank) => report_no_room(bank, &mut Std::new(rt.stderr())),
+        None => Ok(DONE),
+    }
+}
+
+/// Assembles a source, and writes what comes of it. Answers a bank without room for its check words.
+fn write_assembled<W: Write>(
     rt: &HostRuntime,
     assembly: &Assembly<'_>,
     text: &[u8],
+    way: Way<'_>,
     listing: &mut W,
-) -> Result<(), WorkshopFault> {
+) -> Result<Option<Bank>, WorkshopFault> {
     let refused = Cell::new(false);
     let mut image = Std::new(ImageFile::new(rt, assembly.rope, &refused));
+    let outcome = write_image(rt, assembly, text, way, &mut image, listing);
+    let full = ended(outcome, &refused)?;
+    if full.is_none() {
+        tell_uses(rt, assembly, text, listing)?;
+    }
+    Ok(full)
+}
+
+/// Writes the image and the listing of a source.
+fn write_image<I: Write, W: Write>(
+    rt: &HostRuntime,
+    assembly: &Assembly<'_>,
+    text: &[u8],
+    way: Way<'_>,
+    image: &mut I,
+    listing: &mut W,
+) -> Result<Option<Bank>, WorkshopFault> {
+    let (alloc, language, version) = (rt.alloc(), assembly.source.language, assembly.version);
     let mut rest = text;
-    let outcome = asm_engine(
-        rt.alloc(),
-        assembly.source.language,
-        &mut rest,
-        &mut image,
-        listing,
-        assembly.version,
-    );
-    ended(outcome, &refused)?;
-    tell_uses(rt, assembly, text, listing)
+    match way {
+        Way::AsWritten => {
+            asm_engine(alloc, language, &mut rest, image, listing, version)?;
+            Ok(None)
+        }
+        Way::WithSums => asm_with_check_words(alloc, language, &mut rest, image, listing, version),
+        Way::WithHoles(filling) => {
+            asm_with_holes(alloc, text, filling, image, listing, version)?;
+            Ok(None)
+        }
+        Way::FilledWithSums(filling) => {
+            asm_filled_with_check_words(alloc, text, filling, image, listing, version)
+        }
+    }
 }
 
 /// Tells what the lines of a source do with each name, where that is asked for.
@@ -110,138 +216,6 @@ fn tell_uses<W: Write>(
     Ok(())
 }
 
-/// `agcws asm --sums [--flight] [--rope VERSION] SRC ROPE`: files as without `--sums`. A bank without room is told in
-/// words.
-pub fn assemble_with_sums(rt: &HostRuntime, assembly: &Assembly<'_>) -> Result<u8, WorkshopFault> {
-    let source = match source_for(rt, assembly)? {
-        Ok(source) => source,
-        Err(unfit) => return refuse_assembly(rt, unfit),
-    };
-    let full = with_stdout(rt, |out| match &source.joined {
-        None => write_with_sums(rt, assembly, &source.text, out),
-        Some(joined) => {
-            let mut listing = Buffer::new(rt.alloc());
-            let full = write_with_sums(rt, assembly, &source.text, &mut listing)?;
-            write_listing(rt.alloc(), joined, listing.as_slice(), out)?;
-            Ok(full)
-        }
-    })?;
-    match full {
-        Some(bank) => report_no_room(bank, &mut Std::new(rt.stderr())),
-        None => Ok(DONE),
-    }
-}
-
-/// Assembles a source with check words, and writes what comes of it.
-fn write_with_sums<W: Write>(
-    rt: &HostRuntime,
-    assembly: &Assembly<'_>,
-    text: &[u8],
-    listing: &mut W,
-) -> Result<Option<Bank>, WorkshopFault> {
-    let refused = Cell::new(false);
-    let mut image = Std::new(ImageFile::new(rt, assembly.rope, &refused));
-    let mut rest = text;
-    let outcome = asm_with_check_words(
-        rt.alloc(),
-        assembly.source.language,
-        &mut rest,
-        &mut image,
-        listing,
-        assembly.version,
-    );
-    let full = ended(outcome, &refused)?;
-    if full.is_none() {
-        tell_uses(rt, assembly, text, listing)?;
-    }
-    Ok(full)
-}
-
-/// `agcws asm --flight --holes [--fill FILE] [--rope VERSION] SRC ROPE`: files as without `--holes`. A fault of the
-/// image of which holes have their words is told by its name.
-pub fn assemble_holed(
-    rt: &HostRuntime,
-    assembly: &Assembly<'_>,
-    filling: Option<&str>,
-) -> Result<u8, WorkshopFault> {
-    let source = match source_for(rt, assembly)? {
-        Ok(source) => source,
-        Err(unfit) => return refuse_assembly(rt, unfit),
-    };
-    let Some(name) = filling else {
-        return list_holed(rt, assembly, &source, None);
-    };
-    match filling_of(rt, name, assembly.version) {
-        Ok(words) => list_holed(rt, assembly, &source, Some(&words)),
-        Err(fault) => refused_file(rt, name, fault),
-    }
-}
-
-/// `agcws asm --flight --holes --fill FILE --sums [--rope VERSION] SRC ROPE`: as without `--sums`, and a bank without
-/// room for its check words is told in words.
-pub fn assemble_filled_with_sums(
-    rt: &HostRuntime,
-    assembly: &Assembly<'_>,
-    filling: &str,
-) -> Result<u8, WorkshopFault> {
-    let source = match source_for(rt, assembly)? {
-        Ok(source) => source,
-        Err(unfit) => return refuse_assembly(rt, unfit),
-    };
-    match filling_of(rt, filling, assembly.version) {
-        Ok(words) => list_summed(rt, assembly, &source, &words),
-        Err(fault) => refused_file(rt, filling, fault),
-    }
-}
-
-/// Assembles a source with holes that are filled, and check words, and writes what comes of it, by the files of its
-/// lines.
-fn list_summed(
-    rt: &HostRuntime,
-    assembly: &Assembly<'_>,
-    source: &SourceText,
-    filling: &Rope,
-) -> Result<u8, WorkshopFault> {
-    let full = with_stdout(rt, |out| match &source.joined {
-        None => write_summed(rt, assembly, &source.text, filling, out),
-        Some(joined) => {
-            let mut listing = Buffer::new(rt.alloc());
-            let full = write_summed(rt, assembly, &source.text, filling, &mut listing)?;
-            write_listing(rt.alloc(), joined, listing.as_slice(), out)?;
-            Ok(full)
-        }
-    })?;
-    match full {
-        Some(bank) => report_no_room(bank, &mut Std::new(rt.stderr())),
-        None => Ok(DONE),
-    }
-}
-
-/// Assembles a source with holes that are filled, and check words, and writes what comes of it.
-fn write_summed<W: Write>(
-    rt: &HostRuntime,
-    assembly: &Assembly<'_>,
-    text: &[u8],
-    filling: &Rope,
-    listing: &mut W,
-) -> Result<Option<Bank>, WorkshopFault> {
-    let refused = Cell::new(false);
-    let mut image = Std::new(ImageFile::new(rt, assembly.rope, &refused));
-    let outcome = asm_filled_with_check_words(
-        rt.alloc(),
-        text,
-        filling,
-        &mut image,
-        listing,
-        assembly.version,
-    );
-    let full = ended(outcome, &refused)?;
-    if full.is_none() {
-        tell_uses(rt, assembly, text, listing)?;
-    }
-    Ok(full)
-}
-
 /// The words of an image, or of a text of octal words.
 fn filling_of(rt: &HostRuntime, path: &str, version: Version) -> Result<Rope, WorkshopFault> {
     let image = Image {
@@ -252,46 +226,6 @@ fn filling_of(rt: &HostRuntime, path: &str, version: Version) -> Result<Rope, Wo
     };
     let mut file = Std::new(opened_bytes(rt, &image)?);
     Ok(Rope::read(rt.alloc(), &mut file, version)?)
-}
-
-/// Assembles a source with holes, and writes what comes of it, by the files of its lines.
-fn list_holed(
-    rt: &HostRuntime,
-    assembly: &Assembly<'_>,
-    source: &SourceText,
-    filling: Option<&Rope>,
-) -> Result<u8, WorkshopFault> {
-    with_stdout(rt, |out| match &source.joined {
-        None => write_holed(rt, assembly, &source.text, filling, out),
-        Some(joined) => {
-            let mut listing = Buffer::new(rt.alloc());
-            write_holed(rt, assembly, &source.text, filling, &mut listing)?;
-            write_listing(rt.alloc(), joined, listing.as_slice(), out)
-        }
-    })?;
-    Ok(DONE)
-}
-
-/// Assembles a source with holes, and writes what comes of it.
-fn write_holed<W: Write>(
-    rt: &HostRuntime,
-    assembly: &Assembly<'_>,
-    text: &[u8],
-    filling: Option<&Rope>,
-    listing: &mut W,
-) -> Result<(), WorkshopFault> {
-    let refused = Cell::new(false);
-    let mut image = Std::new(ImageFile::new(rt, assembly.rope, &refused));
-    let outcome = asm_with_holes(
-        rt.alloc(),
-        text,
-        filling,
-        &mut image,
-        listing,
-        assembly.version,
-    );
-    ended(outcome, &refused)?;
-    tell_uses(rt, assembly, text, listing)
 }
 
 /// `agcws check [--flight] [--unused] [--json] SRC [FEED ..]`. All files are opened before anything is read. A file

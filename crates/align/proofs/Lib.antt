@@ -1,6 +1,5 @@
 pub mod AlignRows
 pub mod Known
 pub mod Renames
-pub mod Rows
 pub mod Steps
 pub mod Unpaired

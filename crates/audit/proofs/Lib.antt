@@ -4,7 +4,7 @@ pub mod Ends
 pub mod Folds
 pub mod LayoutRows
 mod OctalBanks
-mod OctalImages
+pub mod OctalImages
 mod OctalRows
 pub mod OctalSteps
 pub mod OrderSums

@@ -23,14 +23,14 @@ mod source;
 mod sums;
 mod wrong_words;
 
-pub use by_bank::{BankText, write_by_bank};
+pub use by_bank::{BankText, EachWord, WordAt, WordText, write_by_bank, write_words_of};
 pub use check_words::{NoRoom, add_check_words, check_words_hold};
 pub use damages::{Finding, write_damages};
 pub use differences::{Extent, count_line, difference_text, write_differences};
 pub use form_names::{Complements, write_form_sums};
 pub use form_sums::holds_sum;
 pub use layout::{Layout, arranged};
-pub use lines::{bank_of, offset_of, word_line, write_words};
+pub use lines::{bank_of, heading, offset_of, word_line, write_words};
 pub use mended::write_mended;
 pub use octal_words::{is_beginning, octal_image};
 pub use octals::write_octals;

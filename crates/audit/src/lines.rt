@@ -1,16 +1,17 @@
 //! The words of fixed memory, a line for each.
 
-ghost use Rattle.std.specs.Prelude.{◌≡◌, ◌+◌, ◌<◌, ◌≤◌, ◌++◌, true};
+ghost use Rattle.std.specs.Prelude.{◌≡◌, ◌+◌, ◌<◌, ◌≤◌, ◌++◌, length, codes, true};
 ghost use Rattle.arrayvec.specs.ArrayVec.{array_vec_len};
 ghost use Rattle.words.specs.Devices.{Writes, failures_after};
+ghost use Rattle.words.specs.Numerals.{octal_text};
 ghost use Rattle.rope.specs.Places.{banks, bank_words};
-ghost use Rattle.audit.specs.WordLines.{extracode_at, instruction_at, place_text, word_line, bank_lines, word_lines};
+ghost use Rattle.audit.specs.WordLines.{extracode_at, instruction_at, place_text, word_line, word_lines};
 
-use crate::by_bank::{BankText, write_by_bank};
+use crate::by_bank::{EachWord, WordAt, WordText, write_by_bank};
 use arrayvec::ArrayVec;
-use cpu::{disassemble, extracode_after};
+use cpu::disassemble;
 use rope::Rope;
-use space::{BANK_WORDS, Bank, Linear, Offset, window};
+use space::{Bank, Linear, Offset, window};
 use words::{Write, WriteFailed, push_all, push_octal, write_all};
 
 /// The most bytes of a line: a place of 7, one or two words of 5 digits, one or two instructions of 10, and what stands
@@ -24,6 +25,7 @@ pub type Line = ArrayVec<u8, LINE>;
 /// extracode in force: EXTEND, or INDEX that is itself read so.
 ///
 /// After a failure a beginning of it was written.
+#[tactic(auto, unfolding(crate::specs::WordLines::bank_lines))]
 pub fn write_words<W: Write>(
     rope: &Rope,
     bank: Option<Bank>,
@@ -32,29 +34,19 @@ pub fn write_words<W: Write>(
     ensures written { W.told ≡ true → Writes (W.written out.old) (W.written out.new) (word_lines rope.now bank) result }
     ensures failures { W.failures out.new ≡ failures_after (W.failures out.old) result }
 {
-    write_by_bank(&WordTexts, rope, bank, out)
+    write_by_bank(&EachWord { text: &WordTexts }, rope, bank, out)
 }
 
-/// The lines of the words of a bank.
+/// The lines of words.
 #[derive(Drop)]
 struct WordTexts;
 
-impl BankText for WordTexts {
-    ghost text = { λ _ words bank. bank_lines words bank };
+impl WordText for WordTexts {
+    ghost text = { λ _ words bank offset. word_line words bank offset };
 
-    fn write_bank<W: Write>(
-        &self,
-        rope: &Rope,
-        bank: Bank,
-        out: &mut W,
-    ) -> Result<(), WriteFailed> {
-        let mut extra = false;
-        for number in 0..BANK_WORDS {
-            let offset = offset_of(number);
-            write_all(out, word_line(rope, bank, offset, extra).as_slice())?;
-            extra = extracode_after(rope.word(bank, offset), extra);
-        }
-        Ok(())
+    fn write<W: Write>(&self, rope: &Rope, word: WordAt, out: &mut W) -> Result<(), WriteFailed> {
+        let line = word_line(rope, word.bank, word.offset, word.extra);
+        write_all(out, line.as_slice())
     }
 }
 
@@ -70,6 +62,18 @@ pub fn word_line(rope: &Rope, bank: Bank, offset: Offset, extra: bool) -> Line
     push_octal(&mut line, 5, rope.word(bank, offset).to_u16());
     push_all(&mut line, b" ");
     push_instruction(&mut line, rope, bank, offset, extra);
+    push_all(&mut line, b"\n");
+    line
+}
+
+/// A line above the words of a bank: a text, and the bank.
+pub fn heading(text: &[u8], bank: Bank) -> Line
+    requires { length text.now ≤ 40 }
+    ensures { result.items ≡ text.now ++ octal_text 2 bank ++ codes "\n" }
+{
+    let mut line = ArrayVec::new();
+    push_all(&mut line, text);
+    push_octal(&mut line, 2, bank.number());
     push_all(&mut line, b"\n");
     line
 }

@@ -2,13 +2,13 @@
 
 ghost use Rattle.std.specs.Prelude.{◌≡◌, ◌<◌, ◌≤◌, ◌%◌, ◌==◌, length, true};
 ghost use Rattle.words.specs.Devices.{Writes, failures_after};
-ghost use Rattle.audit.specs.Octals.{bank_head, bank_octals, behind, octal_word, octal_words, octals_text};
+ghost use Rattle.audit.specs.Octals.{bank_head, bank_octals, behind, octal_word, octals_text};
 
-use crate::by_bank::{BankText, write_by_bank};
-use crate::lines::{Line, offset_of};
+use crate::by_bank::{BankText, WordAt, WordText, write_by_bank, write_words_of};
+use crate::lines::{Line, heading};
 use arrayvec::ArrayVec;
 use rope::Rope;
-use space::{BANK_WORDS, Bank, Offset};
+use space::{Bank, Offset};
 use words::{Write, WriteFailed, push_all, push_octal, write_all};
 
 /// Writes the words of a bank, or of all banks by their numbers, as a text of octal words: a line as `BANK=02` for each
@@ -34,27 +34,18 @@ struct OctalTexts;
 impl BankText for OctalTexts {
     ghost text = { λ _ words bank. bank_octals words bank };
 
-    fn write_bank<W: Write>(
-        &self,
-        rope: &Rope,
-        bank: Bank,
-        out: &mut W,
-    ) -> Result<(), WriteFailed> {
+    fn write<W: Write>(&self, rope: &Rope, bank: Bank, out: &mut W) -> Result<(), WriteFailed> {
         write_all(out, bank_head(bank).as_slice())?;
-        write_words(rope, bank, out)
+        write_words_of(self, rope, bank, out)
     }
 }
 
-/// Writes the words of a bank.
-fn write_words<W: Write>(rope: &Rope, bank: Bank, out: &mut W) -> Result<(), WriteFailed>
-    ensures written { W.told ≡ true → Writes (W.written out.old) (W.written out.new) (octal_words rope.now bank)
-        result }
-    ensures failures { W.failures out.new ≡ failures_after (W.failures out.old) result }
-{
-    for number in 0..BANK_WORDS {
-        write_all(out, octal_word(rope, bank, offset_of(number)).as_slice())?;
+impl WordText for OctalTexts {
+    ghost text = { λ _ words bank offset. octal_word words bank offset };
+
+    fn write<W: Write>(&self, rope: &Rope, word: WordAt, out: &mut W) -> Result<(), WriteFailed> {
+        write_all(out, octal_word(rope, word.bank, word.offset).as_slice())
     }
-    Ok(())
 }
 
 /// The line of a bank.
@@ -62,11 +53,7 @@ fn write_words<W: Write>(rope: &Rope, bank: Bank, out: &mut W) -> Result<(), Wri
 fn bank_head(bank: Bank) -> Line
     ensures { result.items ≡ bank_head bank }
 {
-    let mut line = ArrayVec::new();
-    push_all(&mut line, b"BANK=");
-    push_octal(&mut line, 2, bank.number());
-    push_all(&mut line, b"\n");
-    line
+    heading(b"BANK=", bank)
 }
 
 /// A word of a bank, and what stands behind it.

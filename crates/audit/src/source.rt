@@ -2,15 +2,14 @@
 
 ghost use Rattle.std.specs.Prelude.{◌≡◌, ◌<◌, ◌++◌, true};
 ghost use Rattle.words.specs.Devices.{Writes, failures_after};
-ghost use Rattle.audit.specs.SourceLines.{bank_line, octal_line, octal_lines, bank_source, source_text};
+ghost use Rattle.audit.specs.SourceLines.{bank_line, octal_line, bank_source, source_text};
 ghost use Rattle.audit.specs.WordLines.{extracode_at};
 
-use crate::by_bank::{BankText, write_by_bank};
-use crate::lines::{Line, offset_of, push_instruction, push_place};
+use crate::by_bank::{BankText, WordAt, WordText, write_by_bank, write_words_of};
+use crate::lines::{Line, heading, push_instruction, push_place};
 use arrayvec::ArrayVec;
-use cpu::extracode_after;
 use rope::Rope;
-use space::{BANK_WORDS, Bank, Offset};
+use space::{Bank, Offset};
 use words::{Write, WriteFailed, push_all, push_octal, write_all};
 
 /// Writes a source that gives the words of a bank, or of all banks by their numbers: a line BANK for each bank, and
@@ -37,30 +36,19 @@ struct SourceTexts;
 impl BankText for SourceTexts {
     ghost text = { λ _ words bank. bank_source words bank };
 
-    fn write_bank<W: Write>(
-        &self,
-        rope: &Rope,
-        bank: Bank,
-        out: &mut W,
-    ) -> Result<(), WriteFailed> {
+    fn write<W: Write>(&self, rope: &Rope, bank: Bank, out: &mut W) -> Result<(), WriteFailed> {
         write_all(out, bank_line(bank).as_slice())?;
-        write_octals(rope, bank, out)
+        write_words_of(self, rope, bank, out)
     }
 }
 
-/// Writes the lines of a bank's words.
-fn write_octals<W: Write>(rope: &Rope, bank: Bank, out: &mut W) -> Result<(), WriteFailed>
-    ensures written { W.told ≡ true → Writes (W.written out.old) (W.written out.new) (octal_lines rope.now bank)
-        result }
-    ensures failures { W.failures out.new ≡ failures_after (W.failures out.old) result }
-{
-    let mut extra = false;
-    for number in 0..BANK_WORDS {
-        let offset = offset_of(number);
-        write_all(out, octal_line(rope, bank, offset, extra).as_slice())?;
-        extra = extracode_after(rope.word(bank, offset), extra);
+impl WordText for SourceTexts {
+    ghost text = { λ _ words bank offset. octal_line words bank offset };
+
+    fn write<W: Write>(&self, rope: &Rope, word: WordAt, out: &mut W) -> Result<(), WriteFailed> {
+        let line = octal_line(rope, word.bank, word.offset, word.extra);
+        write_all(out, line.as_slice())
     }
-    Ok(())
 }
 
 /// The line that leads to the first word of a bank.
@@ -68,11 +56,7 @@ fn write_octals<W: Write>(rope: &Rope, bank: Bank, out: &mut W) -> Result<(), Wr
 pub(crate) fn bank_line(bank: Bank) -> Line
     ensures { result.items ≡ bank_line bank }
 {
-    let mut line = ArrayVec::new();
-    push_all(&mut line, b"        BANK    ");
-    push_octal(&mut line, 2, bank.number());
-    push_all(&mut line, b"\n");
-    line
+    heading(b"        BANK    ", bank)
 }
 
 /// The line that gives a word.

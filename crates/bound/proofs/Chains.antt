@@ -14,8 +14,8 @@ use Rattle.bound.specs.declared.turn.Turn.{Turn}
 use Rattle.bound.specs.declared.turn.Turn.TheVariants.{Back, Through, One, Two, Four, Stop}
 use Rattle.bound.specs.declared.turn.Why.{Why}
 use Rattle.bound.specs.declared.turn.Why.TheVariants.{Recursive, Unbounded, ManyCycles, ManyWords}
-use Rattle.bound.specs.Bounds.{AreApart, AreCounted, AreCountedOf, CallsAt, GoesOn, Has, IsFree, IsLeg, IsReason, Leads, Uses, most_words}
-use Rattle.bound.specs.Bounds.{stands_at}
+use Rattle.bound.specs.Bounds.{AreApart, AreCounted, AreCountedOf, CallsAt, GoesOn, Has, IsFree, IsLeg, IsReason, IsWhole, Leads, Uses}
+use Rattle.bound.specs.Bounds.{most_words, stands_at}
 use Rattle.bound.specs.Bounds.Has.{First}
 use Rattle.bound.specs.Bounds.Leads.{On, Past}
 use Rattle.bound.specs.Bounds.Uses.{Itself, Calls}
@@ -132,8 +132,9 @@ goes_on words kept limits ps all (suc n) p e =
     (free_is limits p both.0, (on.next, on.leads, goes_on words kept limits ps all n on.next on.here))
 
 -- why no bound is told
-pub many_cycles : (words : Words) (kept : List ℕ) (limits : List Limit) (r : Site) → Fails words kept limits r r ManyCycles
-many_cycles words kept limits r = record { has = First r; cause = inr tt }
+pub many_cycles : (words : Words) (kept : List ℕ) (limits : List Limit) (r : Site) → IsWhole words kept limits r
+    → Fails words kept limits r r ManyCycles
+many_cycles words kept limits r whole = record { has = First r; cause = inr whole }
 
 pub many_words : (words : Words) (kept : List ℕ) (r : Site) (ps : List Site) → AreOf words kept r ps → AreApart ps → most_words < length ps
     → (limits : List Limit) → Fails words kept limits r r ManyWords

@@ -4,4 +4,5 @@ pub mod Sound
 pub mod Apart
 pub mod Chains
 pub mod Words
+pub mod Whole
 pub mod CountLaw

@@ -132,14 +132,20 @@ most_words = 8192
 abbrev pub many_routines : ℕ
 many_routines = 2048
 
+-- nothing but its cycles is in the way of a bound: each word of a routine tells where it leads, and each routine that it calls has a bound
+pub record IsWhole (words : Words) (kept : List ℕ) (limits : List Limit) (r : Site) : Type 0 where
+  pub tells : (p : Site) (why : Why) → Has words kept r p → turn words kept p ≢ Stop why
+  pub bounded : (p t : Site) → CallsAt words kept r p t → (most : ℕ) × IsBound words kept limits t most
+
 -- the causes that are not told by one word: at this word a routine calls one in progress; from it ways that no limit bounds lead on for as
--- many words as one may name; the routine has more words, or uses more routines, than are looked at; and no numbers are found that hold
+-- many words as one may name; the routine has more words, or uses more routines, than are looked at; and of a routine that is whole no
+-- numbers are found that hold
 abbrev pub IsOfMany : Words → List ℕ → List Limit → Site → Site → Why → Type 0
 IsOfMany words kept limits r p Recursive = CallsUser words kept r p
 IsOfMany words kept limits r p Unbounded = (n : ℕ) → GoesOn words kept limits n p
 IsOfMany words kept limits r p ManyWords = AreMany (most_words + 1) (λ q. Has words kept r q)
 IsOfMany words kept limits r p ManyRoutines = AreMany many_routines (λ q. Uses words kept r q)
-IsOfMany words kept limits r p ManyCycles = Unit {0}
+IsOfMany words kept limits r p ManyCycles = IsWhole words kept limits r
 IsOfMany words kept limits r p Indexed = ⊥
 IsOfMany words kept limits r p Leaves = ⊥
 IsOfMany words kept limits r p Steers = ⊥

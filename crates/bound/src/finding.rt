@@ -1,7 +1,7 @@
 //! The bound of a routine.
 
 ghost use Rattle.std.specs.Prelude.{◌≡◌, ◌+◌, ◌≤◌, ◌++◌, ℕ, IfOk, IfSome, List, OnOk, Some, map};
-ghost use Rattle.bound.specs.Bounds.{IsFound};
+ghost use Rattle.bound.specs.Bounds.{IsFound, IsWhole};
 ghost use Rattle.bound.specs.Inside.Checks.{AreBounds, allowed, number_at};
 ghost use Rattle.bound.specs.Inside.Searches.{AreOf, IsAttempt, IsNewAttempt, last_of};
 
@@ -160,6 +160,7 @@ fn number_and_check(
 ) -> Result<Attempt, AllocError>
     requires bounds { AreBounds rope.now kept.now limits.now known.now }
     requires are { AreOf rope.now kept.now routine.now graph.now.sites.items }
+    requires whole { IsWhole rope.now kept.now limits.now routine.now }
     ensures attempt { IfOk result (λ attempt. IsAttempt rope.now kept.now limits.now routine.now attempt) }
     ensures none { IfOk result (λ attempt. (known : List Row) → IsNewAttempt known attempt) }
 {
@@ -195,7 +196,8 @@ fn unbounded(
     round: &[Site],
     routine: &Site,
 ) -> Attempt
-    requires { AreOf rope.now kept.now routine.now graph.now.sites.items }
+    requires are { AreOf rope.now kept.now routine.now graph.now.sites.items }
+    requires whole { IsWhole rope.now kept.now limits.now routine.now }
     ensures attempt { IsAttempt rope.now kept.now limits.now routine.now result }
     ensures none { (known : List Row) → IsNewAttempt known result }
 {
@@ -220,6 +222,7 @@ fn checked(
 ) -> Attempt
     requires bounds { AreBounds rope.now kept.now (map (λ charge. charge.limit) charges.now) known.now }
     requires loops { map (λ count. count.counted) counts.now ≡ loops.items }
+    requires whole { IsWhole rope.now kept.now (map (λ charge. charge.limit) charges.now) routine.now }
     ensures attempt { IsAttempt rope.now kept.now (map (λ charge. charge.limit) charges.now) routine.now result }
     ensures none { (known : List Row) → IsNewAttempt known result }
 {

@@ -1,11 +1,12 @@
 //! The words of a routine, with the ways between them. The ways that are found are not relied upon: a bound is checked
 //! afterwards.
 
-ghost use Rattle.std.specs.Prelude.{◌≡◌, ◌<◌, ◌∷◌, [], IfOk, IfSome, OnOk, length};
+ghost use Rattle.std.specs.Prelude.{◌≡◌, ◌<◌, ◌≤◌, ◌∷◌, [], IfOk, MatchOption, OnOk, length, true};
 ghost use Rattle.std.specs.List.{position, slice_index_or};
 ghost use Rattle.bound.specs.Bounds.{AreApart};
 ghost use Rattle.bound.specs.Inside.Checks.{same};
-ghost use Rattle.bound.specs.Inside.Searches.{AreOf, IsExplored, IsNew, targets, with_all, with_site};
+ghost use Rattle.bound.specs.Inside.Searches.{AreOf, IsExplored, IsFoundWhole, IsNew, is_in, targets};
+ghost use Rattle.bound.specs.Inside.Searches.{stop_at, with_all, with_site};
 
 use crate::checking::{Row, number_at};
 use crate::site::Site;
@@ -68,8 +69,10 @@ impl Graph {
     ) -> Result<Explored, AllocError>
         requires are { AreOf rope.now kept.now routine.now self.old.sites.items }
         requires apart { AreApart self.old.sites.items }
+        requires first { is_in self.old.sites.items routine.now ≡ true }
         ensures found { IfOk result (λ explored. IsExplored rope.now kept.now routine.now explored) }
         ensures fresh { IfOk result (λ explored. IsNew known.now explored) }
+        ensures whole { IfOk result (λ explored. IsFoundWhole rope.now kept.now known.now routine.now explored) }
         ensures all { OnOk result (AreOf rope.now kept.now routine.now self.new.sites.items) }
     {
         for from in 0..MOST_WORDS {
@@ -77,12 +80,8 @@ impl Graph {
                 return Ok(Explored::Whole);
             };
             let turn = turn_at(rope, kept, &site);
-            match &turn {
-                Turn::Stop(why) => return Ok(Explored::Stops(site, *why)),
-                Turn::Through(callee, _) if number_at(known, callee).is_none() => {
-                    return Ok(Explored::Calls(site, *callee));
-                }
-                _ => {}
+            if let Some(stop) = stop_at(&site, known, &turn) {
+                return Ok(stop);
             }
             self.add_all(from, known, &turn)?;
         }
@@ -94,8 +93,8 @@ impl Graph {
 
     /// The word of a number.
     pub(crate) fn site(&self, number: usize) -> Option<Site>
-        ensures { IfSome result (λ p. (number < length self.now.sites.items)
-            × (p ≡ slice_index_or self.now.sites.items number p)) }
+        ensures { MatchOption result (length self.now.sites.items ≤ number)
+            (λ p. (number < length self.now.sites.items) × (p ≡ slice_index_or self.now.sites.items number p)) }
     {
         if number < self.sites.len() {
             Some(self.sites[number])
@@ -163,5 +162,19 @@ impl Graph {
         ensures { result ≡ position (λ p. same p site.now) self.now.sites.items }
     {
         self.sites.iter().position(|other| other.is(site))
+    }
+}
+
+/// What is found at a word that does not lead on: it is not told where, or it calls a routine of which no bound is
+/// known.
+fn stop_at(site: &Site, known: &[Row], turn: &Turn) -> Option<Explored>
+    ensures { result ≡ stop_at site.now known.now turn.now }
+{
+    match turn {
+        Turn::Stop(why) => Some(Explored::Stops(*site, *why)),
+        Turn::Through(callee, _) if number_at(known, callee).is_none() => {
+            Some(Explored::Calls(*site, *callee))
+        }
+        _ => None,
     }
 }

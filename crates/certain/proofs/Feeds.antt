@@ -17,7 +17,7 @@ use Rattle.space.specs.Places.{window}
 use Rattle.space.specs.declared.place.Linear.{Linear}
 use Rattle.space.specs.declared.place.Linear.TheVariants as linear
 use Rattle.yayul.specs.Listing.{bank_text, blanks, number_column, place_text, word_columns}
-use Rattle.certain.specs.Rows.{place_margin}
+use Rattle.yayul.specs.PlaceMargin.{place_margin}
 
 -- ## Line feeds
 pub feed_append : (xs ys : List ℕ) → HasNoFeed xs → HasNoFeed ys → HasNoFeed (xs ++ ys)

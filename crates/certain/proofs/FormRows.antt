@@ -16,7 +16,7 @@ use Rattle.certain.specs.declared.line_forms.LineForms.{LineForms}
 use Rattle.certain.specs.Comparison.{form_text, uncertain_text}
 use Rattle.certain.specs.LineForms.{both, ebank_after, forms_on, second_at}
 use Rattle.certain.specs.Places.{row_passed, rows_passed, start_with}
-use Rattle.certain.specs.Rows.{is_second, place_before, place_margin, text_on}
+use Rattle.yayul.specs.PlaceMargin.{is_second, place_before, place_margin, text_on}
 
 abbrev lf : List ℕ
 lf = 10 ∷ []

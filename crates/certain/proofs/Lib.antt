@@ -1,4 +1,3 @@
-pub mod Columns
 pub mod Sets
 pub mod Told
 pub mod Whole

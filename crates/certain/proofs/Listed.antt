@@ -10,7 +10,7 @@ use Rattle.agc_text.proofs.LineLaws.{lines-ended, lines-none}
 use Rattle.rope.specs.Places.{Words}
 use Rattle.yayul.specs.Layout.{Layout, line_effect, statement_on}
 use Rattle.yayul.specs.Listing.{Shown, columns, further_row, line_rows, number_column, row_front, rows, shown, word_columns}
-use Rattle.certain.specs.Rows.{place_margin}
+use Rattle.yayul.specs.PlaceMargin.{place_margin}
 use Rattle.certain.proofs.Feeds.{AllFeedless, columns_feed, feed_append, margin_feed, number_feed, word_feed, other}
 
 -- the first row of a line, and that of a second word, without their line feeds

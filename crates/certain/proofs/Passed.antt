@@ -25,8 +25,8 @@ use Rattle.yayul.specs.Readings.{parts_for}
 use Rattle.certain.specs.Lines.{AreOfLines, further_held, line_passed, lines_passed}
 use Rattle.certain.specs.Places.{Walk, all_certain, line_of, row_passed, rows_passed, start_with, uncertain_words}
 use Rattle.certain.specs.Places.{with_line, with_second}
-use Rattle.certain.specs.Rows.{front_length, is_second, place_before, place_margin, placed_rows, text_on}
-use Rattle.certain.proofs.Columns.{column_long}
+use Rattle.yayul.specs.PlaceMargin.{front_length, is_second, place_before, place_margin, placed_rows, text_on}
+use Rattle.yayul.proofs.NumberColumn.{column_long}
 use Rattle.certain.proofs.Feeds.{columns_long, lines_feed, margin_long, word_long}
 use Rattle.certain.proofs.Listed.{first_row, line_list, lines_are, row_list, second_row}
 

@@ -14,7 +14,7 @@ use Rattle.certain.specs.declared.doubted.WarnedLine.{WarnedLine}
 use Rattle.certain.specs.Doubted.{WarnedAreUncertain, before_lines, doubt_at, doubted, doubted_by, doubted_on, doubted_rows, line_with}
 use Rattle.certain.specs.Doubted.{warned_line}
 use Rattle.certain.specs.Places.{UncertainWords, uncertain_words}
-use Rattle.certain.specs.Rows.{is_second, place_margin, placed_rows}
+use Rattle.yayul.specs.PlaceMargin.{is_second, place_margin, placed_rows}
 use Rattle.certain.proofs.Feeds.{lines_feed}
 use Rattle.certain.proofs.Listed.{first_row, line_list, lines_are, row_list, second_row}
 use Rattle.certain.proofs.Passed.{empty_shows, first_not, place_is, second_is, text_is}

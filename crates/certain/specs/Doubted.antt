@@ -19,7 +19,7 @@ use Rattle.certain.specs.declared.doubted.WarnedLine.{WarnedLine}
 use Rattle.certain.specs.declared.form.UncertainForm.{UncertainForm}
 use Rattle.certain.specs.declared.form.UncertainForm.TheVariants.{HeldBank, SuperbankBits}
 use Rattle.certain.specs.Places.{UncertainWords, form_at, uncertain_words}
-use Rattle.certain.specs.Rows.{is_second, place_before, placed_rows, text_on}
+use Rattle.yayul.specs.PlaceMargin.{is_second, place_before, placed_rows, text_on}
 
 -- why a word of a form is warned of: the superbank bits of 2CADR (65 %), and EBANK= before an earlier 2CADR (85 %)
 abbrev pub doubt_of : UncertainForm → Option Doubt

@@ -1,6 +1,5 @@
 pub mod Forms
 pub mod LineForms
-pub mod Rows
 pub mod Places
 pub mod Comparison
 pub mod Lines

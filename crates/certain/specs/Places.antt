@@ -12,7 +12,7 @@ use Rattle.certain.specs.declared.line_forms.EbankUse.TheVariants.{Missing}
 use Rattle.certain.specs.declared.line_forms.LineForms.{LineForms}
 use Rattle.certain.specs.declared.places.CurrentLine.{CurrentLine}
 use Rattle.certain.specs.LineForms.{both, ebank_after, forms_on, is_held, second_at}
-use Rattle.certain.specs.Rows.{is_second, place_before, placed_rows, text_on}
+use Rattle.yayul.specs.PlaceMargin.{is_second, place_before, placed_rows, text_on}
 
 -- for each place by its number the form of its word
 abbrev pub UncertainWords : Type 0

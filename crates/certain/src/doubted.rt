@@ -4,16 +4,17 @@ ghost use Rattle.std.specs.Prelude.{◌≡◌, ◌+◌, ◌<◌, ◌≤◌, ◌^
 ghost use Rattle.agc_text.specs.Lines.{lines};
 ghost use Rattle.certain.specs.Doubted.{before_lines, doubt_at, doubt_of, doubted, doubted_by, doubted_rows, line_with};
 ghost use Rattle.certain.specs.Doubted.{operator_span, warned_line};
-ghost use Rattle.certain.specs.Rows.{place_before};
+ghost use Rattle.yayul.specs.PlaceMargin.{place_before};
 
 use crate::form::UncertainForm;
-use crate::places::{UncertainPlaces, placed_rows};
-use crate::rows::{is_second, place_before, text_on};
+use crate::places::UncertainPlaces;
 use agc_text::next_line;
 use diagnostics::{Doubt, Warning};
 use rope::Rope;
 use std::alloc::{AllocError, Global};
-use yayul::{Language, SourceRows, Span, reading_of};
+use yayul::{
+    Language, SourceRows, Span, is_second, place_before, placed_rows, reading_of, text_on,
+};
 
 /// The number of the warning.
 const NUMBER: u8 = 17;

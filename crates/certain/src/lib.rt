@@ -11,11 +11,9 @@ mod form_lines;
 pub mod laws;
 mod line_forms;
 mod places;
-mod rows;
 
 pub use accounts::write_accounts;
 pub use comparison::write_comparison;
 pub use doubted::doubted_lines;
 pub use form::UncertainForm;
-pub use places::{UncertainPlaces, placed_rows};
-pub use rows::{PlaceMargin, is_second, place_before, text_on};
+pub use places::UncertainPlaces;

@@ -1,12 +1,10 @@
 //! Of which uncertain forms the words of a line are.
 
-ghost use Rattle.std.specs.Prelude.{◌≡◌, ◌==◌, ◌-◌, ℕ, length, nat_le, take, slice_get};
+ghost use Rattle.std.specs.Prelude.{◌≡◌, ◌==◌, ℕ, nat_le};
 ghost use Rattle.std.specs.List.{list_any};
 ghost use Rattle.std.specs.Option.{option_map};
 ghost use Rattle.agc_text.specs.Digits.{sized};
 ghost use Rattle.agc_text.specs.Views.{piece};
-ghost use Rattle.yayul.specs.Flight.{is_signed_name};
-ghost use Rattle.yayul.specs.Forms.{first_is, is_marked_decimal, is_sign, number_value};
 ghost use Rattle.yayul.specs.Readings.{parts_in};
 ghost use Rattle.certain.specs.LineForms.{address_form, both, decimal_form, downlist_form, ebank_after, ebank_by};
 ghost use Rattle.certain.specs.LineForms.{far_complement_forms, far_forms, forms_by, forms_on, held_or, is_held};
@@ -15,12 +13,9 @@ ghost use Rattle.certain.specs.LineForms.{is_place_number, lacks_superbank, octa
 ghost use Rattle.certain.specs.LineForms.{text_in, used_once};
 
 use crate::form::UncertainForm;
-use agc_text::{Field, Number, decimal_value, octal_value};
+use agc_text::{Field, Number};
 use words::Word;
-use yayul::{Reading, Role, is_digits};
-
-/// The most bytes of a name.
-const NAME_LENGTH: usize = 8;
+use yayul::{Reading, Role, begins_with_sign, is_signed_name, number_value};
 
 /// The first number that names a place of a bank.
 const FIRST_PLACE: u32 = 0o10000;
@@ -237,17 +232,6 @@ fn operand_form(text: &[u8]) -> Option<UncertainForm>
     }
 }
 
-// Whether a text is a name that begins with a sign.
-fn is_signed_name(text: &[u8]) -> bool
-    ensures { result ≡ is_signed_name text.now }
-{
-    begins_with_sign(text)
-        && text.len() >= 2
-        && text.len() <= NAME_LENGTH
-        && !has_byte(text, b'$')
-        && !is_digits(text.get(1..).unwrap_or(&[]))
-}
-
 // Whether a text is a number that names a place of a bank.
 fn is_place_number(text: &[u8]) -> bool
     ensures { result ≡ is_place_number text.now }
@@ -264,42 +248,6 @@ fn is_place(number: Number) -> bool
     match number {
         Number::Small(number) => FIRST_PLACE <= number,
         Number::Large => true,
-    }
-}
-
-// The value of a number: digits in octal, or digits and a `D` in decimal.
-fn number_value(text: &[u8]) -> Option<Number>
-    ensures { result ≡ option_map sized (number_value text.now) }
-{
-    if is_marked_decimal(text) {
-        decimal_value(without_last(text))
-    } else {
-        octal_value(text)
-    }
-}
-
-fn is_marked_decimal(text: &[u8]) -> bool
-    ensures { result ≡ is_marked_decimal text.now }
-{
-    match text.last() {
-        Some(byte) => *byte == b'D',
-        None => false,
-    }
-}
-
-fn without_last(text: &[u8]) -> &[u8]
-    ensures { result.now ≡ take (length text.now - 1) text.now }
-{
-    &text[..text.len().saturating_sub(1)]
-}
-
-// Whether a text begins with `+` or `-`.
-fn begins_with_sign(text: &[u8]) -> bool
-    ensures { result ≡ first_is is_sign text.now }
-{
-    match text.first() {
-        Some(byte) => *byte == b'+' || *byte == b'-',
-        None => false,
     }
 }
 

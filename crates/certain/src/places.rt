@@ -3,21 +3,19 @@
 ghost use Rattle.std.specs.Prelude.{◌≡◌, ◌+◌, ◌<◌, ◌≤◌, ◌^◌, IfOk, IfSome, None, get_or, set};
 ghost use Rattle.agc_text.specs.Lines.{lines};
 ghost use Rattle.rope.specs.Places.{fixed_places, place_number, word_at};
-ghost use Rattle.certain.specs.Rows.{place_before, placed_rows};
+ghost use Rattle.yayul.specs.PlaceMargin.{place_before, placed_rows};
 ghost use Rattle.certain.specs.Places.{all_certain, form_at, held_places, line_on, no_line, row_passed, rows_passed};
 ghost use Rattle.certain.specs.Places.{second_held, start_with, uncertain_words, with_form};
 
 use crate::form::UncertainForm;
 use crate::line_forms::{EbankUse, LineForms};
-use crate::rows::{PlaceMargin, is_second, place_before, text_on};
 use agc_text::next_line;
-use json_text::Notation;
 use rope::Rope;
 use space::{BANK_WORDS, Bank, Offset};
 use std::alloc::{AllocError, Global};
 use std::marker::Model;
-use words::{Buffer, Word};
-use yayul::{Language, SourceRows, reading_of};
+use words::Word;
+use yayul::{Language, SourceRows, is_second, place_before, placed_rows, reading_of, text_on};
 
 /// How many places there are, those of the banks 044 to 047 included.
 const HELD_PLACES: usize = 0o50 * BANK_WORDS as usize;
@@ -184,18 +182,6 @@ impl UncertainPlaces {
         if place < HELD_PLACES {
             self.forms[place] = form;
         }
-    }
-}
-
-/// The rows of a source, each after its place. `None` is that memory ran out.
-#[tactic(auto, unfolding(crate::specs::Rows::placed_rows))]
-pub fn placed_rows(alloc: Global, rows: &SourceRows, rope: &Rope) -> Option<Buffer>
-    ensures { IfSome result (λ listing. lines listing.written ≡ placed_rows rows.now rope.now) }
-{
-    let mut listing = Buffer::new(alloc);
-    match rows.write(Notation::Text, rope, &PlaceMargin, &mut listing) {
-        Ok(()) => Some(listing),
-        Err(_) => None,
     }
 }
 

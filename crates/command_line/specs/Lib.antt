@@ -3,3 +3,4 @@ pub mod Values
 pub mod Rules
 pub mod Reading
 pub mod Found
+pub mod Help

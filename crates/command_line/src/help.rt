@@ -1,5 +1,9 @@
 //! The texts of help.
 
+ghost use Rattle.std.specs.Prelude.{◌≡◌, ◌-◌, ◌++◌, IfOk, OnOk, replicate};
+ghost use Rattle.std.specs.String.{string_bytes};
+ghost use Rattle.command_line.specs.Help.{entry_text, longest_name, program_help, subcommand_entries};
+
 use crate::row::{Row, Subcommand, Value};
 use crate::rows::HELP_OPTION;
 use crate::usage::{Called, push_all, push_argument, push_plain_usage};
@@ -20,28 +24,51 @@ To begin: views/new NAME writes a program and its tests.
 /// What `agcws help` does.
 const HELP_ABOUT: &str = "Print this message or the help of the given subcommand(s)";
 
-/// The help of the program.
+/// The help of the program: each subcommand once, in the order of the table.
 pub(crate) fn program_help(
     alloc: Global,
     program: &str,
     table: &[Subcommand],
-) -> Result<String, AllocError> {
+) -> Result<String, AllocError>
+    ensures { IfOk result (λ text. string_bytes text
+        ≡ program_help ABOUT.now HELP_ABOUT.now AFTER.now program.now table.now) }
+{
     let mut text = String::from_str(alloc, ABOUT)?;
     push_all(
         &mut text,
         &["\n\nUsage: ", program, " <COMMAND>\n\nCommands:"],
     )?;
+    let longest = longest_name(table);
+    push_subcommands(&mut text, table, longest)?;
+    push_entry(&mut text, "\n  ", "help", longest)?;
+    push_all(&mut text, &[HELP_ABOUT, AFTER])?;
+    Ok(text)
+}
+
+// How many bytes the longest name of a subcommand has, and `help`.
+fn longest_name(table: &[Subcommand]) -> usize
+    ensures { result ≡ longest_name 4 table.now }
+{
     let mut longest = "help".len();
     for it in table {
         longest = longest.max(it.name.len());
     }
+    longest
+}
+
+// Adds the entries of the subcommands.
+fn push_subcommands(
+    text: &mut String,
+    table: &[Subcommand],
+    longest: usize,
+) -> Result<(), AllocError>
+    ensures { OnOk result (string_bytes text.new ≡ string_bytes text.old ++ subcommand_entries longest table.now) }
+{
     for it in table {
-        push_entry(&mut text, "\n  ", it.name, longest)?;
+        push_entry(text, "\n  ", it.name, longest)?;
         text.push_str(it.about)?;
     }
-    push_entry(&mut text, "\n  ", "help", longest)?;
-    push_all(&mut text, &[HELP_ABOUT, AFTER])?;
-    Ok(text)
+    Ok(())
 }
 
 /// The help of `agcws help`.
@@ -111,14 +138,18 @@ fn name_of(alloc: Global, row: &Row) -> Result<String, AllocError> {
 }
 
 // Adds the name of an entry, and blanks up to what it means, where the longest name has so many bytes.
-fn push_entry(
-    text: &mut String,
-    before: &str,
-    name: &str,
-    longest: usize,
-) -> Result<(), AllocError> {
+fn push_entry(text: &mut String, before: &str, name: &str, longest: usize) -> Result<(), AllocError>
+    ensures { OnOk result (string_bytes text.new ≡ string_bytes text.old ++ entry_text before.now name.now longest) }
+{
     push_all(text, &[before, name, "  "])?;
-    for _blank in name.len()..longest {
+    push_blanks(text, longest.saturating_sub(name.len()))
+}
+
+// Adds so many blanks.
+fn push_blanks(text: &mut String, count: usize) -> Result<(), AllocError>
+    ensures { OnOk result (string_bytes text.new ≡ string_bytes text.old ++ replicate count 32) }
+{
+    for _ in 0..count {
         text.push_str(" ")?;
     }
     Ok(())

@@ -518,6 +518,8 @@ With --extended there are these besides, and after E50 COMMAND stands why:
                        trace has it
   say K                the same in sentences, as agcws trace --say has it
   tail steps, K steps  the last 32 channel lines, or K, each after STEP T
+  quiet on, quiet off  WORDS N, how many, in place of the channel lines of new
+                       steps, where there are some; or the lines: QUIET on
   break chan C W MASK  where a channel has the bits of W where MASK has ones
   break exec PLACE     where the step executed the instruction at PLACE, as an
                        input and an interrupt do not, nor a word that waited

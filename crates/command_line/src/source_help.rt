@@ -92,7 +92,7 @@ What is no fault, and likely a mistake, is told as a warning of the same form:
   W4  an instruction after which the program runs on to a constant, or where no
       word stands
   W5  the fifth word after SETLOC to a vector, where the fourth goes on to it
-  W6  a word that ERASE reserves in a switched bank, while no line sets EB
+  W6  a place of a switched erasable bank, reached while no line sets EB
   W7  a register's name as the label of another place
   W8  with --unused: a label that no operand names
   W9  a place of a switched bank of fixed memory, reached from bank 2 or 3 while

@@ -1,11 +1,17 @@
 //! How arguments are named, and the usage line.
 
+ghost use Rattle.std.specs.Prelude.{◌≡◌, ◌++◌, OnOk};
+ghost use Rattle.std.specs.String.{string_bytes};
+ghost use Rattle.command_line.specs.Help.{all_texts};
+
 use crate::row::{Row, Subcommand, Value};
 use crate::values::{takes_many, takes_value};
 use std::alloc::{AllocError, Global};
 
 /// Adds some texts, one behind the other.
-pub(crate) fn push_all(text: &mut String, parts: &[&str]) -> Result<(), AllocError> {
+pub(crate) fn push_all(text: &mut String, parts: &[&str]) -> Result<(), AllocError>
+    ensures { OnOk result (string_bytes text.new ≡ string_bytes text.old ++ all_texts parts.now) }
+{
     for part in parts {
         text.push_str(part)?;
     }

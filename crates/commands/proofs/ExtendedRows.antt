@@ -25,7 +25,7 @@ use Rattle.commands.specs.declared.extended.ExtendedLine.TheVariants.{WhyStep, W
 use Rattle.commands.specs.declared.extended.ExtendedLine.TheVariants.{Values, Channels, Differs, WhySince, TailSteps, Survey, Say, WhatIf}
 use Rattle.commands.specs.declared.whatif.Extent.TheVariants.{Here, Each}
 use Rattle.commands.specs.declared.whatif.Trial.TheVariants.{Given, Restart, Noted}
-use Rattle.commands.specs.declared.extended.ExtendedLine.TheVariants.{Calls, WhyWay, WhyControl, WhyInputs, WhyInterrupts, Never}
+use Rattle.commands.specs.declared.extended.ExtendedLine.TheVariants.{Calls, WhyWay, WhyControl, WhyInputs, WhyInterrupts, Never, Quiet}
 use Rattle.commands.specs.declared.extended.LinkLines.{LinkLines}
 
 -- a place in fixed memory, and a number that is no place
@@ -551,3 +551,14 @@ never_nowhere : asked (codes "never" ∷ codes "never FIVE 3" ∷ codes "never F
     ∷ codes "HELP never takes a place: the last choice that led away from there\n" ∷ [])
 unfolding extended_line extended_forms usages forms runs parsed counters sequences window
 never_nowhere = refl
+
+-- whether outputs are counted from now on
+hushes : asked (codes "quiet on" ∷ codes " quiet off # again" ∷ codes "quiet" ∷ codes "quiet of" ∷ codes "quiet on off" ∷ codes "quiet ON"
+    ∷ codes "help quiet" ∷ [])
+    ≡ Quiet true ∷ Quiet false
+    ∷ map (λ text. Says text)
+    (codes "E50 COMMAND quiet takes on, or off\n" ∷ codes "E50 COMMAND quiet takes on, or off\n"
+    ∷ codes "E50 COMMAND quiet takes on, or off\n" ∷ codes "E50 COMMAND quiet takes on, or off\n"
+    ∷ codes "HELP quiet takes on, or off: counts the outputs of new steps, or tells them\n" ∷ [])
+unfolding extended_line extended_forms usages forms runs parsed counters sequences window
+hushes = refl

@@ -28,7 +28,7 @@ use Rattle.commands.specs.declared.extended.ExtendedLine.{ExtendedLine}
 use Rattle.commands.specs.declared.extended.ExtendedLine.TheVariants.{Plain, Common, Says, Help, Breaks, ClearOne, On, AllRegisters, Until}
 use Rattle.commands.specs.declared.extended.ExtendedLine.TheVariants.{WhyStep, Why, Words, Where, Find, Trace, Inputs, Over, Out, Listed}
 use Rattle.commands.specs.declared.extended.ExtendedLine.TheVariants.{Values, Channels, Differs, WhySince, TailSteps, Survey, Say, Calls}
-use Rattle.commands.specs.declared.extended.ExtendedLine.TheVariants.{WhyWay, WhyControl, WhyInputs, WhyInterrupts, Never}
+use Rattle.commands.specs.declared.extended.ExtendedLine.TheVariants.{WhyWay, WhyControl, WhyInputs, WhyInterrupts, Never, Quiet}
 
 -- the most steps that a command can name
 abbrev pub most_count : ℕ
@@ -97,6 +97,12 @@ stepped_in [] = None
 stepped_in (field ∷ more) =
     if word_alone (codes "steps") (sole (field ∷ more)) then Some usual_outputs
     else (if word_alone (codes "steps") (sole more) then few_in field else None)
+
+-- the word `on` or the word `off`, which stands alone: whether it is `on`
+abbrev pub quiet_in : List (List ℕ) → Option Bool
+quiet_in fields =
+    if word_alone (codes "on") (sole fields) then Some true
+    else (if word_alone (codes "off") (sole fields) then Some false else None)
 
 -- what is told of a step besides its line
 abbrev pub telling : IndexLines → Bool → LinkLines
@@ -290,6 +296,7 @@ extended_forms symbols =
     ∷ (codes "whatif", whatif_form)
     ∷ (codes "calls", with_none Calls)
     ∷ (codes "never", λ fields. option_map (λ place. Never place) (place_alone symbols fields))
+    ∷ (codes "quiet", λ fields. option_map (λ on. Quiet on) (quiet_in fields))
     ∷ []
 
 -- what any session is asked for, with words for what is no command

@@ -46,6 +46,7 @@ usages =
     ∷ (codes "survey", usage (codes "FROM TO, 1 to 4096 buckets, at most 8 places") (codes "a run by buckets"))
     ∷ (codes "whatif", usage (codes "RESTART|[notes] INPUT, [k [from A to B]]") (codes "what it would change"))
     ∷ (codes "tail", usage (codes "nothing, or [a count] steps") (codes "the last channel lines [and steps]"))
+    ∷ (codes "quiet", usage (codes "on, or off") (codes "counts the outputs of new steps, or tells them"))
     ∷ (codes "add", usage (codes "a line of a feed") (codes "one input more"))
     ∷ (codes "inputs", usage (codes "nothing") (codes "the inputs that were added, as lines of a feed"))
     ∷ (codes "echo", usage (codes "any text") (codes "the text"))

@@ -14,7 +14,7 @@ ghost use Rattle.commands.specs.Extended.{with_counted_place, usual_links, place
 ghost use Rattle.commands.specs.Extended.{behind_blank, echoed, extended_in, extended_line};
 ghost use Rattle.commands.specs.Extended.{in_words, steps_in, telling};
 ghost use Rattle.commands.specs.Extended.{places_in, lines_in, word_alone, stepped_in, word_then, links_then, since_in};
-ghost use Rattle.commands.specs.Extended.{index_told, since_of, why_since};
+ghost use Rattle.commands.specs.Extended.{index_told, since_of, why_since, quiet_in};
 
 use crate::breaking::break_form;
 use crate::command::{Command, ParsedLine};
@@ -132,6 +132,8 @@ pub enum ExtendedLine {
     Calls,
     /// Why the program never came to a place.
     Never(Linear),
+    /// Whether the outputs of new steps are counted from now on, in place of a line for each.
+    Quiet(bool),
 }
 
 /// What a line of an extended session asks for, where the symbols of a program stand.
@@ -284,6 +286,8 @@ fn state_command_in(symbols: &Symbols, name: &[u8], rest: &[u8]) -> Option<Exten
         with_none(ExtendedLine::Calls, rest)
     } else if is_word(name, "never") {
         place_alone(symbols, rest).map(ExtendedLine::Never)
+    } else if is_word(name, "quiet") {
+        quiet_in(rest).map(ExtendedLine::Quiet)
     } else {
         None
     }
@@ -380,6 +384,20 @@ fn is_sole(rest: &[u8], word: &str) -> bool
     match sole(rest) {
         Some(field) => is_word(field, word),
         None => false,
+    }
+}
+
+// What `quiet` takes: `on` or `off`.
+fn quiet_in(rest: &[u8]) -> Option<bool>
+    requires { All (λ field. length field ≤ 80) (texts (runs rest.now)) }
+    ensures { result ≡ quiet_in (texts (runs rest.now)) }
+{
+    if is_sole(rest, "on") {
+        Some(true)
+    } else if is_sole(rest, "off") {
+        Some(false)
+    } else {
+        None
     }
 }
 

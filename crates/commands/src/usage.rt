@@ -16,7 +16,7 @@ use words::push_all;
 type Row = (&'static str, &'static str, &'static str);
 
 /// The rows of the help.
-const ROWS: [Row; 37] = [
+const ROWS: [Row; 38] = [
     (
         "step",
         "a number of steps",
@@ -149,6 +149,11 @@ const ROWS: [Row; 37] = [
         "nothing, or [a count] steps",
         "the last channel lines [and steps]",
     ),
+    (
+        "quiet",
+        "on, or off",
+        "counts the outputs of new steps, or tells them",
+    ),
     ("add", "a line of a feed", "one input more"),
     (
         "inputs",
@@ -210,8 +215,8 @@ pub(crate) fn help_of(name: &[u8]) -> Option<Phrase>
     Some(phrase)
 }
 
-/// The most bytes of the whole help: 37 lines of at most 128.
-const HELP_TEXT: usize = 4_736;
+/// The most bytes of the whole help: 38 lines of at most 128.
+const HELP_TEXT: usize = 4_864;
 
 /// The lines of the whole help.
 pub type HelpText = ArrayVec<u8, HELP_TEXT>;

@@ -10,7 +10,7 @@ use Rattle.yayul.specs.Program.{Source}
 use Rattle.audit.specs.BankFacts.{count_before}
 use Rattle.certain.specs.Comparison.{differs}
 use Rattle.certain.specs.Places.{held_places}
-use Rattle.certain.specs.Rows.{is_second, place_before, placed_rows}
+use Rattle.yayul.specs.PlaceMargin.{is_second, place_before, placed_rows}
 use Rattle.assumed.specs.declared.wording.Wording.{Wording}
 use Rattle.assumed.specs.Sources.{wording_on}
 use Rattle.assumed.specs.Wordings.{wording_name}

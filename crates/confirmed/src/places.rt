@@ -3,18 +3,17 @@
 ghost use Rattle.std.specs.Prelude.{◌≡◌, ◌+◌, ◌-◌, ◌<◌, ◌≤◌, ◌^◌, IfOk, IfSome, None, drop, get_or, length, set};
 ghost use Rattle.agc_text.specs.Lines.{lines};
 ghost use Rattle.rope.specs.Places.{fixed_places, place_number};
-ghost use Rattle.certain.specs.Rows.{place_before};
+ghost use Rattle.yayul.specs.PlaceMargin.{place_before};
 ghost use Rattle.confirmed.specs.Confirmed.{assumed_words, first_wording, line_on, none_assumed};
 ghost use Rattle.confirmed.specs.Confirmed.{row_passed, rows_passed, start_with, with_wording};
 
 use agc_text::next_line;
 use assumed::{Wording, wording_on};
-use certain::{is_second, place_before, placed_rows};
 use rope::Rope;
 use space::BANK_WORDS;
 use std::alloc::{AllocError, Global};
 use std::marker::Model;
-use yayul::SourceRows;
+use yayul::{SourceRows, is_second, place_before, placed_rows};
 
 /// How many places there are, those of the banks 044 to 047 included.
 const HELD_PLACES: usize = 0o50 * BANK_WORDS as usize;

@@ -4,16 +4,15 @@ use Rattle.std.proofs.Common.{inl, inr, arith, add-one}
 use Rattle.std.proofs.lemmas.Bool.{cases_Bool}
 use Rattle.std.proofs.lemmas.Bool.Decides.{eqb_tells}
 use Rattle.std.proofs.lemmas.List.{get_or-set_same, get_or-set_other, length-replicate, length-set}
+use Rattle.words.proofs.Replicated.{get_replicated}
 use Rattle.cpu.specs.declared.account.Account.{Account}
-use Rattle.cpu.specs.Next.{next}
 use Rattle.cpu.specs.Profiles.{account_of, count_at, cycles_at, same_account, step_cycles}
 use Rattle.cpu.specs.Run.{run}
 use Rattle.space.specs.declared.place.Linear.TheVariants.{Erasable, Fixed}
 use Rattle.cpu.specs.declared.account.Account.TheVariants.{Input, Entry, Waiting, Place}
-use Rattle.cpu.specs.State.{State, Scenario, FitsRun}
-use Rattle.cpu.proofs.TakenLaws.{run-fits}
+use Rattle.cpu.specs.State.{State, Scenario}
 use Rattle.cpu.proofs.Profiling.{profile_adds_up}
-use Rattle.cpu.proofs.RunLaws.{cycles-run, rise-next, run-add-one}
+use Rattle.cpu.proofs.RunLaws.{cycles-run, rise-next}
 use Rattle.cover.specs.declared.tally.Figures.{Figures}
 use Rattle.cover.specs.Tallies.{AllAddUp, all_accounts, ShownAddUp, shown_accounts, AreSmall, Counts, IsAccount, is_account, account_count}
 use Rattle.cover.specs.Tallies.{account_number, figures_at, no_figures, one_step_more, profile_of, put_down}
@@ -21,9 +20,7 @@ use Rattle.cover.proofs.Accounts.{is_one, once, one_is, other_account, same_is_o
 use Rattle.cover.proofs.ShownAccounts.{shown_once}
 
 no_figures_in : (n k : ℕ) → get_or (replicate n no_figures) k no_figures ≡ no_figures
-no_figures_in zero k = refl
-no_figures_in (suc n) zero = refl
-no_figures_in (suc n) (suc k) = no_figures_in n k
+no_figures_in n k = get_replicated no_figures n k
 
 -- before the first step
 pub none_counted : (scenario : Scenario) (figures : List Figures) → figures ≡ replicate account_count no_figures → Counts scenario 0 figures
@@ -71,7 +68,7 @@ as_before_at : (scenario : Scenario) (n : ℕ) (a : Account) → same_account a 
 unfolding count_at cycles_at
 as_before_at scenario n a apart = rw (add-one n, apart, and_nothing (count_at scenario a n), and_nothing (cycles_at scenario a n)) refl
 
-number_within : (a : Account) → IsAccount a → account_number a < account_count
+pub number_within : (a : Account) → IsAccount a → account_number a < account_count
 number_within Input known = omega arith
 number_within Entry known = omega arith
 number_within Waiting known = omega arith
@@ -141,16 +138,6 @@ small scenario n figures few counts a known =
     let count : (figures_at figures a).count ≡ count_at scenario a n = ap (λ f. f.count) (counts.profile a known) in
     let cycles : (figures_at figures a).cycles ≡ cycles_at scenario a n = ap (λ f. f.cycles) (counts.profile a known) in
     (omega (arith, few, count, few_counts scenario a n), omega (arith, few, cycles, few_cycles_at scenario a n, cycles-run scenario n))
-
-pub few_cycles : (scenario : Scenario) (n : ℕ) (s : State) → s ≡ run scenario n → n < 2 ^ 40 → s.cycles ≤ 2 ^ 62
-few_cycles scenario n s e h = rw e (omega (arith, cycles-run scenario n))
-
-pub fits_after : (scenario now : Scenario) (n : ℕ) (s : State) → now ≡ scenario → s ≡ run scenario n → FitsRun now s
-fits_after scenario now n s same e = rw (same, e) (run-fits scenario n)
-
-pub state_more : (scenario now : Scenario) (n : ℕ) (s t : State) → now ≡ scenario → s ≡ run scenario n → t ≡ (next now s).0
-    → t ≡ run scenario (n + 1)
-state_more scenario now n s t same e h = rw (run-add-one scenario n) (rw (same, e) at h)
 
 -- what is no account has no figures
 no_other : (scenario : Scenario) (n : ℕ) (a : Account) → is_account a ≡ false

@@ -1,24 +1,22 @@
 //! The profile of an image's run as text.
 
-ghost use Rattle.std.specs.Prelude.{◌≡◌, ◌<◌, ◌++◌, true};
-ghost use Rattle.std.specs.List.{range_with_len, flat_map};
+ghost use Rattle.std.specs.Prelude.{◌≡◌, ◌++◌, true};
 ghost use Rattle.words.specs.Devices.{Writes, failures_after};
-ghost use Rattle.rope.specs.Places.{banks, bank_words};
 ghost use Rattle.audit.specs.WordLines.{extracode_at};
-ghost use Rattle.cover.specs.CoverText.{figure_columns, image_line, image_row, image_rows, image_rows_of, profile_text};
+ghost use Rattle.cover.specs.CoverText.{figure_columns, image_line, image_row, image_rows, profile_text};
 ghost use Rattle.cover.specs.Tallies.{figures_at};
 ghost use Rattle.cover.specs.declared.shown.Shown.TheVariants as shown;
 
 use crate::columns::figure_columns;
 use crate::objects::image_object;
-use crate::rest::{bank_of, offset_of, write_rest};
+use crate::rest::write_rest;
 use crate::tally::{Figures, Tally};
-use audit::word_line;
-use cpu::{Account, extracode_after};
+use audit::{EachWord, WordAt, WordText, word_line, write_by_bank};
+use cpu::Account;
 use json_text::Notation;
 use names::named_line;
 use rope::Rope;
-use space::{BANK_WORDS, Bank, FIXED_BANKS, Linear, Offset};
+use space::Linear;
 use trace::PlaceNames;
 use words::{Write, WriteFailed, write_all};
 
@@ -45,6 +43,7 @@ pub fn write_image_profile<W: Write>(
 }
 
 /// Writes the rows of all words.
+#[tactic(auto, unfolding(crate::specs::CoverText::image_rows_of))]
 fn write_words<W: Write>(
     notation: Notation,
     tally: &Tally,
@@ -56,56 +55,40 @@ fn write_words<W: Write>(
         (image_rows notation names.now (figures_at tally.now) rope.now) result }
     ensures failures { W.failures out.new ≡ failures_after (W.failures out.old) result }
 {
-    for number in 0..FIXED_BANKS {
-        write_bank(notation, tally, rope, names, bank_of(number), out)?;
-    }
-    Ok(())
+    let rows = Rows {
+        notation,
+        tally,
+        names,
+    };
+    write_by_bank(&EachWord { text: &rows }, rope, None, out)
 }
 
-/// Writes the rows of a bank's words.
-fn write_bank<W: Write>(
+/// The rows of words.
+#[derive(Drop)]
+struct Rows<'a> {
     notation: Notation,
-    tally: &Tally,
-    rope: &Rope,
-    names: &Option<PlaceNames>,
-    bank: Bank,
-    out: &mut W,
-) -> Result<(), WriteFailed>
-    ensures written { W.told ≡ true → Writes (W.written out.old) (W.written out.new)
-        (image_rows_of notation names.now (figures_at tally.now) rope.now bank) result }
-    ensures failures { W.failures out.new ≡ failures_after (W.failures out.old) result }
-{
-    let mut extra = false;
-    for number in 0..BANK_WORDS {
-        let offset = offset_of(number);
-        write_word(notation, tally, rope, names, bank, offset, extra, out)?;
-        extra = extracode_after(rope.word(bank, offset), extra);
-    }
-    Ok(())
+    tally: &'a Tally,
+    names: &'a Option<PlaceNames>,
 }
 
-/// Writes the row of a word.
-fn write_word<W: Write>(
-    notation: Notation,
-    tally: &Tally,
-    rope: &Rope,
-    names: &Option<PlaceNames>,
-    bank: Bank,
-    offset: Offset,
-    extra: bool,
-    out: &mut W,
-) -> Result<(), WriteFailed>
-    requires { extra ≡ extracode_at rope.now bank offset }
-    ensures written { W.told ≡ true → Writes (W.written out.old) (W.written out.new)
-        (image_row notation names.now (figures_at tally.now) rope.now bank offset) result }
-    ensures failures { W.failures out.new ≡ failures_after (W.failures out.old) result }
-{
-    let figures = tally.figures(Account::Place(Linear::Fixed(bank, offset)));
-    match notation {
-        Notation::Text => write_columns(figures, rope, names, bank, offset, extra, out),
-        Notation::Json => {
-            let object = image_object(names, figures, rope, bank, offset, extra);
-            write_all(out, object.as_slice())
+impl<'a> WordText for Rows<'a> {
+    ghost text = { λ rows words bank offset. image_row rows.notation rows.names.now (figures_at rows.tally.now) words
+        bank offset };
+
+    fn write<W: Write>(&self, rope: &Rope, word: WordAt, out: &mut W) -> Result<(), WriteFailed> {
+        let place = Linear::Fixed(word.bank, word.offset);
+        let figures = self.tally.figures(Account::Place(place));
+        match self.notation {
+            Notation::Text => write_columns(figures, rope, self.names, word, out),
+            Notation::Json => {
+                let WordAt {
+                    bank,
+                    offset,
+                    extra,
+                } = word;
+                let object = image_object(self.names, figures, rope, bank, offset, extra);
+                write_all(out, object.as_slice())
+            }
         }
     }
 }
@@ -115,34 +98,37 @@ fn write_columns<W: Write>(
     figures: Figures,
     rope: &Rope,
     names: &Option<PlaceNames>,
-    bank: Bank,
-    offset: Offset,
-    extra: bool,
+    word: WordAt,
     out: &mut W,
 ) -> Result<(), WriteFailed>
-    requires { extra ≡ extracode_at rope.now bank offset }
+    requires { word.extra ≡ extracode_at rope.now word.bank word.offset }
     ensures written { W.told ≡ true → Writes (W.written out.old) (W.written out.new)
-        (figure_columns figures ++ image_line names.now rope.now bank offset) result }
+        (figure_columns figures ++ image_line names.now rope.now word.bank word.offset) result }
     ensures failures { W.failures out.new ≡ failures_after (W.failures out.old) result }
 {
     write_all(out, figure_columns(figures).as_slice())?;
-    write_line(rope, names, bank, offset, extra, out)
+    write_line(rope, names, word, out)
 }
 
 /// Writes the line of a word, with names or without.
-fn write_line<W: Write>(
+///
+/// After a failure a beginning of it was written.
+pub fn write_line<W: Write>(
     rope: &Rope,
     names: &Option<PlaceNames>,
-    bank: Bank,
-    offset: Offset,
-    extra: bool,
+    word: WordAt,
     out: &mut W,
 ) -> Result<(), WriteFailed>
-    requires { extra ≡ extracode_at rope.now bank offset }
+    requires { word.extra ≡ extracode_at rope.now word.bank word.offset }
     ensures written { W.told ≡ true → Writes (W.written out.old) (W.written out.new)
-        (image_line names.now rope.now bank offset) result }
+        (image_line names.now rope.now word.bank word.offset) result }
     ensures failures { W.failures out.new ≡ failures_after (W.failures out.old) result }
 {
+    let WordAt {
+        bank,
+        offset,
+        extra,
+    } = word;
     match names {
         Some(names) => write_all(out, named_line(rope, names, bank, offset, extra).as_slice()),
         None => write_all(out, word_line(rope, bank, offset, extra).as_slice()),

@@ -9,7 +9,7 @@ mod shown;
 mod source;
 mod tally;
 
-pub use image::write_image_profile;
+pub use image::{write_image_profile, write_line};
 pub use shown::Shown;
 pub use source::write_source_profile;
 pub use tally::{ACCOUNTS, Figures, Tally, number_of};

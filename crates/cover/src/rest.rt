@@ -11,6 +11,7 @@ ghost use Rattle.cover.specs.Tallies.{figures_at, selected_banks};
 use crate::columns::figure_columns;
 use crate::objects::{figure_object, place_object};
 use crate::tally::{Figures, Tally};
+use audit::offset_of;
 use cpu::Account;
 use json_text::Notation;
 use rope::Rope;
@@ -213,17 +214,9 @@ fn erasable_of(number: u16) -> Eras
 }
 
 /// The bank of a number.
-pub(crate) fn bank_of(number: u16) -> Bank
+fn bank_of(number: u16) -> Bank
     requires { number < selected_banks }
     ensures { result ≡ number }
 {
     Bank::try_new(number).unwrap()
-}
-
-/// The offset of a number.
-pub(crate) fn offset_of(number: u16) -> Offset
-    requires { number < bank_words }
-    ensures { result ≡ number }
-{
-    Offset::try_new(number).unwrap()
 }

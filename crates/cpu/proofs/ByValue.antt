@@ -68,23 +68,22 @@ edits_leave (Erasable q) x s p lt n6 = on (nat_le cycle_right q && nat_le q edit
     on false e = refl
     on true e = let low : 16 ≤ q = grind (arith, nat_tests) in get-put_other s.cells q x p (λ e. omega arith) n6 (λ e. omega arith)
 
-edits_wait : (l : Linear) (x : ℕ) (s : State) → (changes s (edits l x)).waiting_sum ≡ s.waiting_sum
+-- nor what else a state holds
+edits_keep : (l : Linear) (x : ℕ) (s : State) (f : State → Option ℕ) → ((cells : Cells) → f (record s { cells = cells }) ≡ f s)
+    → f (changes s (edits l x)) ≡ f s
 unfolding edits
-edits_wait (Fixed bank offset) x s = refl
-edits_wait (Erasable q) x s = on (nat_le cycle_right q && nat_le q edit_opcode)
+edits_keep (Fixed bank offset) x s f same = refl
+edits_keep (Erasable q) x s f same = on (nat_le cycle_right q && nat_le q edit_opcode)
   where
-    on : (b : Bool) → (changes s (cond b (AtPlace q x ∷ []) [])).waiting_sum ≡ s.waiting_sum
+    on : (b : Bool) → f (changes s (cond b (AtPlace q x ∷ []) [])) ≡ f s
     on false = refl
-    on true = refl
+    on true = same (put s.cells q x)
+
+edits_wait : (l : Linear) (x : ℕ) (s : State) → (changes s (edits l x)).waiting_sum ≡ s.waiting_sum
+edits_wait l x s = edits_keep l x s (λ u. u.waiting_sum) (λ cells. refl)
 
 edits_word : (l : Linear) (x : ℕ) (s : State) → (changes s (edits l x)).waiting_word ≡ s.waiting_word
-unfolding edits
-edits_word (Fixed bank offset) x s = refl
-edits_word (Erasable q) x s = on (nat_le cycle_right q && nat_le q edit_opcode)
-  where
-    on : (b : Bool) → (changes s (cond b (AtPlace q x ∷ []) [])).waiting_word ≡ s.waiting_word
-    on false = refl
-    on true = refl
+edits_word l x s = edits_keep l x s (λ u. u.waiting_word) (λ cells. refl)
 
 -- A and L after both are stored
 stored_a : (c : Cells) (x y : ℕ) → get (put (put c accumulator x) lower_accumulator y) accumulator ≡ x

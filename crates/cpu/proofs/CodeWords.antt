@@ -129,15 +129,7 @@ operands : (o : Operand) (base own moved : ℕ) → base % 2 ^ bits o ≡ 0 → 
     → moved < base + 2 ^ bits o → Operands (2 ^ bits o) base own moved
 operands Nothing base own moved whole l m p q = record
     { there = λ h. omega arith; back = λ h. omega arith; first = omega arith; second = omega arith }
-operands Short base own moved whole l m p q = record
-    { there = λ h. omega arith; back = λ h. omega arith; first = omega arith; second = omega arith }
-operands Long base own moved whole l m p q = record
-    { there = λ h. omega arith; back = λ h. omega arith; first = omega arith; second = omega arith }
-operands ShortPair base own moved whole l m p q = record
-    { there = λ h. omega arith; back = λ h. omega arith; first = omega arith; second = omega arith }
-operands LongPair base own moved whole l m p q = record
-    { there = λ h. omega arith; back = λ h. omega arith; first = omega arith; second = omega arith }
-operands Channel base own moved whole l m p q = record
+operands operand base own moved whole l m p q = record
     { there = λ h. omega arith; back = λ h. omega arith; first = omega arith; second = omega arith }
 
 -- words of one instruction: the operand goes on as the value does

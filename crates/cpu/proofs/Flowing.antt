@@ -8,6 +8,7 @@ use Rattle.std.specs.FinMap as map'
 use Rattle.words.specs.Numbers.{extend, correct}
 use Rattle.words.specs.BitSums.{and_sum}
 use Rattle.rope.specs.Places.{Words}
+use Rattle.space.proofs.CellLaws.{same_get}
 use Rattle.space.specs.Cells.{Cells, at, word_at as word_in, cycle_right, edit_opcode, get, put, kept, get_channel, put_channel}
 use Rattle.space.specs.Cells.{channel_cell, superbank_channel, superbank_mask, both_banks, always_zero, accumulator, return_address}
 use Rattle.space.specs.Cells.{erasable_bank, fixed_bank, lower_accumulator, lower_accumulator_channel, return_address_channel}
@@ -149,15 +150,6 @@ one_by : (r : Words) (s : State) (o : Words) (t : State) (p : ℕ) (b d : Bool) 
 one_by r s o t p true d h k e = absurd (cc)
 one_by r s o t p false true h k e = absurd (cc)
 one_by r s o t p false false h k e = e.0
-
-same_word : (s t : Cells) (p : ℕ) → p ≢ both_banks → at s p ≡ at t p → word_in s p ≡ word_in t p
-same_word s t p m6 h = grind (arith, nat_tests)
-
-same_get : (s t : Cells) (p : ℕ) → p ≢ both_banks → at s p ≡ at t p → get s p ≡ get t p
-unfolding get
-same_get s t p m6 h =
-    let wide = p == accumulator || p == return_address in
-    ap (λ w. cond wide w (extend (word_in s p))) h ∙ ap (λ w. cond wide (at t p) (extend w)) (same_word s t p m6 h)
 
 same_banks : (r : Words) (s : State) (o : Words) (t : State) → Agree r s o t (place_spots both_banks)
     → get s.cells both_banks ≡ get t.cells both_banks

@@ -1,5 +1,6 @@
 pub mod RunLaws
 pub mod TakenLaws
+pub mod Turns
 pub mod SilentLaws
 pub mod LateInputs
 mod Rows

@@ -10,6 +10,7 @@ use Rattle.std.specs.Ordering.{nat_cmp, eq_by_cmp}
 use Rattle.std.specs.Cmp.{nat_cmp_total}
 use Rattle.std.specs.FinSet.{FinSet, contains, insert, remove, from_list, contains-from_list_nat, contains-insert, contains-remove}
 use Rattle.std.specs.FinSet.{same_set, nat_cmp-IsAntisymmetric}
+use Rattle.cpu.specs.State.{State}
 use Rattle.cpu.specs.Representation.{requests_of}
 
 any_cons : (q a : ℕ) (b : Bool) (r : List ℕ) → list_any (λ y. nat_eq y q) (cond b (a ∷ r) r)
@@ -135,3 +136,9 @@ none_from flags clear (suc n) k =
 
 pub none_asked : find (λ j. contains (requests_of (replicate 10 false)) j) (range_with_len 1 10) ≡ None
 none_asked = none_from (replicate 10 false) (unset 10) 10 1
+
+-- what was changed in the requests of a state is changed in those of the same state
+pub changed_requests : (s t : State) (f : FinSet nat_cmp → FinSet nat_cmp) (requests : FinSet nat_cmp) → s ≡ t → requests ≡ f s.requests
+    → record s { requests = requests } ≡ record t { requests = f t.requests }
+changed_requests s t f requests same is =
+    ap (λ r. record s { requests = r }) is ∙ ap (λ (u : State). record u { requests = f u.requests }) same

@@ -33,7 +33,7 @@ use Rattle.cpu.specs.Next.{executed, execute_code, output_on, written_channel, l
 use Rattle.cpu.specs.Interrupts.{after_steps, ResumesAtOnce, IsSameBut, with_word_waiting, LeadsBack, InterruptLeadsBack, IsApart}
 use Rattle.cpu.specs.Interrupts.{NamesNeither, unasked, later, IsNotFelt, InterruptIsNotFelt}
 use Rattle.cpu.proofs.StepLaws.{by_entry, by_code, corrected_twice, requests-after}
-use Rattle.cpu.proofs.SameBut.{same_after, acc, channels}
+use Rattle.cpu.proofs.SameBut.{same_after, with_extra, acc, channels}
 
 -- ## What an entry asks for
 either_parts : (b c : Bool) → (b || c) ≡ false → (b ≡ false) × (c ≡ false)
@@ -313,17 +313,7 @@ same_executed : (rope : Words) (s t : State) (code : Code) → IsSameBut s t →
     → IsSameBut (executed rope s code) (executed rope t code)
 unfolding executed
 same_executed rope s t code h differs a =
-    let g = same_after rope s t code.instruction code.operand h differs a in
-    record {
-      cells = g.cells;
-      extra = ap (extra_after code.instruction) h.extra;
-      inhibit = g.inhibit;
-      inside = g.inside;
-      waiting_sum = g.waiting_sum;
-      waiting_word = g.waiting_word;
-      taken = g.taken;
-      counts = g.counts;
-    }
+    with_extra _ _ _ _ _ _ (ap (extra_after code.instruction) h.extra) (same_after rope s t code.instruction code.operand h differs a)
 
 -- the fetch moves Z alone
 pub fetched_place : (s : State) (f k : ℕ) → place_in (record s { cells = put s.cells program_counter f }) k ≡ place_in s k

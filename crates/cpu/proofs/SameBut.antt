@@ -1,5 +1,5 @@
 -- Two states that are the same but for ZRUPT and BRUPT stay so after an instruction that names neither.
-use Rattle.std.proofs.Common.{◌≡◌, ◌≢◌, ℕ, ◌/◌, ◌%◌, Bool, true, false, cond, ◌==◌, List, [], ◌∷◌, refl, ap, ◌∙◌, sym, subst, arith}
+use Rattle.std.proofs.Common.{◌≡◌, ◌≢◌, ℕ, ◌/◌, ◌%◌, Bool, true, false, cond, ◌==◌, List, [], ◌∷◌, refl, ap, ◌∙◌, sym, subst, arith, rules}
 use Rattle.words.specs.Numbers.{extend}
 use Rattle.std.specs.FinMap as map'
 use Rattle.rope.specs.Places.{Words}
@@ -54,70 +54,22 @@ unfolding put_channel
 channel_same s t n x c e = channel_by s t n x _ _ c (n == lower_accumulator_channel) (n == return_address_channel) (n == superbank_channel)
     e
 
+-- two states stay the same where the same is put in their places
+with_cells : (s t : State) (a b : Cells) → ((c : ℕ) → c ≢ interrupted_address → c ≢ interrupted_word → at b c ≡ at a c) → IsSameBut s t
+    → IsSameBut (record s { cells = a }) (record t { cells = b })
+with_cells s t a b same h = search rules
+
+pub with_extra : (s t : State) (x y : Bool) (m n : ℕ) → y ≡ x → IsSameBut s t
+    → IsSameBut (record s { extra = x; cycles = m }) (record t { extra = y; cycles = n })
+with_extra s t x y m n same h = search rules
+
 same_change : (s t : State) (c : Change) → IsSameBut s t → IsSameBut (change s c) (change t c)
-same_change s t (AtPlace p x) h = record {
-  cells = λ c z b. put_same s.cells t.cells p x c (h.cells c z b);
-  extra = h.extra;
-  inhibit
-      = h.inhibit;
-  inside = h.inside;
-  waiting_sum = h.waiting_sum;
-  waiting_word = h.waiting_word;
-  taken = h.taken;
-  counts = h.counts;
-}
-same_change s t (OnChannel n x) h = record {
-  cells = λ c z b. channel_same s.cells t.cells n x c (h.cells c z b);
-  extra = h.extra;
-  inhibit
-      = h.inhibit;
-  inside = h.inside;
-  waiting_sum = h.waiting_sum;
-  waiting_word = h.waiting_word;
-  taken = h.taken;
-  counts = h.counts;
-}
-same_change s t (Inhibits b) h = record {
-  cells = h.cells;
-  extra = h.extra;
-  inhibit = refl;
-  inside = h.inside;
-  waiting_sum = h.waiting_sum;
-  waiting_word = h.waiting_word;
-  taken = h.taken;
-  counts = h.counts;
-}
-same_change s t (Serves b) h = record {
-  cells = h.cells;
-  extra = h.extra;
-  inhibit = h.inhibit;
-  inside = refl;
-  waiting_sum = h.waiting_sum;
-  waiting_word = h.waiting_word;
-  taken = h.taken;
-  counts = h.counts;
-}
-same_change s t (WaitsWithSum x) h = record {
-  cells = h.cells;
-  extra = h.extra;
-  inhibit = h.inhibit;
-  inside = h.inside;
-  waiting_sum = refl;
-  waiting_word = h.waiting_word;
-  taken = h.taken;
-  counts = h.counts;
-}
-same_change s t (WaitsWithWord w) h = record {
-  cells = h.cells;
-  extra = h.extra;
-  inhibit = h.inhibit;
-  inside = h.inside;
-  waiting_sum
-      = h.waiting_sum;
-  waiting_word = refl;
-  taken = h.taken;
-  counts = h.counts;
-}
+same_change s t (AtPlace p x) h = with_cells s t _ _ (λ c z b. put_same s.cells t.cells p x c (h.cells c z b)) h
+same_change s t (OnChannel n x) h = with_cells s t _ _ (λ c z b. channel_same s.cells t.cells n x c (h.cells c z b)) h
+same_change s t (Inhibits b) h = search rules
+same_change s t (Serves b) h = search rules
+same_change s t (WaitsWithSum x) h = search rules
+same_change s t (WaitsWithWord w) h = search rules
 
 pub same_changes : (s t : State) (cs : List Change) → IsSameBut s t → IsSameBut (changes s cs) (changes t cs)
 same_changes s t [] h = h

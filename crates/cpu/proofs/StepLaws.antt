@@ -242,11 +242,7 @@ puts_out_by_writing scenario s = record {
 
 requests-change : (s : State) (c : Change) → (change s c).requests ≡ s.requests
 requests-change s (AtPlace p x) = refl
-requests-change s (OnChannel n x) = refl
-requests-change s (Inhibits b) = refl
-requests-change s (Serves b) = refl
-requests-change s (WaitsWithSum x) = refl
-requests-change s (WaitsWithWord w) = refl
+requests-change s c = refl
 
 requests-changes : (s : State) (cs : List Change) → (changes s cs).requests ≡ s.requests
 requests-changes s [] = refl

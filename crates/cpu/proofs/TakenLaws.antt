@@ -32,11 +32,7 @@ account s = (s.taken, s.counts)
 
 account-change : (s : State) (c : Change) → account (change s c) ≡ account s
 account-change s (AtPlace p x) = refl
-account-change s (OnChannel n x) = refl
-account-change s (Inhibits b) = refl
-account-change s (Serves b) = refl
-account-change s (WaitsWithSum x) = refl
-account-change s (WaitsWithWord w) = refl
+account-change s c = refl
 
 account-changes : (s : State) (cs : List Change) → account (changes s cs) ≡ account s
 account-changes s [] = refl

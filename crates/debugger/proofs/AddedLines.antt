@@ -17,7 +17,7 @@ use Rattle.feed.proofs.Givens.{line_gives}
 use Rattle.commands.specs.Commands.{Form, alone, with_one, with_both, count_in, channel_in, place_in, erasable_in, erasable_number}
 use Rattle.commands.specs.Commands.{breaking, forms, known, adding, rest_after, added_by, parsed_in}
 use Rattle.commands.specs.Extended.{ExtendedForm, sole, with_none, word_alone, with_field_or, steps_in, help_in, usual_links, stepped_in}
-use Rattle.commands.specs.Extended.{way_in, word_asked}
+use Rattle.commands.specs.Extended.{way_in, word_asked, quiet_in}
 use Rattle.commands.specs.Extended.{lines_in, links_in, why_of, why_place, word_then, links_then, since_in, index_told, telling}
 use Rattle.commands.specs.Extended.{since_after, since_of, why_since, why_form, memory_of, channel_form, memory_form, counted_place}
 use Rattle.commands.specs.Extended.{place_alone, broken_at, watches, bits_of, watches_bits, subject_alone, break_form, extended_forms}
@@ -44,7 +44,7 @@ use Rattle.commands.specs.declared.extended.ExtendedLine.{ExtendedLine}
 use Rattle.commands.specs.declared.extended.ExtendedLine.TheVariants.{Plain, Common, Says, Help, Breaks, ClearOne, On, AllRegisters, Until}
 use Rattle.commands.specs.declared.extended.ExtendedLine.TheVariants.{WhyStep, Why, Words, Where, Find, Trace, Inputs, Over, Out, Listed}
 use Rattle.commands.specs.declared.extended.ExtendedLine.TheVariants.{Values, Channels, Differs, WhySince, TailSteps, Survey, Say, WhatIf}
-use Rattle.commands.specs.declared.extended.ExtendedLine.TheVariants.{Calls, WhyWay, WhyControl, WhyInputs, WhyInterrupts, Never}
+use Rattle.commands.specs.declared.extended.ExtendedLine.TheVariants.{Calls, WhyWay, WhyControl, WhyInputs, WhyInterrupts, Never, Quiet}
 
 -- what is asked for adds nothing, or an input that a line can give
 abbrev pub AddsGivable : Command → Type 0
@@ -401,7 +401,10 @@ asked_adds symbols name = All-lookup AskedAdds (same_name name) (extended_forms 
                                                       (
                                                         (λ fs. mapped AskedGivable (λ place. Never place) (λ place. tt)
                                                             (place_alone symbols fs)),
-                                                        tt,
+                                                        (
+                                                          (λ fs. mapped AskedGivable (λ on. Quiet on) (λ on. tt) (quiet_in fs)),
+                                                          tt,
+                                                        ),
                                                       ),
                                                     ),
                                                   ),

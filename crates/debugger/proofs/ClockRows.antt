@@ -41,7 +41,7 @@ history-then = history-listed loop_words (clock (added ∷ [])) after_0 (twelve_
 
 abbrev desk : List Entry → ℕ → ℕ → Desk
 desk more steps position =
-    record { scenario = loop more; steps = steps; position = position; breakpoints = []; answers = []; additions = [] }
+    record { scenario = loop more; steps = steps; position = position; breakpoints = []; quiet = false; answers = []; additions = [] }
 
 added_inputs : transcript [] (first_desk (loop []) [] [])
     (ended (codes "run 12" ∷ codes "add 11 TIME1 PINC" ∷ codes "add 12 TIME1 PINC" ∷ codes "run 2" ∷ codes "mem 25" ∷ codes "goto 12"

@@ -57,7 +57,7 @@ use Rattle.commands.specs.declared.command.Command.{Command}
 use Rattle.commands.specs.declared.command.Command.TheVariants.{Goto, Back, Seek, Memory}
 use Rattle.words.specs.BitSums.{and_sum}
 use Rattle.debugger.specs.History.{History, Sight, history}
-use Rattle.debugger.specs.Growth.{grow, lowest_hit}
+use Rattle.debugger.specs.Growth.{grow, lowest_hit, words_line}
 use Rattle.debugger.specs.Replies.{Desk, answer, reply, at_line}
 use Rattle.debugger.specs.Channels.{channel_line, channel_word, channels_set}
 use Rattle.debugger.specs.Differs.{channels_changed, erasable_line}
@@ -120,6 +120,27 @@ on_new_steps : on (history five) 9 3 2 (Place (linear.Fixed 2 2) ∷ []) ++ on (
 unfolding extended_reply grow lowest_hit at_line digits octal_text place channel_lines place_text window
 on_new_steps = ap (λ h. on h 9 3 2 (Place (linear.Fixed 2 2) ∷ []) ++ on h 9 3 1 (Channel 8 10 ∷ []) ++ on h 2 3 2 [] ++ on h 0 3 2 [])
     history-five ∙ refl
+
+-- where it is quiet the outputs of new steps are counted; those of steps that stand are not, and none is no line
+abbrev hushed : History → ℕ → ℕ → ℕ → List Breakpoint → List ℕ
+hushed h k steps position breakpoints =
+    (extended_reply (terms_of symbols no_source five) h (record (at_step steps position breakpoints) { quiet = true }) (On k)).text
+
+on_counted_steps : hushed (history five) 9 3 2 (Place (linear.Fixed 2 2) ∷ []) ++ hushed (history five) 5 8 0 (Place (linear.Fixed 2 4) ∷ [])
+    ++ hushed (history five) 9 4 2 (Place (linear.Fixed 2 2) ∷ [])
+    ≡ ended (codes "WORDS 1" ∷ codes "HIT 1" ∷ codes "AT 7 12 02,4002" ∷ codes "HIT 1" ∷ codes "AT 4 7 02,4004" ∷ codes "HIT 1"
+    ∷ codes "AT 7 12 02,4002" ∷ [])
+unfolding extended_reply grow lowest_hit at_line digits octal_text place channel_lines place_text window
+on_counted_steps = ap (λ h. hushed h 9 3 2 (Place (linear.Fixed 2 2) ∷ []) ++ hushed h 5 8 0 (Place (linear.Fixed 2 4) ∷ [])
+    ++ hushed h 9 4 2 (Place (linear.Fixed 2 2) ∷ [])) history-five ∙ refl
+
+words_counted : words_line 0 ++ words_line 12 ≡ codes "WORDS 12\n"
+unfolding digits
+words_counted = refl
+
+told_quiet : session (codes "quiet on" ∷ codes "quiet off" ∷ []) ≡ ended (codes "QUIET on" ∷ codes "QUIET off" ∷ [])
+unfolding extended_line extended_forms extended_reply usages forms runs parsed counters sequences answer reply digits octal_text
+told_quiet = refl
 
 -- some bits of a channel
 on_some_bits : on (history five) 9 3 1 (Bits 8 0o102 7 ∷ []) ++ on (history five) 9 8 0 (Bits 8 0o102 0o17 ∷ Bits 8 0o77777 2 ∷ [])

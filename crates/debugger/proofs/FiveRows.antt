@@ -219,6 +219,7 @@ at_limit answers = record {
   steps = 1099511627774;
   position = 1099511627774;
   breakpoints = [];
+  quiet = false;
   answers = answers;
   additions
       = [];
@@ -242,7 +243,7 @@ abbrev forty : History
 forty = record five_listed { outputs = λ n. map numbered (range_with_len 1 n) }
 
 abbrev after_forty : Desk
-after_forty = record { scenario = five; steps = 40; position = 3; breakpoints = []; answers = []; additions = [] }
+after_forty = record { scenario = five; steps = 40; position = 3; breakpoints = []; quiet = false; answers = []; additions = [] }
 
 long_tail : answer forty after_forty (Known Tail)
     ≡ says (channel_lines (map numbered (range_with_len 9 32)) ++ codes "TAIL 32" ++ 10 ∷ []) after_forty

@@ -1,5 +1,5 @@
 -- Inputs that are added.
-use Rattle.std.proofs.Common.{◌≡◌, ℕ, ◌<◌, ◌≤◌, true, false, ltb, leb, max, inl, inr, ⊎_elim, List, [], ◌∷◌, Some, None, refl, sym, ap, ◌∙◌}
+use Rattle.std.proofs.Common.{Bool, ◌≡◌, ℕ, ◌<◌, ◌≤◌, true, false, ltb, leb, max, inl, inr, ⊎_elim, List, [], ◌∷◌, Some, None, refl, sym, ap, ◌∙◌}
 use Rattle.std.proofs.Common.{arith}
 use Rattle.std.proofs.lemmas.Bool.{cases_lt}
 use Rattle.std.proofs.lemmas.Bool.Decides.{nat_tests}
@@ -59,17 +59,17 @@ present-before s t cycle input a =
     sym (ap (λ (v : SessionView). v.present) a.same) ∙ a.stands.present
     ∙ ap (λ (n : ℕ). run t.scenario n) (ap (λ (v : SessionView). v.n) a.same) ∙ (a.alike s.n (omega arith)).state
 
-module _ (s : SessionView) (p : ℕ) (bs : List Breakpoint) (cycle : ℕ) (input : Input) (text : List ℕ) where
+module _ (s : SessionView) (p : ℕ) (bs : List Breakpoint) (quiet : Bool) (cycle : ℕ) (input : Input) (text : List ℕ) where
   -- the cycle has too many digits
   pub adding-long : greatest_cycle < cycle → text ≡ line (69 ∷ 53 ∷ 48 ∷ 32 ∷ 67 ∷ 79 ∷ 77 ∷ 77 ∷ 65 ∷ 78 ∷ 68 ∷ [])
-      → BringsAdding (desk s p bs) (Known (Add cycle input)) text (desk s p bs)
+      → BringsAdding (desk s p bs quiet) (Known (Add cycle input)) text (desk s p bs quiet)
   unfolding answer reply
   adding-long far e = record { additions = []; brings = λ m answers later. rw (above greatest_cycle cycle far, e) refl }
 
   -- it isn't above those of the present
   pub adding-early : cycle ≤ greatest_cycle → s.present ≡ run s.scenario s.n → cycle ≤ s.present.cycles
       → text ≡ line (69 ∷ 52 ∷ 50 ∷ 32 ∷ 84 ∷ 79 ∷ 79 ∷ 32 ∷ 69 ∷ 65 ∷ 82 ∷ 76 ∷ 89 ∷ [])
-      → BringsAdding (desk s p bs) (Known (Add cycle input)) text (desk s p bs)
+      → BringsAdding (desk s p bs quiet) (Known (Add cycle input)) text (desk s p bs quiet)
   unfolding answer reply history
   adding-early short present early e =
       let past : cycle ≤ (run s.scenario s.n).cycles = (let q = ap (λ (m : State). m.cycles) present in omega arith) in
@@ -82,7 +82,7 @@ module _ (s : SessionView) (p : ℕ) (bs : List Breakpoint) (cycle : ℕ) (input
   -- too many stand
   pub adding-many : cycle ≤ greatest_cycle → s.present ≡ run s.scenario s.n → s.present.cycles < cycle
       → most_plain_inputs ≤ plain_inputs s.scenario → text ≡ line (69 ∷ 51 ∷ 50 ∷ 32 ∷ 84 ∷ 79 ∷ 79 ∷ 32 ∷ 77 ∷ 65 ∷ 78 ∷ 89 ∷ [])
-      → BringsAdding (desk s p bs) (Known (Add cycle input)) text (desk s p bs)
+      → BringsAdding (desk s p bs quiet) (Known (Add cycle input)) text (desk s p bs quiet)
   unfolding answer reply history
   adding-many short present late full e =
       let future : (run s.scenario s.n).cycles < cycle = (let q = ap (λ (m : State). m.cycles) present in omega arith) in
@@ -100,7 +100,7 @@ module _ (s : SessionView) (p : ℕ) (bs : List Breakpoint) (cycle : ℕ) (input
   -- memory runs out
   pub adding-refused : cycle ≤ greatest_cycle → s.present ≡ run s.scenario s.n → s.present.cycles < cycle
       → plain_inputs s.scenario < most_plain_inputs → text ≡ line (69 ∷ 50 ∷ 32 ∷ 77 ∷ 69 ∷ 77 ∷ 79 ∷ 82 ∷ 89 ∷ [])
-      → BringsAdding (desk s p bs) (Known (Add cycle input)) text (desk s p bs)
+      → BringsAdding (desk s p bs quiet) (Known (Add cycle input)) text (desk s p bs quiet)
   unfolding answer reply history
   adding-refused short present late room e =
       let future : (run s.scenario s.n).cycles < cycle = (let q = ap (λ (m : State). m.cycles) present in omega arith) in
@@ -118,7 +118,7 @@ module _ (s : SessionView) (p : ℕ) (bs : List Breakpoint) (cycle : ℕ) (input
   -- it is added
   pub adding-added : (t : SessionView) → cycle ≤ greatest_cycle → (run s.scenario s.n).cycles < cycle
       → plain_inputs s.scenario < most_plain_inputs → HasAdded s cycle input t → text ≡ line (65 ∷ 68 ∷ 68 ∷ 69 ∷ 68 ∷ [])
-      → BringsAdding (desk s p bs) (Known (Add cycle input)) text (desk t p bs)
+      → BringsAdding (desk s p bs quiet) (Known (Add cycle input)) text (desk t p bs quiet)
   unfolding answer reply history
   adding-added t short future room added e =
       let scene : t.scenario ≡ with_added added.inputs.line cycle input s.scenario = added_is s.scenario t.scenario cycle input added.rope

@@ -48,14 +48,14 @@ IsGivable e = CanBeGivenAt e.cycle e.input
 
 -- ## Bytes
 -- a byte of a field, and one of a line before its comment
-abbrev is_plain : ℕ → Bool
+abbrev pub is_plain : ℕ → Bool
 is_plain b = is_text_byte b && (not (is_blank b) && not (eqb b 0o43))
 
-abbrev is_open : ℕ → Bool
+abbrev pub is_open : ℕ → Bool
 is_open b = is_text_byte b && not (eqb b 0o43)
 
 -- what passes one test passes another
-all_weaker : (p q : ℕ → Bool) → ((b : ℕ) → p b ≡ true → q b ≡ true) → (xs : List ℕ) → list_all p xs ≡ true → list_all q xs ≡ true
+pub all_weaker : (p q : ℕ → Bool) → ((b : ℕ) → p b ≡ true → q b ≡ true) → (xs : List ℕ) → list_all p xs ≡ true → list_all q xs ≡ true
 all_weaker p q weaker [] all = refl
 all_weaker p q weaker (x ∷ xs) all = elim (cases_Bool (p x)) [
   | inl passes ↦ (let others : list_all p xs ≡ true = rw passes at all in rw (weaker x passes, all_weaker p q weaker xs others) refl)
@@ -67,24 +67,24 @@ both true true h = (refl, refl)
 both true false h = absurd (cc)
 both false b h = absurd (cc)
 
-open_of : (b : ℕ) → is_plain b ≡ true → is_open b ≡ true
+pub open_of : (b : ℕ) → is_plain b ≡ true → is_open b ≡ true
 open_of b h = let p = both (is_text_byte b) _ h in let q = both (not (is_blank b)) _ p.1 in rw (p.0, q.1) refl
 
-unblank_of : (b : ℕ) → is_plain b ≡ true → not (is_blank b) ≡ true
+pub unblank_of : (b : ℕ) → is_plain b ≡ true → not (is_blank b) ≡ true
 unblank_of b h = (both (not (is_blank b)) _ (both (is_text_byte b) _ h).1).0
 
-text_of : (b : ℕ) → is_open b ≡ true → is_text_byte b ≡ true
+pub text_of : (b : ℕ) → is_open b ≡ true → is_text_byte b ≡ true
 text_of b h = (both (is_text_byte b) _ h).0
 
-unhash_of : (b : ℕ) → is_open b ≡ true → not (eqb b 0o43) ≡ true
+pub unhash_of : (b : ℕ) → is_open b ≡ true → not (eqb b 0o43) ≡ true
 unhash_of b h = (both (is_text_byte b) _ h).1
 
-all_append : (p : ℕ → Bool) (xs ys : List ℕ) → list_all p xs ≡ true → list_all p ys ≡ true → list_all p (xs ++ ys) ≡ true
+pub all_append : (p : ℕ → Bool) (xs ys : List ℕ) → list_all p xs ≡ true → list_all p ys ≡ true → list_all p (xs ++ ys) ≡ true
 all_append p xs ys all others = list_all-append p xs ys ∙ rw (all, others) refl
 
 -- ## Fields
 -- where the first byte that passes a test stands, after bytes that do not
-past : (p : ℕ → Bool) (xs ys : List ℕ) → list_all (λ b. not (p b)) xs ≡ true
+pub past : (p : ℕ → Bool) (xs ys : List ℕ) → list_all (λ b. not (p b)) xs ≡ true
     → position_or_len p (xs ++ ys) ≡ length xs + position_or_len p ys
 past p [] ys all = omega arith
 past p (x ∷ xs) ys all = elim (cases_Bool (p x)) [
@@ -95,17 +95,17 @@ past p (x ∷ xs) ys all = elim (cases_Bool (p x)) [
       rw fails (omega (arith, more)))
 ]
 
-no_hash : (xs : List ℕ) → list_all (λ b. not (eqb b 0o43)) xs ≡ true → before_comment xs ≡ xs
+pub no_hash : (xs : List ℕ) → list_all (λ b. not (eqb b 0o43)) xs ≡ true → before_comment xs ≡ xs
 no_hash xs all =
     let whole = past (λ b. eqb b 0o43) xs [] all in
     let at : position_or_len (λ b. eqb b 0o43) xs ≡ length xs = rw append-nil at whole ∙ omega arith in
     ap (λ n. take n xs) at ∙ take-length xs
 
 -- a field: some plain bytes
-abbrev IsField : List ℕ → Type 0
+abbrev pub IsField : List ℕ → Type 0
 IsField w = (0 < length w) × (list_all is_plain w ≡ true)
 
-stands_first : (w : List ℕ) → IsField w → is_blank (get_or w 0 0) ≡ false
+pub stands_first : (w : List ℕ) → IsField w → is_blank (get_or w 0 0) ≡ false
 stands_first [] f = absurd (omega (arith, f.0))
 stands_first (x ∷ xs) f = elim (cases_Bool (is_plain x)) [
   | inl passes ↦ (let un = unblank_of x passes in elim (cases_Bool (is_blank x)) [
@@ -116,7 +116,7 @@ stands_first (x ∷ xs) f = elim (cases_Bool (is_plain x)) [
 ]
 
 -- a field alone, and one before others
-field_alone : (w : List ℕ) → IsField w → texts (runs w) ≡ w ∷ []
+pub field_alone : (w : List ℕ) → IsField w → texts (runs w) ≡ w ∷ []
 field_alone w f =
     let whole = past is_blank w [] (all_weaker is_plain (λ b. not (is_blank b)) unblank_of w f.1) in
     let at : position_or_len is_blank w ≡ length w = rw append-nil at whole ∙ omega arith in
@@ -124,45 +124,49 @@ field_alone w f =
     let none : length (drop (length w) w) ≡ 0 = omega (arith, left) in
     texts-take w (length w) f.0 (stands_first w f) (sym at) ∙ rw (take-length w, texts-none (drop (length w) w) none) refl
 
-one_blank : (r : ℕ) (rest : List ℕ) → is_blank r ≡ false → 1 ≡ position_or_len (λ b. not (is_blank b)) (0o40 ∷ r ∷ rest)
+pub one_blank : (r : ℕ) (rest : List ℕ) → is_blank r ≡ false → 1 ≡ position_or_len (λ b. not (is_blank b)) (0o40 ∷ r ∷ rest)
 one_blank r rest stands = rw stands refl
 
-after_blank : (rest : List ℕ) → 0 < length rest → is_blank (get_or rest 0 0) ≡ false → texts (runs (0o40 ∷ rest)) ≡ texts (runs rest)
+pub after_blank : (rest : List ℕ) → 0 < length rest → is_blank (get_or rest 0 0) ≡ false → texts (runs (0o40 ∷ rest)) ≡ texts (runs rest)
 after_blank [] some first = absurd (omega (arith, some))
 after_blank (r ∷ rest) some first = texts-skip (0o40 ∷ r ∷ rest) 1 (one_blank r rest first)
 
-field_more : (w rest : List ℕ) → IsField w → 0 < length rest → is_blank (get_or rest 0 0) ≡ false
-    → texts (runs (w ++ 0o40 ∷ rest)) ≡ w ∷ texts (runs rest)
-field_more w rest f some first =
+-- a field, a blank, and what comes after it
+pub field_then : (w rest : List ℕ) → IsField w → texts (runs (w ++ 0o40 ∷ rest)) ≡ w ∷ texts (runs (0o40 ∷ rest))
+field_then w rest f =
     let at : position_or_len is_blank (w ++ 0o40 ∷ rest)
     ≡ length w = past is_blank w (0o40 ∷ rest) (all_weaker is_plain (λ b. not (is_blank b)) unblank_of w f.1) ∙ omega arith in
     let long = length-append w (0o40 ∷ rest) in
     let head : is_blank (get_or (w ++ 0o40 ∷ rest) 0 0) ≡ false = rw (get_or_append_left w (0o40 ∷ rest) 0 0 f.0) (stands_first w f) in
     texts-take (w ++ 0o40 ∷ rest) (length w) (omega (arith, long, f.0)) head (sym at)
-    ∙ rw (take-append_seam w (0o40 ∷ rest), drop-append_seam w (0o40 ∷ rest)) (ap (λ ts. w ∷ ts) (after_blank rest some first))
+    ∙ rw (take-append_seam w (0o40 ∷ rest), drop-append_seam w (0o40 ∷ rest)) refl
+
+field_more : (w rest : List ℕ) → IsField w → 0 < length rest → is_blank (get_or rest 0 0) ≡ false
+    → texts (runs (w ++ 0o40 ∷ rest)) ≡ w ∷ texts (runs rest)
+field_more w rest f some first = field_then w rest f ∙ ap (λ ts. w ∷ ts) (after_blank rest some first)
 
 -- fields, each a blank after the one before
-abbrev joined : List ℕ → List (List ℕ) → List ℕ
+abbrev pub joined : List ℕ → List (List ℕ) → List ℕ
 joined w [] = w
 joined w (next ∷ more) = w ++ 0o40 ∷ joined next more
 
-abbrev AreFields : List (List ℕ) → Type 0
+abbrev pub AreFields : List (List ℕ) → Type 0
 AreFields [] = Unit {0}
 AreFields (w ∷ ws) = IsField w × AreFields ws
 
-joined_stands : (w : List ℕ) (ws : List (List ℕ)) → IsField w → (0 < length (joined w ws)) × (is_blank (get_or (joined w ws) 0 0) ≡ false)
+pub joined_stands : (w : List ℕ) (ws : List (List ℕ)) → IsField w → (0 < length (joined w ws)) × (is_blank (get_or (joined w ws) 0 0) ≡ false)
 joined_stands w [] f = (f.0, stands_first w f)
 joined_stands w (next ∷ more) f =
     let long = length-append w (0o40 ∷ joined next more) in
     (omega (arith, long, f.0), rw (get_or_append_left w (0o40 ∷ joined next more) 0 0 f.0) (stands_first w f))
 
-fields_joined : (w : List ℕ) (ws : List (List ℕ)) → IsField w → AreFields ws → texts (runs (joined w ws)) ≡ w ∷ ws
+pub fields_joined : (w : List ℕ) (ws : List (List ℕ)) → IsField w → AreFields ws → texts (runs (joined w ws)) ≡ w ∷ ws
 fields_joined w [] f fs = field_alone w f
 fields_joined w (next ∷ more) f fs =
     let j = joined_stands next more fs.0 in
     field_more w (joined next more) f j.0 j.1 ∙ ap (λ ts. w ∷ ts) (fields_joined next more fs.0 fs.1)
 
-joined_open : (w : List ℕ) (ws : List (List ℕ)) → IsField w → AreFields ws → list_all is_open (joined w ws) ≡ true
+pub joined_open : (w : List ℕ) (ws : List (List ℕ)) → IsField w → AreFields ws → list_all is_open (joined w ws) ≡ true
 joined_open w [] f fs = all_weaker is_plain is_open open_of w f.1
 joined_open w (next ∷ more) f fs = all_append is_open w (0o40 ∷ joined next more) (all_weaker is_plain is_open open_of w f.1)
     (joined_open next more fs.0 fs.1)
@@ -182,15 +186,15 @@ says_joined w ws f fs short =
 plain_digit : (d : ℕ) → d < 10 → is_plain (48 + d) ≡ true
 plain_digit d lt = grind (arith, nat_tests)
 
-is_decimal : (d : ℕ) → d < 10 → is_digit 10 (48 + d) ≡ true
+pub is_decimal : (d : ℕ) → d < 10 → is_digit 10 (48 + d) ≡ true
 is_decimal d lt = grind (arith, nat_tests)
 
-decimal_all : (p : ℕ → Bool) → ((d : ℕ) → d < 10 → p (48 + d) ≡ true) → (n : ℕ) → n < 2 ^ 64 → list_all p (decimal n) ≡ true
+pub decimal_all : (p : ℕ → Bool) → ((d : ℕ) → d < 10 → p (48 + d) ≡ true) → (n : ℕ) → n < 2 ^ 64 → list_all p (decimal n) ≡ true
 decimal_all p each n small = decimal_by_steps (λ m ds. list_all p ds ≡ true) (λ m lt. rw (each m lt) refl)
     (λ m ds le so_far. (let low : m % 10 < 10 = omega arith in all_append p ds ((48 + m % 10) ∷ []) so_far (rw (each (m % 10) low) refl))) n
     small
 
-decimal_number : (n : ℕ) → n < 2 ^ 64 → number_from_digits 10 (map digit_value (decimal n)) ≡ n
+pub decimal_number : (n : ℕ) → n < 2 ^ 64 → number_from_digits 10 (map digit_value (decimal n)) ≡ n
 decimal_number n small = decimal_by_steps (λ m ds. number_from_digits 10 (map digit_value ds) ≡ m) one more n small
   where
     one : (m : ℕ) → m < 10 → number_from_digits 10 (map digit_value ((48 + m) ∷ [])) ≡ m
@@ -204,37 +208,37 @@ decimal_number n small = decimal_by_steps (λ m ds. number_from_digits 10 (map d
         ∙ number_push 10 (map digit_value ds) (digit_value (48 + m % 10))
         ∙ rw (so_far, digit) (omega arith)
 
-decimal_long : (n : ℕ) → n < 2 ^ 64 → 1 ≤ length (decimal n)
+pub decimal_long : (n : ℕ) → n < 2 ^ 64 → 1 ≤ length (decimal n)
 decimal_long n small = decimal_by_steps (λ m ds. 1 ≤ length ds) (λ m lt. omega arith)
     (λ m ds le so_far. omega (arith, length-append ds ((48 + m % 10) ∷ []))) n small
 
-decimal_field : (n : ℕ) → n < 2 ^ 64 → IsField (decimal n)
+pub decimal_field : (n : ℕ) → n < 2 ^ 64 → IsField (decimal n)
 decimal_field n small = (decimal_long n small, decimal_all is_plain plain_digit n small)
 
-decimal_value : (n most : ℕ) → n < 2 ^ 64 → length (decimal n) ≤ most → number_of 10 most (decimal n) ≡ Some n
+pub decimal_value : (n most : ℕ) → n < 2 ^ 64 → length (decimal n) ≤ most → number_of 10 most (decimal n) ≡ Some n
 decimal_value n most small few =
     let within : nat_le (length (decimal n)) most ≡ true = grind (arith, nat_tests, few) in
     let long = decimal_long n small in
     let some : nat_le 1 (length (decimal n)) ≡ true = grind (arith, nat_tests, long) in
     rw (within, some, decimal_all (is_digit 10) is_decimal n small, decimal_number n small) refl
 
-is_octal : (d : ℕ) → d < 8 → is_digit 8 (48 + d) ≡ true
+pub is_octal : (d : ℕ) → d < 8 → is_digit 8 (48 + d) ≡ true
 is_octal d lt = grind (arith, nat_tests)
 
 octal_plain : (d : ℕ) → d < 8 → is_plain (48 + d) ≡ true
 octal_plain d lt = plain_digit d (omega (arith, lt))
 
-octal_field : (k n : ℕ) → 1 ≤ k → IsField (octal_text k n)
+pub octal_field : (k n : ℕ) → 1 ≤ k → IsField (octal_text k n)
 octal_field k n some = (omega (arith, length-octal_text k n, some), octal_all is_plain octal_plain k n)
 
-octal_value : (k n : ℕ) → 1 ≤ k → k ≤ 5 → n < 8 ^ k → number_of 8 5 (octal_text k n) ≡ Some n
+pub octal_value : (k n : ℕ) → 1 ≤ k → k ≤ 5 → n < 8 ^ k → number_of 8 5 (octal_text k n) ≡ Some n
 octal_value k n some few lt =
     let within : nat_le (length (octal_text k n)) 5 ≡ true = rw length-octal_text (grind (arith, nat_tests)) in
     let long : nat_le 1 (length (octal_text k n)) ≡ true = rw length-octal_text (grind (arith, nat_tests)) in
     rw (within, long, octal_all (is_digit 8) is_octal k n, octal_number k n lt) refl
 
 -- ## Names
-counter_field : (c : Counter) → IsField (row_of c).name
+pub counter_field : (c : Counter) → IsField (row_of c).name
 counter_field Time1 = (omega arith, refl)
 counter_field Time2 = (omega arith, refl)
 counter_field Time3 = (omega arith, refl)
@@ -252,7 +256,7 @@ counter_field PipaZ = (omega arith, refl)
 counter_field Inlink = (omega arith, refl)
 
 -- a counter's name is short, names this counter, and is not that of what is no counter
-counter_back : (c : Counter) → (length (row_of c).name ≤ 6) × (value_in counters (row_of c).name ≡ Some c)
+pub counter_back : (c : Counter) → (length (row_of c).name ≤ 6) × (value_in counters (row_of c).name ≡ Some c)
     × (same_name (row_of c).name (codes "RUPT") ≡ false)
 unfolding counters
 counter_back Time1 = (omega arith, refl, refl)
@@ -292,17 +296,17 @@ sequence_back Shanc = (omega arith, refl)
 
 -- ## Inputs
 -- the fields that tell an input
-abbrev input_fields : Input → List (List ℕ)
+abbrev pub input_fields : Input → List (List ℕ)
 input_fields (Count c s) = (row_of c).name ∷ sequence_name s ∷ []
 input_fields (Word n w) = codes "CHAN" ∷ octal_text 3 n ∷ octal_text 5 w ∷ []
 input_fields (Interrupt k) = codes "RUPT" ∷ decimal k ∷ []
 
-are_fields : (i : Input) → CanBeGiven i → AreFields (input_fields i)
+pub are_fields : (i : Input) → CanBeGiven i → AreFields (input_fields i)
 are_fields (Count c s) given = (counter_field c, (sequence_field s, tt))
 are_fields (Word n w) given = ((omega arith, refl), (octal_field 3 n (omega arith), (octal_field 5 w (omega arith), tt)))
 are_fields (Interrupt k) given = ((omega arith, refl), (decimal_field k (omega (arith, given.1)), tt))
 
-told_as : (i : Input) → CanBeGiven i → input_in (input_fields i) ≡ Ok i
+pub told_as : (i : Input) → CanBeGiven i → input_in (input_fields i) ≡ Ok i
 told_as (Count c s) given = let c_back = counter_back c in let s_back = sequence_back s in rw (c_back.2, c_back.1, s_back.1, given) refl
 told_as (Word n w) given =
     let few : nat_le w 0o77777 ≡ true = (let lt = given.1 in grind (arith, nat_tests, lt)) in
@@ -317,10 +321,10 @@ told_as (Interrupt k) given =
 abbrev text_of_input : Entry → List ℕ
 text_of_input e = decimal e.cycle ++ codes " " ++ input_text e.input
 
-blank_between : (a b : List ℕ) → a ++ codes " " ++ b ≡ a ++ 0o40 ∷ b
+pub blank_between : (a b : List ℕ) → a ++ codes " " ++ b ≡ a ++ 0o40 ∷ b
 blank_between a b = append_assoc a (codes " ") b
 
-is_joined : (cycle : ℕ) (i : Input) → decimal cycle ++ codes " " ++ input_text i ≡ joined (decimal cycle) (input_fields i)
+pub is_joined : (cycle : ℕ) (i : Input) → decimal cycle ++ codes " " ++ input_text i ≡ joined (decimal cycle) (input_fields i)
 is_joined cycle (Count c s) = blank_between (decimal cycle) (input_text (Count c s))
     ∙ ap (λ t. decimal cycle ++ 0o40 ∷ t) (blank_between (row_of c).name (sequence_name s))
 is_joined cycle (Word n w) =
@@ -328,7 +332,7 @@ is_joined cycle (Word n w) =
     ∙ ap (λ t. decimal cycle ++ 0o40 ∷ t) (blank_between (codes "CHAN " ++ octal_text 3 n) (octal_text 5 w))
 is_joined cycle (Interrupt k) = blank_between (decimal cycle) (input_text (Interrupt k))
 
-short_input_text : (i : Input) → CanBeGiven i → length (input_text i) ≤ 30
+pub short_input_text : (i : Input) → CanBeGiven i → length (input_text i) ≤ 30
 short_input_text (Count c s) given =
     let c_back = counter_back c in
     let s_back = sequence_back s in
@@ -349,7 +353,7 @@ short_input_text (Interrupt k) given =
     let short : length (decimal k) ≤ 2 = length-decimal-le 2 k (omega arith) (omega (arith, given.1)) (omega (arith, given.1)) in
     omega (arith, length-append (codes "RUPT ") (decimal k), short)
 
-no_every : (w : List ℕ) → list_all (is_digit 10) w ≡ true → same_name w (codes "EVERY") ≡ false
+pub no_every : (w : List ℕ) → list_all (is_digit 10) w ≡ true → same_name w (codes "EVERY") ≡ false
 no_every [] all = refl
 no_every (x ∷ xs) all = elim (cases_Bool (is_digit 10 x)) [
   | inl passes ↦ (let other : eqb x 69 ≡ false = grind (arith, nat_tests, passes) in rw other refl)

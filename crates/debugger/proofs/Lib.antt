@@ -22,6 +22,7 @@ pub mod Looking
 pub mod NewSteps
 pub mod Tellings
 pub mod Stepping
+pub mod Hushed
 mod ListedHistories
 mod Scripts
 mod FiveRows

@@ -119,30 +119,18 @@ answered-more {s} {done} {at} {old} {new} to new' line t h e = record {
   granted = λ m. granted-append t.answers e.answers (t.granted m) (e.granted m);
   text = t.text ++ e.text;
   goes_on = λ rest later more.
-      ap (λ (a : List Bool). conversation (terms_of s.symbols s.source s.scenario) s.read
-      (first_desk s.scenario a ((t.additions ++ e.additions) ++ later)) ((done ++ line ∷ []) ++ more))
-      (append_assoc t.answers e.answers rest)
-      ∙ ap (λ (a : List (Option ℕ)). conversation (terms_of s.symbols s.source s.scenario) s.read
-      (first_desk s.scenario (t.answers ++ (e.answers ++ rest)) a) ((done ++ line ∷ []) ++ more))
-      (append_assoc t.additions e.additions later)
-      ∙ ap (conversation (terms_of s.symbols s.source s.scenario) s.read
-      (first_desk s.scenario (t.answers ++ (e.answers ++ rest)) (t.additions ++ (e.additions ++ later))))
-      (append_assoc done (line ∷ []) more)
+      (λ i. conversation (terms_of s.symbols s.source s.scenario) s.read
+      (first_desk s.scenario (append_assoc t.answers e.answers rest i) (append_assoc t.additions e.additions later i))
+      (append_assoc done (line ∷ []) more i))
       ∙ t.goes_on (e.answers ++ rest) (e.additions ++ later) (line ∷ more)
       ∙ ap (λ (x : List ℕ). t.text ++ x) (replies-more (terms_of s.symbols s.source s.scenario) s.read
       (awaiting at (e.answers ++ rest) (e.additions ++ later)) line more h
       ∙ ap (λ (r : Reply). r.text ++ conversation (terms_of s.symbols s.source s.scenario) s.read r.desk more) (e.brings rest later))
       ∙ sym (append_assoc t.text e.text (conversation (terms_of s.symbols s.source s.scenario) s.read (awaiting to rest later) more));
   leads_on = λ rest later more.
-      ap (λ (a : List Bool). last_desk (terms_of s.symbols s.source s.scenario) s.read
-      (first_desk s.scenario a ((t.additions ++ e.additions) ++ later)) ((done ++ line ∷ []) ++ more))
-      (append_assoc t.answers e.answers rest)
-      ∙ ap (λ (a : List (Option ℕ)). last_desk (terms_of s.symbols s.source s.scenario) s.read
-      (first_desk s.scenario (t.answers ++ (e.answers ++ rest)) a) ((done ++ line ∷ []) ++ more))
-      (append_assoc t.additions e.additions later)
-      ∙ ap (last_desk (terms_of s.symbols s.source s.scenario) s.read
-      (first_desk s.scenario (t.answers ++ (e.answers ++ rest)) (t.additions ++ (e.additions ++ later))))
-      (append_assoc done (line ∷ []) more)
+      (λ i. last_desk (terms_of s.symbols s.source s.scenario) s.read
+      (first_desk s.scenario (append_assoc t.answers e.answers rest i) (append_assoc t.additions e.additions later i))
+      (append_assoc done (line ∷ []) more i))
       ∙ t.leads_on (e.answers ++ rest) (e.additions ++ later) (line ∷ more)
       ∙ leads-more (terms_of s.symbols s.source s.scenario) s.read (awaiting at (e.answers ++ rest) (e.additions ++ later)) line more h
       ∙ ap (λ (r : Reply). last_desk (terms_of s.symbols s.source s.scenario) s.read r.desk more) (e.brings rest later);
@@ -152,15 +140,7 @@ answered-more {s} {done} {at} {old} {new} to new' line t h e = record {
 -- and nothing more was written
 pub answered-kept : {s : Talk} {done : List (List ℕ)} {at : Desk} {old new : List ℕ} (new' : List ℕ) → Answered s done at old new
     → new' ≡ new → Answered s done at old new'
-answered-kept new' t e = record {
-  answers = t.answers;
-  additions = t.additions;
-  granted = t.granted;
-  text = t.text;
-  goes_on = t.goes_on;
-  leads_on = t.leads_on;
-  written = e ∙ t.written;
-}
+answered-kept new' t e = rw e t
 
 -- the replies to lines were written, and the session stands where they lead to
 abbrev pub WritesTo : Talk → List (List ℕ) → List ℕ → List ℕ → SessionView → Type 0

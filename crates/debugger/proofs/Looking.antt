@@ -48,22 +48,22 @@ pub is_later : (t n : ℕ) → (t ≤ n → ⊥) → ltb n t ≡ true
 is_later t n h = grind (arith, nat_tests)
 
 -- a reply that leaves a session with only another shown machine and another meter
-pub brings_text : (m : Manner) (s t : SessionView) (p q : ℕ) (bs cs : List Breakpoint) (request : ParsedLine) (text : List ℕ)
+pub brings_text : (m : Manner) (s t : SessionView) (p q : ℕ) (bs cs : List Breakpoint) (quiet : Bool) (request : ParsedLine) (text : List ℕ)
     → t ≡ record s { shown = t.shown; meter = t.meter }
     → ((answers : List Bool) (additions : List (Option ℕ))
-    → answered m (desk s p bs) request answers additions ≡ says text (awaiting (desk s q cs) answers additions))
-    → BringsIn m (desk s p bs) request text (desk t q cs)
-brings_text m s t p q bs cs request text same brings answers additions =
-    brings answers additions ∙ sym (ap (λ (v : SessionView). says text (awaiting (desk v q cs) answers additions)) same)
+    → answered m (desk s p bs quiet) request answers additions ≡ says text (awaiting (desk s q cs quiet) answers additions))
+    → BringsIn m (desk s p bs quiet) request text (desk t q cs quiet)
+brings_text m s t p q bs cs quiet request text same brings answers additions =
+    brings answers additions ∙ sym (ap (λ (v : SessionView). says text (awaiting (desk v q cs quiet) answers additions)) same)
 
 -- the same of what an extended session is asked for
-pub asked_text : (s t : SessionView) (p q : ℕ) (bs cs : List Breakpoint) (request : ExtendedLine) (text : List ℕ)
+pub asked_text : (s t : SessionView) (p q : ℕ) (bs cs : List Breakpoint) (quiet : Bool) (request : ExtendedLine) (text : List ℕ)
     → t ≡ record s { shown = t.shown; meter = t.meter }
     → ((terms : Terms) (answers : List Bool) (additions : List (Option ℕ))
-    → to_asked terms request (awaiting (desk s p bs) answers additions) ≡ says text (awaiting (desk s q cs) answers additions))
-    → BringsAsked (desk s p bs) request text (desk t q cs)
-asked_text s t p q bs cs request text same brings terms answers additions =
-    brings terms answers additions ∙ sym (ap (λ (v : SessionView). says text (awaiting (desk v q cs) answers additions)) same)
+    → to_asked terms request (awaiting (desk s p bs quiet) answers additions) ≡ says text (awaiting (desk s q cs quiet) answers additions))
+    → BringsAsked (desk s p bs quiet) request text (desk t q cs quiet)
+asked_text s t p q bs cs quiet request text same brings terms answers additions =
+    brings terms answers additions ∙ sym (ap (λ (v : SessionView). says text (awaiting (desk v q cs quiet) answers additions)) same)
 
 -- the places that read differently in two states
 places_are : (rope : Words) (one other : State) → places_changed (sight rope one) (sight rope other) ≡ changed_places one.cells other.cells
@@ -75,15 +75,15 @@ since : (h : History) (d : Desk) (t : ℕ) → t ≤ d.steps
 since h d t past = rw (not_later t d.steps past) refl
 
 -- what changed after a step that was made
-pub changed_since : (s : SessionView) (p t : ℕ) (bs : List Breakpoint) (shown present : State) (old new : Cells) (text : List ℕ) → t ≤ s.n
+pub changed_since : (s : SessionView) (p t : ℕ) (bs : List Breakpoint) (quiet : Bool) (shown present : State) (old new : Cells) (text : List ℕ) → t ≤ s.n
     → shown ≡ run s.scenario t → present ≡ run s.scenario s.n
     → old ≡ shown.cells → new ≡ present.cells → text ≡ changed_text (changed_places old new)
     → (answers : List Bool) (additions : List (Option ℕ))
-    → changes_since (history s.scenario) (awaiting (desk s p bs) answers additions) t
-    ≡ says text (awaiting (desk s p bs) answers additions)
+    → changes_since (history s.scenario) (awaiting (desk s p bs quiet) answers additions) t
+    ≡ says text (awaiting (desk s p bs quiet) answers additions)
 unfolding history
-changed_since s p t bs shown present old new text past is_shown is_present is_old is_new e answers additions =
-    let d = awaiting (desk s p bs) answers additions in
+changed_since s p t bs quiet shown present old new text past is_shown is_present is_old is_new e answers additions =
+    let d = awaiting (desk s p bs quiet) answers additions in
     let one : old ≡ (run s.scenario t).cells = is_old ∙ ap (λ (m : State). m.cells) is_shown in
     let other : new ≡ (run s.scenario s.n).cells = is_new ∙ ap (λ (m : State). m.cells) is_present in
     let places : changed_places old new ≡ places_changed (sight s.scenario.rope (run s.scenario t))

@@ -1,6 +1,6 @@
 -- New steps, one after another, whatever answers are still to come.
 use Rattle.std.proofs.Common.{◌≡◌, ◌≢◌, ℕ, suc, ◌+◌, ◌-◌, ◌==◌, Bool, true, false, List, [], ◌∷◌, ◌++◌, length, drop, Option, Some, None}
-use Rattle.std.proofs.Common.{MatchOption, ap, refl, sym, ◌∙◌, arith, append_assoc, append-nil, length-append, length-drop}
+use Rattle.std.proofs.Common.{MatchOption, min, ap, refl, sym, ◌∙◌, arith, append_assoc, append-nil, length-append, length-drop}
 use Rattle.std.specs.Option.{option_to_list}
 use Rattle.std.proofs.Math.Seq.{drop-drop}
 use Rattle.std.proofs.lemmas.List.{drop-append-le}
@@ -16,6 +16,7 @@ use Rattle.commands.specs.declared.command.Breakpoint.{Breakpoint}
 use Rattle.debugger.specs.History.{History}
 use Rattle.debugger.specs.Growth.{Growth, grow, grown, with_line, output_line, unless_hit, hit_at}
 use Rattle.debugger.specs.Replies.{last_of, tail_length}
+use Rattle.debugger.specs.Tallies.{Tally, most_counted, tally_of, with_output}
 use Rattle.debugger.specs.Sessions.{AllGranted}
 use Rattle.debugger.specs.Executions.{Grown, GrowthBroken}
 use Rattle.debugger.specs.declared.ending.Ending.TheVariants.{Reached, Hit, NoMemory, Limit}
@@ -96,7 +97,7 @@ module _ {may_refuse : Bool} {h : History} {breakpoints : List Breakpoint} {more
 
   -- all steps are made
   pub grown-reached : {left now : ℕ} {new : List ℕ} → Growing may_refuse h breakpoints more n old left now new → left ≡ 0
-      → Grown may_refuse h breakpoints more n Reached now old new
+      → Grown may_refuse false h breakpoints more n Reached now old new
   unfolding grow
   grown-reached {left} {now} {new} g e =
       let at : Growing may_refuse h breakpoints more n old 0 now new = rw e at g in
@@ -111,7 +112,7 @@ module _ {may_refuse : Bool} {h : History} {breakpoints : List Breakpoint} {more
 
   -- the limit is reached
   pub grown-limit : {left now : ℕ} {new : List ℕ} (left' : ℕ) → Growing may_refuse h breakpoints more n old left now new → left ≡ suc left'
-      → now ≡ step_limit → Grown may_refuse h breakpoints more n Limit now old new
+      → now ≡ step_limit → Grown may_refuse false h breakpoints more n Limit now old new
   grown-limit {left} {now} {new} left' g e there =
       let at : Growing may_refuse h breakpoints more n old (suc left') now new = rw e at g in
       record {
@@ -125,7 +126,7 @@ module _ {may_refuse : Bool} {h : History} {breakpoints : List Breakpoint} {more
 
   -- memory runs out
   pub grown-refused : {left now : ℕ} {new : List ℕ} (left' : ℕ) → Growing may_refuse h breakpoints more n old left now new
-      → left ≡ suc left' → now ≢ step_limit → (may_refuse ≡ false → ⊥) → Grown may_refuse h breakpoints more n NoMemory now old new
+      → left ≡ suc left' → now ≢ step_limit → (may_refuse ≡ false → ⊥) → Grown may_refuse false h breakpoints more n NoMemory now old new
   grown-refused {left} {now} {new} left' g e below may =
       let at : Growing may_refuse h breakpoints more n old (suc left') now new = rw e at g in
       record {
@@ -142,7 +143,7 @@ module _ {may_refuse : Bool} {h : History} {breakpoints : List Breakpoint} {more
   pub grown-hit : {left now : ℕ} {new : List ℕ} (left' now' i : ℕ) (new' : List ℕ)
       → Growing may_refuse h breakpoints more n old left now new → left ≡ suc left' → now' ≡ now + 1 → now ≢ step_limit
       → hit_at h breakpoints (now + 1) ≡ Some i → new' ≡ new ++ output_line (h.output (now + 1))
-      → Grown may_refuse h breakpoints more n (Hit i) now' old new'
+      → Grown may_refuse false h breakpoints more n (Hit i) now' old new'
   grown-hit {left} {now} {new} left' now' i new' g e f below hit w =
       let at : Growing may_refuse h breakpoints more n old (suc left') now new = rw e at g in
       let line = output_line (h.output (now + 1)) in
@@ -158,7 +159,7 @@ module _ {may_refuse : Bool} {h : History} {breakpoints : List Breakpoint} {more
   -- a line could not be written whole
   pub growth-broken : {left now : ℕ} {new : List ℕ} (left' : ℕ) (new' : List ℕ) → Growing may_refuse h breakpoints more n old left now new
       → left ≡ suc left' → now ≢ step_limit
-      → WritesBeginning new new' (output_line (h.output (now + 1))) → GrowthBroken may_refuse h breakpoints more n old new'
+      → WritesBeginning new new' (output_line (h.output (now + 1))) → GrowthBroken may_refuse false h breakpoints more n old new'
   growth-broken {left} {now} {new} left' new' g e below w =
       let at : Growing may_refuse h breakpoints more n old (suc left') now new = rw e at g in
       let line = output_line (h.output (now + 1)) in
@@ -185,13 +186,20 @@ last_of-more k xs x =
     ap (λ (n : ℕ). drop (n - k) (drop d xs ++ x ∷ [])) li ∙ ap (drop (length xs - d + 1 - k)) inner ∙ drop-drop (length xs - d + 1 - k) d zs
     ∙ ap (λ (n : ℕ). drop n zs) (let e : d + (length xs - d + 1 - k) ≡ length zs - k = omega arith in e)
 
--- the last outputs after one step more
-pub tail-more : (scenario : Scenario) (n : ℕ) (o : Option Output) (old new : List Output) → old ≡ last_of tail_length (outs scenario n)
+-- what is kept of some outputs and one more
+tally-more : (outputs : List Output) (o : Output) → with_output (tally_of outputs) o ≡ tally_of (outputs ++ o ∷ [])
+tally-more outputs o =
+    let counts : min (min (length outputs) most_counted + 1) most_counted ≡ min (length (outputs ++ o ∷ [])) most_counted =
+    (let more = length-append outputs (o ∷ []) in omega (arith, more)) in
+    λ i. record { last = last_of-more tail_length outputs o i; count = counts i }
+
+-- the same after one step more
+pub tail-more : (scenario : Scenario) (n : ℕ) (o : Option Output) (old new : Tally) → old ≡ tally_of (outs scenario n)
     → o ≡ out scenario (n + 1)
-    → MatchOption o (new ≡ old) (λ x. new ≡ last_of tail_length (old ++ x ∷ [])) → new ≡ last_of tail_length (outs scenario (n + 1))
+    → MatchOption o (new ≡ old) (λ x. new ≡ with_output old x) → new ≡ tally_of (outs scenario (n + 1))
 tail-more scenario n None old new r e m = m ∙ r
-    ∙ ap (last_of tail_length) (sym (append-nil (outs scenario n)) ∙ ap (λ (o : Option Output). outs scenario n ++ option_to_list o) e
+    ∙ ap tally_of (sym (append-nil (outs scenario n)) ∙ ap (λ (o : Option Output). outs scenario n ++ option_to_list o) e
     ∙ sym (outs-add-one scenario n))
 tail-more scenario n (Some x) old new r e m =
-    m ∙ ap (λ (xs : List Output). last_of tail_length (xs ++ x ∷ [])) r ∙ last_of-more tail_length (outs scenario n) x
-    ∙ ap (last_of tail_length) (ap (λ (o : Option Output). outs scenario n ++ option_to_list o) e ∙ sym (outs-add-one scenario n))
+    m ∙ ap (λ (t : Tally). with_output t x) r ∙ tally-more (outs scenario n) x
+    ∙ ap tally_of (ap (λ (o : Option Output). outs scenario n ++ option_to_list o) e ∙ sym (outs-add-one scenario n))

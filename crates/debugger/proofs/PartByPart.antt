@@ -1,8 +1,8 @@
 -- Texts that are written part by part.
-use Rattle.std.proofs.Common.{◌≡◌, ℕ, List, [], ◌++◌, Result, Ok, Err, refl, sym, ap, ◌∙◌, append_assoc, append-nil}
+use Rattle.std.proofs.Common.{◌≡◌, ℕ, List, [], ◌++◌, Result, refl, sym, ap, ◌∙◌, append_assoc, append-nil}
 use Rattle.words.specs.Devices.{Writes, WritesBeginning}
 use Rattle.words.specs.declared.device.WriteFailed.{WriteFailed}
-use Rattle.words.proofs.Texts.{append-then, beginning-after, beginning-longer}
+use Rattle.words.proofs.Texts.{Writes-after, append-then, beginning-after, beginning-longer}
 use Rattle.debugger.specs.LeftToWrite.{LeftToWrite}
 
 pub left_all : (whole old : List ℕ) → LeftToWrite whole old old whole
@@ -20,9 +20,7 @@ left_less whole old now new part rest left l is w = record {
 -- the last part
 pub left_none : (whole old now new part left : List ℕ) (result : Result (Unit {0}) WriteFailed) → LeftToWrite whole old now left
     → left ≡ part → Writes now new part result → Writes old new whole result
-left_none whole old now new part left (Ok x) l is w = append-then old now new l.text part l.written w
-    ∙ ap (λ (y : List ℕ). old ++ y) (sym (l.split ∙ ap (λ (y : List ℕ). l.text ++ y) is))
-left_none whole old now new part left (Err failed) l is w = rw (l.split, is) (beginning-after old now new l.text part l.written w)
+left_none whole old now new part left result l is w = rw (l.split, is) (Writes-after old now new l.text part result l.written w)
 
 -- a part that could not be written whole
 pub left_broken : (whole old now new part rest left : List ℕ) → LeftToWrite whole old now left → left ≡ part ++ rest

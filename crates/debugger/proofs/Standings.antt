@@ -2,7 +2,7 @@
 use Rattle.std.proofs.Common.{◌≡◌, ℕ, zero, suc, ◌+◌, ◌-◌, ◌<◌, ◌≤◌, List, [], ◌∷◌, ◌++◌, length, drop, Option, None, Some, true, false}
 use Rattle.std.proofs.Common.{refl, ap, arith, ◌∙◌, sym, append_assoc}
 use Rattle.std.specs.Prelude.{codes, decimal, slice_get}
-use Rattle.std.specs.Option.{option_map, option_map_or, option_or}
+use Rattle.std.specs.Option.{option_map_or}
 use Rattle.std.proofs.lemmas.List.{drop_more, drop_all}
 use Rattle.std.proofs.lemmas.Option.{slice_get_within, get_or_from_slice_get}
 use Rattle.space.specs.declared.place.Linear.{Linear}
@@ -13,31 +13,12 @@ use Rattle.words.specs.Devices.{WritesBeginning}
 use Rattle.words.proofs.Texts.{beginning-longer}
 use Rattle.yayul.specs.PlaceRows.{ListedLine, line_of, place_row, row_after}
 use Rattle.yayul.specs.Program.{Source}
-use Rattle.trace.specs.TraceLines.{symbol_at}
 use Rattle.cpu.specs.State.{State, Scenario}
 use Rattle.debugger.specs.declared.rows.RowKind.{RowKind}
 use Rattle.debugger.specs.History.{Sight, History, history, sight}
 use Rattle.debugger.specs.Rows.{list_row, plain_row, row_text}
 use Rattle.debugger.specs.Replies.{line, memory_word}
 use Rattle.debugger.specs.Standing.{begins_with, found_line, found_from, place_after, word_there, words_from}
-use Rattle.names.specs.NamedLines.{place_before, nearest}
-
--- one place further before
-nearest_more : (symbols : SymbolTable) (place : Linear) (d more : ℕ) → 0 < more
-    → nearest symbols place d more ≡ option_or (option_map (λ name. (name, d)) (symbol_at symbols (place_before place d)))
-    (nearest symbols place (d + 1) (more - 1))
-nearest_more symbols place d zero h = absurd (omega (arith, h))
-nearest_more symbols place d (suc more) h = let e : suc more - 1 ≡ more = omega arith in rw e refl
-
--- no symbol stands so many places before
-pub nearest_passed : (symbols : SymbolTable) (place : Linear) (d n : ℕ) (whole : Option (List ℕ × ℕ)) → d < n
-    → nearest symbols place d (n - d) ≡ whole
-    → None ≡ symbol_at symbols (place_before place d) → nearest symbols place (d + 1) (n - (d + 1)) ≡ whole
-nearest_passed symbols place d n whole below so_far none =
-    let less : n - (d + 1) ≡ n - d - 1 = omega arith in
-    let one : nearest symbols place d (n - d) ≡ nearest symbols place (d + 1) (n - d - 1) = nearest_more symbols place d (n - d)
-    (omega (arith, below)) ∙ rw (← none) refl in
-    rw less (sym one ∙ so_far)
 
 -- the symbols from one on
 dropped : (symbols : SymbolTable) (i : ℕ) (symbol : List ℕ × Value) → Some symbol ≡ slice_get symbols i

@@ -37,9 +37,9 @@ replies_trying may_refuse reply from to addition old new text bytes (Err failed)
     record { answers = []; additions = addition ∷ []; granted = λ _. tt; part = rw (ap (λ (r : Reply). r.text) (brings [] []), ← e) w }
 
 -- a session that has shown a step stands where it stood
-pub still_there : (old new : SessionView) (t position : ℕ) (breakpoints : List Breakpoint) → HasShown old t new
-    → desk new position breakpoints ≡ desk old position breakpoints
-still_there old new t position breakpoints shown = rw shown.same refl
+pub still_there : (old new : SessionView) (t position : ℕ) (breakpoints : List Breakpoint) (quiet : Bool) → HasShown old t new
+    → desk new position breakpoints quiet ≡ desk old position breakpoints quiet
+still_there old new t position breakpoints quiet shown = rw shown.same refl
 
 pub not_yet : (may_refuse : Bool) (d : Desk) (program : Program) (trial : Trial) (k first more : ℕ) (old new bytes : List ℕ)
     (result : Result (Unit {0}) WriteFailed) → d.steps < first + more
@@ -148,3 +148,17 @@ keeps_scenario program trial (Each k first more) d = from_keeps_scenario program
 pub keeps_steps : (program : Program) (trial : Trial) (extent : Extent) (d : Desk) → (tries program trial extent d).desk.steps ≡ d.steps
 keeps_steps program trial (Here k) d = from_keeps_steps program trial k d.position 0 d
 keeps_steps program trial (Each k first more) d = from_keeps_steps program trial k first more d
+
+-- and whether outputs are counted
+pub tried_hushed : (o : Option ℕ) (d : Desk) (text : List ℕ) → (tried_by o d text).desk.quiet ≡ d.quiet
+tried_hushed None d text = refl
+tried_hushed (Some l) d text = refl
+
+from_keeps_quiet : (program : Program) (trial : Trial) (k first more : ℕ) (d : Desk) → (tries_from program trial k first more d).desk.quiet ≡ d.quiet
+from_keeps_quiet program trial k first more d =
+    from_keeps (λ (r : Reply). r.desk.quiet) d.quiet program trial k first more d (λ text. refl)
+    (tried_hushed (addition_to_come d.additions) d (whatif_text program d.scenario first more trial k))
+
+pub keeps_quiet : (program : Program) (trial : Trial) (extent : Extent) (d : Desk) → (tries program trial extent d).desk.quiet ≡ d.quiet
+keeps_quiet program trial (Here k) d = from_keeps_quiet program trial k d.position 0 d
+keeps_quiet program trial (Each k first more) d = from_keeps_quiet program trial k first more d

@@ -9,8 +9,9 @@ use Rattle.std.specs.FinSet as set
 use Rattle.std.proofs.lemmas.Bool.Decides.{nat_tests}
 use Rattle.words.specs.Numbers.{extend, correct}
 use Rattle.words.specs.Numerals.{octal_text}
-use Rattle.space.specs.Cells.{Cells, at, get, get_channel, is_cell, word_at, erasable_count, channel_cell, both_banks, accumulator}
-use Rattle.space.specs.Cells.{lower_accumulator, return_address, lower_accumulator_channel, return_address_channel}
+use Rattle.space.proofs.CellLaws.{get_channel-word, same_get}
+use Rattle.space.specs.Cells.{Cells, at, get, get_channel, is_cell, erasable_count, channel_cell, both_banks, accumulator}
+use Rattle.space.specs.Cells.{return_address, lower_accumulator_channel, return_address_channel}
 use Rattle.symbols.specs.Values.{SymbolTable}
 use Rattle.cpu.specs.State.{Scenario, start}
 use Rattle.cpu.specs.Run.{run}
@@ -92,25 +93,6 @@ held scenario c (suc p) n = leaves_rest scenario (run scenario p) c (n p (omega 
 
 is_apart : (c n : ℕ) → is_cell c ≡ true → is_cell n ≡ false → c ≢ n
 is_apart c n h none = λ e. absurd (let wrong : is_cell n ≡ true = subst (λ x. is_cell x ≡ true) e h in cc)
-
-same_word : (s t : Cells) (q : ℕ) → q ≢ both_banks → at s q ≡ at t q → word_at s q ≡ word_at t q
-same_word s t q m6 h = grind (arith, nat_tests)
-
-same_get : (s t : Cells) (q : ℕ) → q ≢ both_banks → at s q ≡ at t q → get s q ≡ get t q
-unfolding get
-same_get s t q m6 h =
-    let wide = q == accumulator || q == return_address in
-    ap (λ w. cond wide w (extend (word_at s q))) h ∙ ap (λ w. cond wide (at t q) (extend w)) (same_word s t q m6 h)
-
-get_channel-word : (s : Cells) (n : ℕ) → n ≢ lower_accumulator_channel → n ≢ return_address_channel
-    → get_channel s n ≡ extend (at s (channel_cell n))
-unfolding get_channel
-get_channel-word s n n1 n2 =
-    let lower : (n == lower_accumulator_channel) ≡ false = grind (arith, nat_tests) in
-    let return' : (n == return_address_channel) ≡ false = grind (arith, nat_tests) in
-    let word = extend (at s (channel_cell n)) in
-    ap (λ b. cond b (get s lower_accumulator) (cond (n == return_address_channel) (get s return_address) word)) lower
-    ∙ ap (λ b. cond b (get s return_address) word) return'
 
 same_channel : (s t : Cells) (c : ℕ) → is_cell c ≡ true → erasable_count ≤ c → at s c ≡ at t c
     → get_channel s (c - erasable_count) ≡ get_channel t (c - erasable_count)

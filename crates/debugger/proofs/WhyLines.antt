@@ -3,7 +3,7 @@ use Rattle.std.proofs.Common.{◌≡◌, true, false, ℕ, zero, suc, ◌+◌, �
 use Rattle.std.proofs.Common.{sym, ap, ◌∙◌, append_assoc, append-nil, arith}
 use Rattle.words.specs.Devices.{Writes, WritesBeginning}
 use Rattle.words.specs.declared.device.WriteFailed.{WriteFailed}
-use Rattle.words.proofs.Texts.{append-then, beginning-after, beginning-longer}
+use Rattle.words.proofs.Texts.{Writes-after, append-then, beginning-after, beginning-longer}
 use Rattle.symbols.specs.Values.{SymbolTable}
 use Rattle.cpu.specs.State.{Scenario}
 use Rattle.cpu.specs.Chains.{cells_among, before_step}
@@ -30,9 +30,7 @@ module _ (symbols : SymbolTable) (scenario : Scenario) (lines : LinkLines) (whol
   -- the last line
   ends : (new rest : List ℕ) (result : Result (Unit {0}) WriteFailed) → why_text symbols scenario lines left before t.spots ≡ rest
       → Writes now new rest result → Writes old new whole result
-  ends new rest (Ok x) is w = append-then old now new t.text rest t.written w
-      ∙ ap (λ (y : List ℕ). old ++ y) (sym (t.goes_on ∙ ap (λ (y : List ℕ). t.text ++ y) is))
-  ends new rest (Err failed) is w = rw (t.goes_on, is) (beginning-after old now new t.text rest t.written w)
+  ends new rest result is w = rw (t.goes_on, is) (Writes-after old now new t.text rest result t.written w)
 
   pub told_all : (new rest : List ℕ) (result : Result (Unit {0}) WriteFailed) → left ≡ 0
       → ((xs : List Spot) → cells ≡ cells_among xs → rest ≡ end_from symbols true xs) → Writes now new rest result

@@ -9,7 +9,7 @@ use Rattle.debugger.specs.declared.desk.Desk.{Desk}
 module _ {K : Type 0} {g : Ghosts K} where
   -- where a desk stands, with no answer to come
   abbrev pub standing : Desk K g → Standing
-  standing d = desk d.session.now d.position d.breakpoints
+  standing d = desk d.session.now d.position d.breakpoints d.quiet
 
   -- what its replies are told by
   abbrev pub terms : Desk K g → Terms
@@ -32,6 +32,7 @@ module _ {K : Type 0} {g : Ghosts K} where
     pub session : HasLooked old.session.now new.session.now most
     pub position : new.position ≡ old.position
     pub breakpoints : new.breakpoints ≡ old.breakpoints
+    pub quiet : new.quiet ≡ old.quiet
     pub same : IsSame old new
 
   -- what a look leaves that moves the position

@@ -8,7 +8,7 @@ use Rattle.commands.specs.declared.command.ParsedLine.{ParsedLine}
 use Rattle.replay.specs.View.{SessionView}
 use Rattle.debugger.specs.History.{History, history, in_manner}
 use Rattle.debugger.specs.declared.manner.Manner.{Manner}
-use Rattle.debugger.specs.Growth.{grow}
+use Rattle.debugger.specs.Growth.{growth_told}
 use Rattle.debugger.specs.Replies.{Desk, Reply, says, answer}
 use Rattle.debugger.specs.Sessions.{AllGranted}
 use Rattle.commands.specs.declared.extended.ExtendedLine.{ExtendedLine}
@@ -18,30 +18,38 @@ use Rattle.debugger.specs.Terms.{Terms}
 use Rattle.debugger.specs.Routines.{goes_to, grows_there}
 use Rattle.debugger.specs.declared.ending.Ending.{Ending}
 
--- steps were made, up to an ending, and the lines of their outputs written
-pub record Grown (may_refuse : Bool) (h : History) (breakpoints : List Breakpoint) (more n : ℕ) (ending : Ending) (steps : ℕ)
+-- steps were made, up to an ending, and the lines of their outputs written, or how many these are
+pub record Grown (may_refuse quiet : Bool) (h : History) (breakpoints : List Breakpoint) (more n : ℕ) (ending : Ending) (steps : ℕ)
     (old new : List ℕ) : Type 0 where
   pub answers : List Bool
   pub granted : may_refuse ≡ false → AllGranted answers
   pub text : List ℕ
-  pub goes_on : (rest : List Bool) → grow h breakpoints more n (answers ++ rest)
+  pub goes_on : (rest : List Bool) → growth_told quiet h breakpoints more n (answers ++ rest)
       ≡ record { text = text; steps = steps; answers = rest; ending = ending }
   pub written : new ≡ old ++ text
 
--- a line of an output could not be written whole
-pub record GrowthBroken (may_refuse : Bool) (h : History) (breakpoints : List Breakpoint) (more n : ℕ) (old new : List ℕ) : Type 0 where
+-- a line could not be written whole
+pub record GrowthBroken (may_refuse quiet : Bool) (h : History) (breakpoints : List Breakpoint) (more n : ℕ) (old new : List ℕ) : Type 0 where
   pub answers : List Bool
   pub granted : may_refuse ≡ false → AllGranted answers
-  pub part : WritesBeginning old new (grow h breakpoints more n answers).text
+  pub part : WritesBeginning old new (growth_told quiet h breakpoints more n answers).text
 
-abbrev pub Grows : Bool → History → List Breakpoint → ℕ → ℕ → ℕ → List ℕ → List ℕ → Result Ending WriteFailed → Type 0
-Grows may_refuse h breakpoints more n steps old new (Ok ending) = Grown may_refuse h breakpoints more n ending steps old new
-Grows may_refuse h breakpoints more n steps old new (Err failed) = GrowthBroken may_refuse h breakpoints more n old new
+abbrev pub Grows : Bool → Bool → History → List Breakpoint → ℕ → ℕ → ℕ → List ℕ → List ℕ → Result Ending WriteFailed → Type 0
+Grows may_refuse quiet h breakpoints more n steps old new (Ok ending) = Grown may_refuse quiet h breakpoints more n ending steps old new
+Grows may_refuse quiet h breakpoints more n steps old new (Err failed) = GrowthBroken may_refuse quiet h breakpoints more n old new
 
 -- where a session stands, with no answer to come
-abbrev pub desk : SessionView → ℕ → List Breakpoint → Desk
-desk s position breakpoints =
-    record { scenario = s.scenario; steps = s.n; position = position; breakpoints = breakpoints; answers = []; additions = [] }
+abbrev pub desk : SessionView → ℕ → List Breakpoint → Bool → Desk
+desk s position breakpoints quiet =
+    record {
+      scenario = s.scenario;
+      steps = s.n;
+      position = position;
+      breakpoints = breakpoints;
+      quiet = quiet;
+      answers = [];
+      additions = [];
+    }
 
 -- with these answers to come
 abbrev pub awaiting : Desk → List Bool → List (Option ℕ) → Desk

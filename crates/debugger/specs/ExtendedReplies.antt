@@ -1,5 +1,5 @@
 -- What each line of an extended session brings.
-use Rattle.std.specs.Prelude.{ℕ, ◌+◌, ◌-◌, nat_lt, nat_le, ◌&&◌, min, Option, None, Some, is_some, List, [], ◌∷◌, ◌++◌, length, codes}
+use Rattle.std.specs.Prelude.{ℕ, ◌+◌, ◌-◌, nat_lt, nat_le, ◌&&◌, min, Bool, true, false, Option, None, Some, is_some, List, [], ◌∷◌, ◌++◌, length, codes}
 use Rattle.std.specs.Prelude.{decimal, if◌then◌else◌}
 use Rattle.std.specs.List.{remove}
 use Rattle.words.specs.Numerals.{octal_text}
@@ -14,7 +14,7 @@ use Rattle.commands.specs.declared.extended.ExtendedLine.{ExtendedLine}
 use Rattle.commands.specs.declared.extended.ExtendedLine.TheVariants.{Plain, Common, Says, Help, Breaks, ClearOne, On, AllRegisters, Until}
 use Rattle.commands.specs.declared.extended.ExtendedLine.TheVariants.{WhyStep, Why, Words, Where, Find, Trace, Inputs, Over, Out, Listed}
 use Rattle.commands.specs.declared.extended.ExtendedLine.TheVariants.{Values, Channels, Differs, WhySince, TailSteps, Survey, Say, WhatIf}
-use Rattle.commands.specs.declared.extended.ExtendedLine.TheVariants.{Calls, WhyWay, WhyControl, WhyInputs, WhyInterrupts, Never}
+use Rattle.commands.specs.declared.extended.ExtendedLine.TheVariants.{Calls, WhyWay, WhyControl, WhyInputs, WhyInterrupts, Never, Quiet}
 use Rattle.cpu.specs.Run.{run}
 use Rattle.debugger.specs.History.{History, in_manner}
 use Rattle.debugger.specs.declared.manner.Manner.TheVariants as manner
@@ -38,7 +38,7 @@ use Rattle.debugger.specs.Terms.{Terms}
 use Rattle.debugger.specs.Inputs.{inputs_text}
 use Rattle.debugger.specs.Routines.{goes_over, goes_out}
 use Rattle.replay.specs.LastHit.{first_hit}
-use Rattle.debugger.specs.Growth.{grow, hit_at}
+use Rattle.debugger.specs.Growth.{growth_told, hit_at}
 use Rattle.debugger.specs.declared.ending.Ending.{Ending}
 use Rattle.debugger.specs.declared.ending.Ending.TheVariants.{Reached, Hit, NoMemory, Limit}
 use Rattle.commands.specs.Extended.{most_count}
@@ -74,13 +74,21 @@ clears_one d i =
     (record d { breakpoints = remove d.breakpoints (i - 1) })
     else refuses d (codes "NONE")
 
+-- the outputs of new steps are counted from now on, or told again
+abbrev pub quiet_text : Bool → List ℕ
+quiet_text true = codes "QUIET on"
+quiet_text false = codes "QUIET off"
+
+abbrev pub hushes : Desk → Bool → Reply
+hushes d on = says (line (quiet_text on)) (record d { quiet = on })
+
 -- the first step after the position, of so many that stand, at which a breakpoint holds
 abbrev pub next_stop : History → Desk → ℕ → Option ℕ
 next_stop h d k = first_hit (λ t. is_some (hit_at h d.breakpoints t)) (d.position + 1) (min k (d.steps - d.position))
 
 -- the position moves on to it; where there is none, new steps are made, as many as are left
 abbrev pub grows_to : History → Desk → ℕ → Reply
-grows_to h d target = let g = grow h d.breakpoints (target - d.steps) d.steps d.answers in after_steps h d g (min target g.steps)
+grows_to h d target = let g = growth_told d.quiet h d.breakpoints (target - d.steps) d.steps d.answers in after_steps h d g (min target g.steps)
 
 abbrev pub stops_on : History → Desk → ℕ → Option ℕ → Reply
 stops_on h d k None = grows_to h d (d.position + k)
@@ -100,7 +108,7 @@ unhit Limit = Limit
 -- new steps are made until so many cycles have passed
 abbrev pub grows_until : History → Desk → ℕ → Reply
 grows_until h d cycles =
-    let g = grow h (Cycles cycles ∷ []) most_count d.steps d.answers in
+    let g = growth_told d.quiet h (Cycles cycles ∷ []) most_count d.steps d.answers in
     after_text g.text (stands h (ending_line (unhit g.ending)) (after_growth d g g.steps))
 
 -- the position moves to the first step with so many cycles, which is new where none of those that were made has
@@ -148,3 +156,4 @@ extended_reply terms h d (WhyInputs subject) = tells_inputs terms.symbols subjec
 extended_reply terms h d (WhyInterrupts subject) = tells_interrupts subject d
 extended_reply terms h d (Never place) = says (never_text terms.symbols d.scenario place d.position) d
 extended_reply terms h d Calls = says (calls_text terms.symbols d.scenario d.position) d
+extended_reply terms h d (Quiet on) = hushes d on

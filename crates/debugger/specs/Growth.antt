@@ -1,7 +1,7 @@
 -- Steps that are made for the first time.
-use Rattle.std.specs.Prelude.{ℕ, zero, suc, ◌+◌, ◌==◌, ◌&&◌, ◌||◌, nat_le, not, Bool, false, List, [], ◌∷◌, ◌++◌, drop, Option, None, Some}
-use Rattle.std.specs.Prelude.{position, if◌then◌else◌}
-use Rattle.std.specs.Option.{option_map}
+use Rattle.std.specs.Prelude.{ℕ, zero, suc, ◌+◌, ◌-◌, ◌==◌, ◌&&◌, ◌||◌, nat_le, nat_lt, not, Bool, false, true, List, [], ◌∷◌, ◌++◌, drop, length}
+use Rattle.std.specs.Prelude.{Option, None, Some, codes, decimal, position, if◌then◌else◌}
+use Rattle.std.specs.Option.{option_map, option_to_list}
 use Rattle.words.specs.Numbers.{correct}
 use Rattle.words.specs.BitSums.{and_sum}
 use Rattle.space.specs.Places.{same_place}
@@ -9,7 +9,7 @@ use Rattle.space.specs.declared.place.Linear.{Linear}
 use Rattle.cpu.specs.declared.output.Output.{Output}
 use Rattle.replay.specs.Memory.{step_limit}
 use Rattle.cpu.specs.ChannelLines.{channel_line}
-use Rattle.debugger.specs.History.{Sight, StepSight, History}
+use Rattle.debugger.specs.History.{Sight, StepSight, History, silent}
 use Rattle.commands.specs.declared.command.Breakpoint.{Breakpoint}
 use Rattle.commands.specs.declared.command.Breakpoint.TheVariants.{Place, Word, Channel, Bits, Cycles, Returned, Outside, Executed, Changed}
 use Rattle.debugger.specs.declared.ending.Ending.{Ending}
@@ -91,3 +91,21 @@ grow h breakpoints (suc more) n answers =
     else with_line (output_line (h.output (n + 1)))
     (unless_hit (hit_at h breakpoints (n + 1)) (n + 1) (later answers)
     (grow h breakpoints more (n + 1) (later answers))))
+
+-- the outputs of so many steps after n
+abbrev pub outputs_after : History → ℕ → ℕ → List Output
+outputs_after h n zero = []
+outputs_after h n (suc more) = option_to_list (h.output (n + 1)) ++ outputs_after h (n + 1) more
+
+-- the line of how many there are, where there are some
+abbrev pub words_line : ℕ → List ℕ
+words_line count = if nat_lt 0 count then codes "WORDS " ++ decimal count ++ codes "\n" else []
+
+-- new steps after n, with that line in place of a line for each output
+abbrev pub counted : History → ℕ → Growth → Growth
+counted h n g = record g { text = words_line (length (outputs_after h n (g.steps - n))) }
+
+-- new steps as a session tells them: a line for each output, or, where it is quiet, how many there are
+abbrev pub growth_told : Bool → History → List Breakpoint → ℕ → ℕ → List Bool → Growth
+growth_told false h breakpoints more n answers = grow h breakpoints more n answers
+growth_told true h breakpoints more n answers = counted h n (grow (silent h) breakpoints more n answers)

@@ -1,5 +1,5 @@
 -- What can be seen of a run.
-use Rattle.std.specs.Prelude.{ℕ, zero, suc, ◌==◌, Bool, false, not, List, Option, Some, None}
+use Rattle.std.specs.Prelude.{ℕ, zero, suc, ◌==◌, Bool, false, true, not, List, Option, Some, None}
 use Rattle.words.specs.Numbers.{correct}
 use Rattle.rope.specs.Places.{Words, word_at}
 use Rattle.space.specs.Cells.{get, get_channel, at, superbank, erasable_bank, fixed_bank}
@@ -102,6 +102,17 @@ history scenario =
       outputs = outs scenario;
       manner = manner.Plain;
     }
+
+-- the same, where the outputs of its steps are not told one by one
+abbrev pub unheard : Bool → Option Output → Option Output
+unheard false output = output
+unheard true output = None
+
+abbrev pub heard : Bool → History → History
+heard quiet h = record h { output = λ t. unheard quiet (h.output t) }
+
+abbrev pub silent : History → History
+silent h = heard true h
 
 -- the same, told in another manner
 abbrev pub in_manner : Manner → History → History

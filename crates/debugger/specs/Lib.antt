@@ -40,7 +40,9 @@ pub mod Transcript
 pub mod Sessions
 pub mod Conversation
 pub mod HandingOn
+pub mod Tallies
 pub mod Telling
+pub mod Hushing
 pub mod Executions
 pub mod Looks
 pub mod Desks

@@ -21,7 +21,7 @@ use Rattle.debugger.specs.Additions.{with_added}
 use Rattle.debugger.specs.declared.manner.Manner.{Manner}
 use Rattle.debugger.specs.declared.manner.Manner.TheVariants as manner
 use Rattle.debugger.specs.History.{Sight, History}
-use Rattle.debugger.specs.Growth.{Growth, grow, later, word_seen, channel_seen, hit_at}
+use Rattle.debugger.specs.Growth.{Growth, growth_told, later, word_seen, channel_seen, hit_at}
 use Rattle.commands.specs.declared.command.Breakpoint.{Breakpoint}
 use Rattle.commands.specs.declared.command.Command.{Command}
 use Rattle.commands.specs.declared.command.Command.TheVariants.{Step, Run, Back, Goto, Seek, Break, Clear, Registers, Memory, Channel, Last}
@@ -37,13 +37,15 @@ abbrev pub addition_to_come : List (Option ℕ) → Option ℕ
 addition_to_come [] = Some 0
 addition_to_come (addition ∷ more) = addition
 
--- where a session stands: what runs, the steps made, the step that is looked at, the breakpoints, and the answers to come of
--- the calls that take memory: those that make steps, and those that add or try inputs
+-- where a session stands: what runs, the steps made, the step that is looked at, the breakpoints, whether the outputs of new steps
+-- are counted in place of being told, and the answers to come of the calls that take memory: those that make steps, and those that
+-- add or try inputs
 pub record Desk : Type 0 where
   pub scenario : Scenario
   pub steps : ℕ
   pub position : ℕ
   pub breakpoints : List Breakpoint
+  pub quiet : Bool
   pub answers : List Bool
   pub additions : List (Option ℕ)
 
@@ -114,17 +116,17 @@ after_text text r = record r { text = text ++ r.text }
 abbrev pub after_growth : Desk → Growth → ℕ → Desk
 after_growth d g position = record d { steps = g.steps; answers = g.answers; position = position }
 
--- steps were made: the lines of their outputs, how they ended, and the position
+-- steps were made: the lines of their outputs or how many these are, how they ended, and the position
 abbrev pub after_steps : History → Desk → Growth → ℕ → Reply
 after_steps h d g position = after_text g.text (stands h (ending_line g.ending) (after_growth d g position))
 
 -- the position moves on, and new steps are made where it passes the present; where they end before, it is at their end
 abbrev pub steps_on : History → Desk → ℕ → Reply
-steps_on h d target = let g = grow h [] (target - d.steps) d.steps d.answers in after_steps h d g (min target g.steps)
+steps_on h d target = let g = growth_told d.quiet h [] (target - d.steps) d.steps d.answers in after_steps h d g (min target g.steps)
 
 -- new steps are made from the present on, up to a breakpoint
 abbrev pub runs_on : History → Desk → ℕ → Reply
-runs_on h d k = let g = grow h d.breakpoints k d.steps d.answers in after_steps h d g g.steps
+runs_on h d k = let g = growth_told d.quiet h d.breakpoints k d.steps d.answers in after_steps h d g g.steps
 
 -- the position moves among the steps that were made
 abbrev pub moves : History → Desk → ℕ → Reply

@@ -17,7 +17,7 @@ use Rattle.commands.specs.declared.command.Breakpoint.{Breakpoint}
 use Rattle.commands.specs.declared.command.Breakpoint.TheVariants.{Cycles, Returned, Outside}
 use Rattle.replay.specs.LastHit.{first_hit}
 use Rattle.debugger.specs.History.{History}
-use Rattle.debugger.specs.Growth.{grow, holds}
+use Rattle.debugger.specs.Growth.{growth_told, holds}
 use Rattle.debugger.specs.Replies.{Desk, Reply, line, here, stands, refuses, last_of, after_text, after_growth}
 use Rattle.debugger.specs.declared.ending.Ending.{Ending}
 use Rattle.debugger.specs.declared.ending.Ending.TheVariants.{Reached, Hit, NoMemory, Limit}
@@ -124,7 +124,7 @@ arrives h d t = stands h (took_line (took h d t)) (record d { position = t })
 
 abbrev pub grows_there : History → Desk → Breakpoint → ℕ → Reply
 grows_there h d end target =
-    let g = grow h (end ∷ []) (target - d.steps) d.steps d.answers in
+    let g = growth_told d.quiet h (end ∷ []) (target - d.steps) d.steps d.answers in
     let t = min target g.steps in
     after_text g.text (stands h (arrival_text g.ending (took h d t)) (after_growth d g t))
 

@@ -1,5 +1,5 @@
 -- What becomes of a new step as it is told. Only the contracts of the debugger's parts stand on this.
-use Rattle.std.specs.Prelude.{◌≡◌, ℕ, Bool, true, false, List, ◌∷◌, [], ◌++◌, Option, None, Some, MatchOption, Result, Ok, IsErr}
+use Rattle.std.specs.Prelude.{◌≡◌, ℕ, Bool, true, false, List, ◌++◌, Option, None, Some, MatchOption, Result, Ok, IsErr}
 use Rattle.words.specs.Devices.{WritesBeginning, one_more}
 use Rattle.words.specs.declared.device.WriteFailed.{WriteFailed}
 use Rattle.cpu.specs.declared.output.Output.{Output}
@@ -8,11 +8,12 @@ use Rattle.replay.specs.declared.stop.Stop.TheVariants as stop
 use Rattle.debugger.specs.declared.ending.Ending.{Ending}
 use Rattle.debugger.specs.declared.ending.Ending.TheVariants.{Reached, Hit, NoMemory, Limit}
 use Rattle.debugger.specs.Growth.{output_line}
-use Rattle.debugger.specs.Replies.{last_of, tail_length}
+use Rattle.debugger.specs.History.{unheard}
+use Rattle.debugger.specs.Tallies.{Tally, with_output}
 
--- the last outputs, what is written, and how many writes have failed
+-- what is kept of outputs, what is written, and how many writes have failed
 pub record Telling : Type 0 where
-  pub tail : List Output
+  pub tail : Tally
   pub text : List ℕ
   pub failures : ℕ
 
@@ -33,11 +34,11 @@ TellsBy told lowest output false hit old new = TellsWhole told lowest output Non
 TellsBy told lowest output true (Some number) old new = TellsWhole told lowest output (Some number) old new
 TellsBy told lowest output true None old new = TellsPart told output old new
 
--- a step is told, with its output and the lowest breakpoint that holds after it
-pub record Tells (told : Bool) (lowest : Option ℕ) (output : Option Output) (ended : Bool) (hit : Option ℕ) (old new : Telling) : Type 0
+-- a step is told, with its output, whose line is not written where it is quiet, and the lowest breakpoint that holds after it
+pub record Tells (told quiet : Bool) (lowest : Option ℕ) (output : Option Output) (ended : Bool) (hit : Option ℕ) (old new : Telling) : Type 0
   where
-    pub tail : MatchOption output (new.tail ≡ old.tail) (λ o. new.tail ≡ last_of tail_length (old.tail ++ o ∷ []))
-    pub by : TellsBy told lowest output ended hit old new
+    pub tail : MatchOption output (new.tail ≡ old.tail) (λ o. new.tail ≡ with_output old.tail o)
+    pub by : TellsBy told lowest (unheard quiet output) ended hit old new
 
 -- how steps end that were told
 abbrev pub EndsAs : Stop → Option ℕ → Result Ending WriteFailed → Type 0

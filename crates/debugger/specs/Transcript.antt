@@ -40,7 +40,7 @@ desk_at_end symbols d (line ∷ more) =
 -- where a session begins
 abbrev pub first_desk : Scenario → List Bool → List (Option ℕ) → Desk
 first_desk scenario answers additions =
-    record { scenario = scenario; steps = 0; position = 0; breakpoints = []; answers = answers; additions = additions }
+    record { scenario = scenario; steps = 0; position = 0; breakpoints = []; quiet = false; answers = answers; additions = additions }
 
 -- the lines of the commands: those of the first bytes
 unfoldable pub command_lines : List ℕ → List (List ℕ)

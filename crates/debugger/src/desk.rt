@@ -2,7 +2,7 @@
 
 ghost use Rattle.std.specs.Prelude.{◌≡◌, ◌≤◌};
 ghost use Rattle.cpu.specs.Run.{outs};
-ghost use Rattle.debugger.specs.Replies.{last_of, tail_length};
+ghost use Rattle.debugger.specs.Tallies.{tally_of};
 
 use crate::inputs::first_added;
 use crate::tail::Tail;
@@ -12,7 +12,8 @@ use symbols::Symbols;
 use yayul::SourceRows;
 
 /// A session with the symbols and the rows of its source, the line from which on inputs stand that were added, the step
-/// that is looked at, the breakpoints, and the last outputs.
+/// that is looked at, the breakpoints, whether the outputs of new steps are counted in place of being told, and the
+/// last outputs.
 #[derive(Drop)]
 pub(crate) struct Desk<'a, K: Keeper> {
     pub(crate) session: &'a mut Session<K>,
@@ -21,13 +22,14 @@ pub(crate) struct Desk<'a, K: Keeper> {
     pub(crate) first_added: u128,
     pub(crate) position: u64,
     pub(crate) breakpoints: Breakpoints,
+    pub(crate) quiet: bool,
     pub(crate) tail: &'a mut Tail,
     ghost within: { position ≤ session.now.n },
-    ghost kept: { tail.now ≡ last_of tail_length (outs session.now.scenario session.now.n) },
+    ghost kept: { tail.now ≡ tally_of (outs session.now.scenario session.now.n) },
 }
 
 impl<'a, K: Keeper> Desk<'a, K> {
-    ghost use Rattle.std.specs.Prelude.{[]};
+    ghost use Rattle.std.specs.Prelude.{[], false};
     ghost use Rattle.debugger.specs.Terms.{first_added};
 
     /// The desk of a session that has made no step, over a tail of no output.
@@ -38,7 +40,7 @@ impl<'a, K: Keeper> Desk<'a, K> {
         tail: &'a mut Tail,
     ) -> Desk<'a, K>
         requires start { session.old.n ≡ 0 }
-        requires empty { tail.old ≡ [] }
+        requires empty { tail.old ≡ tally_of [] }
         ensures session { result.session.now ≡ session.old }
         ensures lent { result.session.ghost_name ≡ session.entry.ghost_name }
         ensures symbols { result.symbols.now ≡ symbols.now }
@@ -46,6 +48,7 @@ impl<'a, K: Keeper> Desk<'a, K> {
         ensures first { result.first_added ≡ first_added session.old.scenario }
         ensures position { result.position ≡ 0 }
         ensures breakpoints { result.breakpoints ≡ [] }
+        ensures quiet { result.quiet ≡ false }
     {
         let first_added = first_added(session);
         Desk {
@@ -55,6 +58,7 @@ impl<'a, K: Keeper> Desk<'a, K> {
             first_added,
             position: 0,
             breakpoints: Breakpoints::new(),
+            quiet: false,
             tail,
         }
     }

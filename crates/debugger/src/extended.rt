@@ -97,6 +97,7 @@ impl<'a, K: Keeper> Desk<'a, K> {
             ExtendedLine::WhatIf(trial, extent) => { self.what_if(alloc, *trial, *extent, out) }
             ExtendedLine::Never(place) => self.never(place, out),
             ExtendedLine::Calls => write_all(out, self.calls().as_slice()),
+            ExtendedLine::Quiet(on) => write_all(out, self.hush(*on).as_slice()),
         }
     }
 
@@ -111,6 +112,19 @@ impl<'a, K: Keeper> Desk<'a, K> {
         }
         self.breakpoints.remove(number as usize - 1);
         number_line(b"CLEAR ", number)
+    }
+
+    /// `quiet`: the outputs of new steps are counted from now on, or told again.
+    #[tactic(auto, unfolding(crate::specs::ExtendedReplies::extended_reply))]
+    fn hush(&mut self, on: bool) -> Text
+        ensures brings { BringsAsked (standing self.old) (asked.Quiet on) result.items (standing self.new) }
+        ensures keeps { Keeps self.old self.new }
+    {
+        self.quiet = on;
+        if on {
+            return text_line(b"QUIET on");
+        }
+        text_line(b"QUIET off")
     }
 
     /// `on`: on from the position up to a breakpoint, over steps that stand and then new ones.
@@ -166,7 +180,14 @@ impl<'a, K: Keeper> Desk<'a, K> {
         ensures failures { W.failures out.new ≡ failures_after (W.failures out.old) result }
     {
         let more = steps.saturating_sub(self.session.steps() - self.position);
-        match grow(self.session, self.tail, &self.breakpoints, more, out) {
+        match grow(
+            self.session,
+            self.tail,
+            &self.breakpoints,
+            more,
+            self.quiet,
+            out,
+        ) {
             Ok(ending) => {
                 self.position += steps.min(self.session.steps() - self.position);
                 self.tell_ending(Manner::Extended, ending, out)

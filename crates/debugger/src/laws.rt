@@ -36,8 +36,8 @@ pub fn index_is_told()
     ensures { (scenario : Scenario) (t sum : ℕ) → IndexIsTold scenario t sum }
 {}
 
-/// A session tells each output once while it makes steps, in order, however one goes back and forth; what else it
-/// replies is what it would reply where no step puts out.
+/// A session tells each output once while it makes steps, or counts it once while `quiet` is on, in order, however one
+/// goes back and forth; what else it replies is what it would reply where no step puts out.
 pub fn outputs_are_told_once()
     ensures { (manner : Manner) (symbols : SymbolTable) (source : Source) (scenario : Scenario) (answers : List Bool)
         (additions : List (Option ℕ)) (lines : List (List ℕ)) →

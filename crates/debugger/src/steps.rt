@@ -33,7 +33,14 @@ impl<'a, K: Keeper> Desk<'a, K> {
         ensures failures { W.failures out.new ≡ failures_after (W.failures out.old) result }
     {
         let more = steps.saturating_sub(self.session.steps() - self.position);
-        let ending = grow(self.session, self.tail, &Breakpoints::new(), more, out)?;
+        let ending = grow(
+            self.session,
+            self.tail,
+            &Breakpoints::new(),
+            more,
+            self.quiet,
+            out,
+        )?;
         self.position += steps.min(self.session.steps() - self.position);
         self.tell_ending(manner, ending, out)
     }
@@ -51,7 +58,14 @@ impl<'a, K: Keeper> Desk<'a, K> {
         ensures served { HasServed 3 self.old self.new }
         ensures failures { W.failures out.new ≡ failures_after (W.failures out.old) result }
     {
-        let ending = grow(self.session, self.tail, &self.breakpoints, steps, out)?;
+        let ending = grow(
+            self.session,
+            self.tail,
+            &self.breakpoints,
+            steps,
+            self.quiet,
+            out,
+        )?;
         self.position = self.session.steps();
         self.tell_ending(manner, ending, out)
     }

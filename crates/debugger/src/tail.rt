@@ -1,7 +1,8 @@
 //! The last outputs of a run.
 
-ghost use Rattle.std.specs.Prelude.{◌≡◌, [], ◌∷◌, ◌++◌, IfOk, true};
-ghost use Rattle.debugger.specs.Replies.{last_of, tail_length, outputs_text};
+ghost use Rattle.std.specs.Prelude.{◌≡◌, [], IfOk, true};
+ghost use Rattle.debugger.specs.Replies.{tail_length, outputs_text};
+ghost use Rattle.debugger.specs.Tallies.{tally_of, with_output};
 
 use arrayvec::ArrayVec;
 use circular_buffer::HeapCircularBuffer;
@@ -19,20 +20,23 @@ const TAIL_TEXT: usize = 1_120;
 /// The lines of the last outputs.
 pub(crate) type TailText = ArrayVec<u8, TAIL_TEXT>;
 
-/// The last 32 outputs of a run, or all, oldest first.
+/// The last 32 outputs of a run, or all, oldest first, and how many the run has.
 #[derive(Drop)]
 pub(crate) struct Tail {
     ring: HeapCircularBuffer<Output>,
+
+    /// As far as it goes: never so far in a session, which makes fewer steps.
+    count: u64,
 }
 
 impl Model for Tail {
-    ghost use Rattle.std.specs.Prelude.{List, ◌≡◌};
-    ghost use Rattle.cpu.specs.declared.output.Output.{Output};
+    ghost use Rattle.std.specs.Prelude.{◌≡◌};
     ghost use Rattle.debugger.specs.Replies.{tail_length};
+    ghost use Rattle.debugger.specs.Tallies.{Tally};
 
-    ghost Value = { List Output };
+    ghost Value = { Tally };
 
-    ghost view = { λ t. t.ring.items };
+    ghost view = { λ t. record { last = t.ring.items; count = t.count } };
 
     ghost invariant = { λ t. t.ring.capacity ≡ tail_length };
 }
@@ -40,22 +44,30 @@ impl Model for Tail {
 impl Tail {
     /// The outputs of a run that has put nothing out. Later calls take no memory.
     pub(crate) fn new(alloc: Global) -> Result<Tail, AllocError>
-        ensures { IfOk result (λ tail. tail ≡ []) }
+        ensures { IfOk result (λ tail. tail ≡ tally_of []) }
     {
         let ring = HeapCircularBuffer::with_capacity(alloc, TAIL_LENGTH)?;
-        Ok(Tail { ring })
+        Ok(Tail { ring, count: 0 })
     }
 
     /// One output more.
     pub(crate) fn push(&mut self, output: Output)
-        ensures { self.new ≡ last_of tail_length (self.old ++ output ∷ []) }
+        ensures { self.new ≡ with_output self.old output }
     {
         self.ring.push_back(output);
+        self.count = self.count.saturating_add(1);
+    }
+
+    /// How many outputs there were.
+    pub(crate) fn count(&self) -> u64
+        ensures { result ≡ self.now.count }
+    {
+        self.count
     }
 
     /// The channel lines of the outputs, and how many there are.
     pub(crate) fn text(&self) -> TailText
-        ensures { result.items ≡ outputs_text self.now }
+        ensures { result.items ≡ outputs_text self.now.last }
     {
         outputs_text(&self.ring)
     }

@@ -153,7 +153,7 @@ impl<'a, K: Keeper> Desk<'a, K> {
     {
         let breakpoints = Breakpoints::of_one(*end);
         let more = steps.saturating_sub(self.session.steps() - self.position);
-        match grow(self.session, self.tail, &breakpoints, more, out) {
+        match grow(self.session, self.tail, &breakpoints, more, self.quiet, out) {
             Ok(ending) => {
                 self.position += steps.min(self.session.steps() - self.position);
                 let text = self.arrival_text(ending, cycles);

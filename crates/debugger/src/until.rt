@@ -58,7 +58,14 @@ impl<'a, K: Keeper> Desk<'a, K> {
         ensures failures { W.failures out.new ≡ failures_after (W.failures out.old) result }
     {
         let breakpoints = Breakpoints::of_one(Breakpoint::Cycles(cycles));
-        match grow(self.session, self.tail, &breakpoints, MOST_COUNT, out) {
+        match grow(
+            self.session,
+            self.tail,
+            &breakpoints,
+            MOST_COUNT,
+            self.quiet,
+            out,
+        ) {
             Ok(ending) => {
                 self.position = self.session.steps();
                 self.tell_ending(Manner::Extended, unhit(ending), out)

@@ -1,10 +1,11 @@
 -- What is kept of a run, step by step.
-use Rattle.std.proofs.Common.{◌≡◌, ◌≢◌, ℕ, zero, suc, ◌+◌, ◌*◌, ◌-◌, ◌<◌, ◌≤◌, ◌^◌, ◌==◌, Bool, true, false, List, [], length, replicate}
-use Rattle.std.proofs.Common.{get_or, set, Option, Some, None, is_some, unwrap_or, refl, sym, ap, ◌∙◌, inl, inr, arith, add-one, subst}
+use Rattle.std.proofs.Common.{◌≡◌, ◌≢◌, ℕ, zero, suc, ◌+◌, ◌-◌, ◌<◌, ◌≤◌, ◌^◌, Bool, true, false, List, [], length, replicate}
+use Rattle.std.proofs.Common.{get_or, set, Option, Some, None, is_some, unwrap_or, refl, sym, ap, ◌∙◌, inl, inr, arith, add-one}
 use Rattle.std.proofs.Common.{if◌then◌else◌}
 use Rattle.std.proofs.lemmas.Bool.{cases_Bool}
 use Rattle.std.proofs.lemmas.Bool.Decides.{eqb_tells}
 use Rattle.std.proofs.lemmas.List.{get_or-set_same, get_or-set_other, length-replicate, length-set}
+use Rattle.words.proofs.Replicated.{get_replicated}
 use Rattle.cpu.specs.declared.next_step.NextStep.{NextStep}
 use Rattle.cpu.specs.declared.next_step.NextStep.TheVariants.{Takes, Enters, Executes}
 use Rattle.cpu.specs.NextStep.{next_step}
@@ -20,7 +21,7 @@ use Rattle.delays.specs.declared.call.Call.{Call}
 use Rattle.delays.specs.Causes.{cause_by, causes}
 use Rattle.cover.specs.Tallies.{account_count}
 use Rattle.delays.specs.Routines.{call_at, call_ended, call_in, call_over, in_progress, left_in, returned_in, with_call}
-use Rattle.delays.specs.Spans.{asked, asked_by, asked_in, cause_at, closed, here_at, is_closed, left_by, mark, span_by, span_ended, span_of}
+use Rattle.delays.specs.Spans.{asked, asked_by, asked_in, cause_at, closed, here_at, is_closed, left_by, mark, span_by, span_ended}
 use Rattle.delays.specs.Spans.{span_rows, spent_more, spents, start_row, wait_by, wait_ended, wait_rows}
 use Rattle.delays.specs.Stretches.{best_by, best_of, better, Event, no_best, no_mark}
 use Rattle.delays.specs.Tallies.{after_in, AreFew, begun_after, begun_in, calls_in, Delayed, delayed_after, Holds, IsSmall, IsWithin}
@@ -95,9 +96,7 @@ abbrev no_wait : Option Mark
 no_wait = None
 
 no_wait_in : (n k : ℕ) → get_or (replicate n no_wait) k no_wait ≡ no_wait
-no_wait_in zero k = refl
-no_wait_in (suc n) zero = refl
-no_wait_in (suc n) (suc k) = no_wait_in n k
+no_wait_in n k = get_replicated no_wait n k
 
 left_at : (step : NextStep) (waits : List (Option Mark)) (k : ℕ) → k < length waits
     → get_or (waits_left step waits) k None ≡ left_by k step (get_or waits k None)

@@ -19,6 +19,7 @@ use Rattle.yayul.specs.declared.faults.FaultKind.TheVariants.{Undefined, Unknown
 use Rattle.yayul.specs.declared.finding.Finding.{Finding}
 use Rattle.yayul.specs.declared.language.Language.{Language}
 use Rattle.yayul.specs.declared.language.Language.TheVariants.{Flight, Standard}
+use Rattle.symbols.specs.declared.values.Value.TheVariants.{Erasable}
 use Rattle.yayul.specs.Readings.{Parts, parts_for}
 use Rattle.diagnostics.specs.Causes.{Cause, cause_of_kind, filled}
 use Rattle.diagnostics.specs.FlightCauses.{alternatives, told_cause, unsure_operators}
@@ -115,23 +116,23 @@ none_is_taken = refl
 abbrev warning : Warning → ℕ × ℕ × ℕ × ℕ
 warning w = (w.line, w.span.start + 1, w.span.width, w.number)
 
-counted : map warning (warnings Flight true (source (codes "+3 CA 5; -2D CA 5;-X CA -X;+4 DXCH -X;-X ERASE;+5")))
+counted : map warning (warnings Flight true [] (source (codes "+3 CA 5; -2D CA 5;-X CA -X;+4 DXCH -X;-X ERASE;+5")))
     ≡ (1, 7, 1, 2) ∷ (2, 9, 1, 2) ∷ (4, 9, 2, 3) ∷ []
 unfolding warnings lines runs operators flight_operators roles flight_roles
 counted = refl
 
 -- names of operators that flight programs alone have, as labels
-named_as_operators : map warning (warnings Flight false (source (codes "OCTAL 5;+3 OCTAL 5;COUNT;-CCS TC COUNT;RETURN"))
-    ++ warnings Standard false (source (codes "OCTAL 5;COUNT;RETURN")))
+named_as_operators : map warning (warnings Flight false [] (source (codes "OCTAL 5;+3 OCTAL 5;COUNT;-CCS TC COUNT;RETURN"))
+    ++ warnings Standard false [] (source (codes "OCTAL 5;COUNT;RETURN")))
     ≡ (1, 1, 5, 1) ∷ (3, 1, 5, 1) ∷ (4, 1, 4, 1) ∷ (5, 1, 6, 1) ∷ (3, 1, 6, 1) ∷ []
 unfolding warnings lines runs operators flight_operators roles flight_roles
 named_as_operators = refl
 
 -- an address is no instruction, COUNT gives no word, and 2DEC gives two
-by_roles : map {B = List (ℕ × ℕ × ℕ × ℕ)} (λ text. map warning (warnings Flight false (source text)))
-    (codes " SETLOC 1400;X ERASE; SETLOC 4000; GENADR X; CA X" ∷ codes " SETLOC 4004; COUNT* $$/X; CAF X; CAF X; CAF X; CAF X; CAF X"
-    ∷ codes " SETLOC 4004; 2DEC 1.0; CAF X; CAF X; CAF X" ∷ [])
-    ≡ ((5, 5, 1, 6) ∷ []) ∷ ((7, 2, 3, 5) ∷ []) ∷ ((5, 2, 3, 5) ∷ []) ∷ []
+by_roles : map {B = List (ℕ × ℕ × ℕ × ℕ)} (λ text. map warning (warnings Flight false ((codes "X", Erasable 0o1400) ∷ []) (source text)))
+    (codes " SETLOC 4000; GENADR X; CA X" ∷ codes " SETLOC 4004; COUNT* $$/X; CAF 0; CAF 0; CAF 0; CAF 0; CAF 0"
+    ∷ codes " SETLOC 4004; 2DEC 1.0; CAF 0; CAF 0; CAF 0" ∷ [])
+    ≡ ((3, 5, 1, 6) ∷ []) ∷ ((7, 2, 3, 5) ∷ []) ∷ ((5, 2, 3, 5) ∷ []) ∷ []
 unfolding warnings lines runs operators flight_operators roles flight_roles
 by_roles = refl
 

@@ -1,7 +1,7 @@
 -- Texts that grow.
 use Rattle.std.proofs.Common.{◌≡◌, ℕ, ◌+◌, ◌<◌, Bool, true, false, List, [], ◌∷◌, ◌++◌, Some, length, take, drop, find, get_or, map}
 use Rattle.std.proofs.Common.{slice_get, refl, ap, sym, inl, inr, ◌∙◌, append_assoc}
-use Rattle.std.specs.List.{list_all, list_any}
+use Rattle.std.specs.List.{list_all}
 use Rattle.std.proofs.lemmas.Bool.{cases_Bool}
 use Rattle.std.proofs.lemmas.List.{drop_more, take_more, map-append}
 use Rattle.std.proofs.lemmas.Option.{get_or_from_slice_get, slice_get_within}
@@ -37,17 +37,6 @@ pub find_on :
     (test : List ℕ → Bool) (names : List (List ℕ)) (i : ℕ) (name : List ℕ) → Some name ≡ slice_get names i → test name ≡ false
     → find test (drop i names) ≡ find test (drop (i + 1) names)
 find_on test names i name at fails = rw (left_at names i name at) (rw fails refl)
-
--- a name that passes is one of those that are left
-pub any_here : (test : List ℕ → Bool) (names : List (List ℕ)) (i : ℕ) (name : List ℕ) → Some name ≡ slice_get names i → test name ≡ true
-    → list_any test (drop i names) ≡ true
-any_here test names i name at passes = rw (left_at names i name at) (rw passes refl)
-
--- where one does not, only those after it are left
-pub any_on :
-    (test : List ℕ → Bool) (names : List (List ℕ)) (i : ℕ) (name : List ℕ) → Some name ≡ slice_get names i → test name ≡ false
-    → list_any test (drop i names) ≡ list_any test (drop (i + 1) names)
-any_on test names i name at fails = rw (left_at names i name at) (rw fails refl)
 
 -- a text that a line may hold is shown as it is
 pub text_is_shown : (text : List ℕ) → list_all is_text_byte text ≡ true → map shown_byte text ≡ text

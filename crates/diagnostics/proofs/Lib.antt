@@ -4,6 +4,7 @@ mod Filling
 mod GrowingTexts
 mod NearNames
 mod WarningRows
+mod BankRows
 mod CauseRows
 mod Walked
 mod FeedRows

@@ -7,17 +7,19 @@ use Rattle.std.proofs.lemmas.Bool.Decides.{nat_tests}
 use Rattle.std.proofs.lemmas.List.{map-append}
 use Rattle.std.proofs.lemmas.Map.Made.{is_some-lookup}
 use Rattle.agc_text.specs.Tables.{same_name, value_in}
+use Rattle.symbols.specs.Values.{SymbolTable}
 use Rattle.symbols.specs.declared.values.Value.{Value}
 use Rattle.yayul.specs.declared.finding.Finding.{Finding}
 use Rattle.yayul.specs.declared.language.Language.{Language}
 use Rattle.diagnostics.specs.declared.flow.Before.{Before}
-use Rattle.diagnostics.specs.declared.mistakes.Names.{Names}
+use Rattle.diagnostics.specs.declared.warning.Names.{Names}
+use Rattle.diagnostics.specs.declared.switched.Target.{Target}
 use Rattle.diagnostics.specs.declared.told.Warning.{Warning}
 use Rattle.yayul.specs.Readings.{Parts, parts_for, parts_in}
 use Rattle.diagnostics.specs.Joined.{joined}
 use Rattle.diagnostics.specs.Report.{count_before, merged}
 use Rattle.yayul.specs.declared.reading.Reading.{Reading}
-use Rattle.diagnostics.specs.Warnings.{is_short, is_among, with_name, before_next, line_warnings, warned_lines}
+use Rattle.diagnostics.specs.Warnings.{is_short, is_among, with_name, before_next, line_warnings, target_in, warned_lines}
 
 -- a fault, after the warnings of earlier lines
 pub merged_step :
@@ -50,16 +52,17 @@ joined_step warnings rest others w o0 o1 o2 next e1 e2 =
 
 -- the warnings of a line, and of those after it
 pub warned_step :
-    (language : Language) (unused : Bool) (names : Names) (before : Before) (line : ℕ) (lines rest : List Parts) (parts : Parts)
-    (o0 o1 : List Warning)
-    → lines ≡ parts ∷ rest → o1 ≡ o0 ++ line_warnings language unused names before rest line parts
-    → o1 ++ warned_lines language unused names (before_next names.handlers before parts) (line + 1) rest
-    ≡ o0 ++ warned_lines language unused names before line lines
-warned_step language unused names before line lines rest parts o0 o1 next e =
-    ap (λ o. o ++ warned_lines language unused names (before_next names.handlers before parts) (line + 1) rest) e
-    ∙ append_assoc o0 (line_warnings language unused names before rest line parts)
-    (warned_lines language unused names (before_next names.handlers before parts) (line + 1) rest)
-    ∙ ap (λ t. o0 ++ warned_lines language unused names before line t) (sym next)
+    (language : Language) (unused : Bool) (table : SymbolTable) (names : Names) (before : Before) (line : ℕ) (lines rest : List Parts)
+    (parts : Parts) (o0 o1 : List Warning)
+    → lines ≡ parts ∷ rest → o1 ≡ o0 ++ line_warnings language unused names before (target_in language table parts) rest line parts
+    → o1 ++ warned_lines language unused table names (before_next names.handlers before (target_in language table parts) parts) (line + 1)
+    rest ≡ o0 ++ warned_lines language unused table names before line lines
+warned_step language unused table names before line lines rest parts o0 o1 next e =
+    let target : Target = target_in language table parts in
+    let after : List Warning = warned_lines language unused table names (before_next names.handlers before target parts) (line + 1) rest in
+    ap (λ o. o ++ after) e
+    ∙ append_assoc o0 (line_warnings language unused names before target rest line parts) after
+    ∙ ap (λ t. o0 ++ warned_lines language unused table names before line t) (sym next)
 
 -- so many of some lines, where a line stands first
 take_first : (n m : ℕ) (here after : List (List ℕ)) (text : List ℕ) → n ≡ m + 1 → here ≡ text ∷ after → take n here ≡ text ∷ take m after

@@ -29,7 +29,7 @@ source text = map (λ byte. if byte == 0o73 then 0o12 else byte) text
 abbrev row : Warning → ℕ × ℕ × ℕ × ℕ
 row w = (w.line, w.span.start + 1, w.span.width, w.number)
 
--- sources with their warnings
+-- sources with their warnings, but those of switched banks, by which alone values of symbols are asked for
 abbrev warned_rows : List (List ℕ × List (ℕ × ℕ × ℕ × ℕ))
 warned_rows =
     (codes " OCT 1", [])
@@ -53,10 +53,6 @@ warned_rows =
     -- the fifth word of a vector, and one that begins another
     ∷ (codes " SETLOC 4004; CA X; CA X; CA X; CA X; TS X;D TCF D;X OCT 1", (6, 2, 2, 5) ∷ [])
     ∷ (codes " SETLOC 4004; CA X; CA X; CA X; TCF D; CA X;D TCF D;X OCT 1", [])
-    -- a switched bank, while EB is not set and while it is
-    ∷ (codes " SETLOC 2000;V ERASE; SETLOC 4000; TS V;D TCF D", (4, 5, 1, 6) ∷ [])
-    ∷ (codes " SETLOC 2000;V ERASE; SETLOC 4000; TS 3; TS V;D TCF D", [])
-    ∷ (codes "EB EQUALS 3; SETLOC 2000;V ERASE; SETLOC 4000; TS EB; TS V;D TCF D", [])
     -- channels that are registers, by number and by name, and others
     ∷ (
       codes " WRITE 1; WAND 2; WOR 02; WRITE 10; WRITE 3; WRITE 0; READ 1; ROR 2; WRITE L;L EQUALS 1;D TCF D",
@@ -100,7 +96,7 @@ warned_rows =
     ∷ (codes "Q EQUALS 2;L EQUALS 00001;Z EQUALS 6; TC Q; TC L; TC Z", (3, 1, 1, 7) ∷ [])
     ∷ []
 
-each_warned : map {B = List (ℕ × ℕ × ℕ × ℕ)} (λ r. map row (warnings Standard true (source r.0))) warned_rows
+each_warned : map {B = List (ℕ × ℕ × ℕ × ℕ)} (λ r. map row (warnings Standard true [] (source r.0))) warned_rows
     ≡ map {B = List (ℕ × ℕ × ℕ × ℕ)} (λ r. r.1) warned_rows
 unfolding warnings runs operators lines roles
 each_warned = refl

@@ -303,15 +303,18 @@ is_another_form parts = is_some (value_in registers (text_of parts.operand)) || 
     || begins 0o75 (text_of parts.operand) || holds_sign (text_of parts.operand) || holds 0o72 (text_of parts.operand)
 
 -- E17: how a symbol is defined, by the operator that takes it
+abbrev pub definition_cure : Parts → List ℕ
+definition_cure parts =
+    if writes_erasable parts.role || reads_erasable parts.role then
+    codes "@ ERASE, among lines after SETLOC 100, reserves a word of this name"
+    else if takes_channel parts.role then codes "@ EQUALS and an octal number give a channel this name"
+    else if leads_on_to parts.role then codes "@ in the first column of the line to which % is to lead"
+    else if reads parts.role then
+    codes "of a number: @ DEC 5, behind the last jump, and of a word that changes: @ ERASE, after SETLOC 100"
+    else []
+
 abbrev pub definition_cause : Parts → Cause
-definition_cause parts =
-    if writes_erasable parts.role || reads_erasable parts.role then cured (codes "no line defines @")
-    (codes "@ ERASE, among lines after SETLOC 100, reserves a word of this name")
-    else if takes_channel parts.role then cured (codes "no line defines @") (codes "@ EQUALS and an octal number give a channel this name")
-    else if leads_on_to parts.role then cured (codes "no line defines @") (codes "@ in the first column of the line to which % is to lead")
-    else if reads parts.role then cured (codes "no line defines @")
-    (codes "of a number: @ DEC 5, behind the last jump, and of a word that changes: @ ERASE, after SETLOC 100")
-    else said (codes "no line defines @")
+definition_cause parts = cured (codes "no line defines @") (definition_cure parts)
 
 abbrev pub undefined_cause : Bool → Parts → Cause
 undefined_cause near parts = if near || is_another_form parts then symbol_cause (codes "no line defines @") near parts else definition_cause
@@ -437,7 +440,7 @@ warning_cause parts number =
     (codes "TCF or RETURN behind it, and constants elsewhere")
     else if number == 5 then cured (codes "a vector has four words, and with this one the next vector begins")
     (codes "TCF as the fourth, and the routine elsewhere")
-    else if number == 6 then cured (codes "@ stands in a switched erasable bank, and no line sets EB")
+    else if number == 6 then cured (codes "% reaches a switched erasable bank, and no line sets EB")
     (codes "NAME ECADR @ on a line of its own; before this CA NAME, and TS 3, which is EB")
     else if number == 7 then cured_by (codes "& is a register's name, and stands for another place here")
     (codes "& EQUALS ! is the register") (unwrap_or (value_in registers (text_of parts.label)) [])

@@ -58,15 +58,6 @@ word_cause text =
     if is_beyond_octal text then said (codes "words are octal, and ~ has a digit 8 or 9")
     else said (codes "~ is no word, which is 0 to 77777 in octal")
 
-abbrev pub request_cause : Cause
-request_cause = said (codes "~ is no interrupt, which are 1 to 10")
-
-abbrev pub missing_cause : Cause
-missing_cause = cured (codes "nothing follows ~") (codes "CHAN with a channel and a word, RUPT with a number, or a counter with a sequence")
-
-abbrev pub surplus_cause : Cause
-surplus_cause = cured (codes "~ follows the whole input") (codes "a comment begins with #")
-
 -- what a counter takes, in words; `!` stands for its name
 abbrev pub taken_words : Counter → List ℕ
 taken_words counter =
@@ -90,8 +81,9 @@ slip_cause MissingFactor text = said (codes "EVERY is followed by FIRST NUM DEN 
 slip_cause Name text = name_cause text
 slip_cause Channel text = channel_cause text
 slip_cause Word text = word_cause text
-slip_cause Request text = request_cause
+slip_cause Request text = said (codes "~ is no interrupt, which are 1 to 10")
 slip_cause (Why.Sequence counter) text = not_taken (codes "~ is no sequence") counter
 slip_cause (NotTaken counter) text = not_taken (codes "the counter does not take ~") counter
-slip_cause Missing text = missing_cause
-slip_cause Surplus text = surplus_cause
+slip_cause Missing text =
+    cured (codes "nothing follows ~") (codes "CHAN with a channel and a word, RUPT with a number, or a counter with a sequence")
+slip_cause Surplus text = cured (codes "~ follows the whole input") (codes "a comment begins with #")

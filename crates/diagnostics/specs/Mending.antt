@@ -1,10 +1,10 @@
 -- Which cures are an edit of the text, and which edit each is.
-use Rattle.std.specs.Prelude.{ℕ, ◌+◌, ◌-◌, ◌==◌, ◌||◌, min, nat_le, Bool, true, false, List, length, drop, codes, Option, None, Some}
+use Rattle.std.specs.Prelude.{ℕ, ◌+◌, ◌-◌, ◌==◌, min, nat_le, Bool, true, false, List, [], ◌∷◌, length, drop, codes, Option, None, Some}
 use Rattle.std.specs.Prelude.{slice_get, option_and_then, if◌then◌else◌}
 use Rattle.std.specs.List.{find, position_or_len}
-use Rattle.std.specs.Option.{option_map, option_map_or, option_or}
+use Rattle.std.specs.Option.{option_map, option_map_or}
 use Rattle.agc_text.specs.Fields.{Piece, fields}
-use Rattle.agc_text.specs.Tables.{same_name}
+use Rattle.agc_text.specs.Tables.{same_name, value_in}
 use Rattle.yayul.specs.Survey.{span_of}
 use Rattle.yayul.specs.declared.finding.Span.{Span}
 use Rattle.diagnostics.specs.Roles.{stores}
@@ -27,67 +27,47 @@ abbrev pub unsure : At → List ℕ → Mend
 unsure at put = record { at = at; put = put; is_sure = false }
 
 -- ## Cures
--- a name in the place of another
-abbrev pub name_mend : List ℕ → Option Mend
-name_mend cure =
-    if same_name cure (codes "did you mean !?") then Some (sure Blamed (codes "!"))
-    else if same_name cure (codes "did you mean ~?") then Some (sure Blamed (codes "~"))
-    else if same_name cure (codes "did you mean EVERY?") then Some (sure Blamed (codes "EVERY"))
-    else if same_name cure (codes "! takes DINC") then Some (unsure Blamed (codes "DINC"))
-    else if same_name cure (codes "! takes PINC") then Some (unsure Blamed (codes "PINC"))
-    else None
-
--- what stands in front of a line then, or no more
-abbrev pub line_mend : List ℕ → Option Mend
-line_mend cure =
-    if same_name cure (codes "put a blank before &") then Some (sure BeforeLine (codes "        "))
-    else if same_name cure (codes "EXTEND on the line before, behind a blank") then Some (sure BeforeLine (codes "        EXTEND\n"))
-    else if same_name cure (codes "no register has a name beforehand; this line gives it one: @ EQUALS !") then Some
-    (sure BeforeSource (codes "@ EQUALS !\n"))
-    else if same_name cure (codes "a label begins in the first column: no blank before %") then Some (unsure Indent (codes ""))
-    else if same_name cure (codes "tail -c +4 FILE > NEW") then Some (sure OrderMark (codes ""))
-    else None
-
--- another operand, or what stands in front of it, in it or behind it
-abbrev pub operand_mend : List ℕ → Option Mend
-operand_mend cure =
-    if same_name cure (codes "@D is decimal") || same_name cure (codes "% @D takes it as decimal") then Some (unsure Operand (codes "@D"))
-    else if same_name cure (codes "@ is one name; a blank stands before an offset") then Some (unsure BeforeSign (codes " "))
-    else if same_name cure (codes "no blank stands between both") then Some (unsure BehindOffset (codes ""))
-    else if same_name cure (codes "B-28 behind @ makes @ the lower word") then Some (unsure BehindOperand (codes " B-28"))
-    else if same_name cure (codes "a comment begins with #") then Some (unsure BeforeComment (codes "# "))
-    else None
-
--- another operator
-abbrev pub operator_mend : List ℕ → Option Mend
-operator_mend cure =
-    if same_name cure (codes "DEC takes decimal digits") then Some (unsure DecimalOperator (codes "DEC"))
-    else if same_name cure (codes "BANK @") then Some (unsure Operator (codes "BANK"))
-    else if same_name cure (codes "CA @") then Some (unsure Operator (codes "CA"))
-    else None
+-- the edit of each cure that is one
+abbrev pub mends : List (List ℕ × Mend)
+mends =
+    (codes "did you mean !?", sure Blamed (codes "!"))
+    ∷ (codes "did you mean ~?", sure Blamed (codes "~"))
+    ∷ (codes "did you mean EVERY?", sure Blamed (codes "EVERY"))
+    ∷ (codes "! takes DINC", unsure Blamed (codes "DINC"))
+    ∷ (codes "! takes PINC", unsure Blamed (codes "PINC"))
+    ∷ (codes "put a blank before &", sure BeforeLine (codes "        "))
+    ∷ (codes "EXTEND on the line before, behind a blank", sure BeforeLine (codes "        EXTEND\n"))
+    ∷ (codes "no register has a name beforehand; this line gives it one: @ EQUALS !", sure BeforeSource (codes "@ EQUALS !\n"))
+    ∷ (codes "a label begins in the first column: no blank before %", unsure Indent (codes ""))
+    ∷ (codes "tail -c +4 FILE > NEW", sure OrderMark (codes ""))
+    ∷ (codes "@D is decimal", unsure Operand (codes "@D"))
+    ∷ (codes "% @D takes it as decimal", unsure Operand (codes "@D"))
+    ∷ (codes "@ is one name; a blank stands before an offset", unsure BeforeSign (codes " "))
+    ∷ (codes "no blank stands between both", unsure BehindOffset (codes ""))
+    ∷ (codes "B-28 behind @ makes @ the lower word", unsure BehindOperand (codes " B-28"))
+    ∷ (codes "a comment begins with #", unsure BeforeComment (codes "# "))
+    ∷ (codes "DEC takes decimal digits", unsure DecimalOperator (codes "DEC"))
+    ∷ (codes "BANK @", unsure Operator (codes "BANK"))
+    ∷ (codes "CA @", unsure Operator (codes "CA"))
+    ∷ []
 
 -- the operator in the place of another assembler's, by what is said of it
-abbrev pub foreign_mend : List ℕ → Option Mend
-foreign_mend meant =
-    if same_name meant (codes "SETLOC sets the location") then Some (unsure Operator (codes "SETLOC"))
-    else if same_name meant (codes "EQUALS gives a name its value") then Some (unsure Operator (codes "EQUALS"))
-    else if same_name meant (codes "CA loads A") then Some (unsure Operator (codes "CA"))
-    else if same_name meant (codes "TS stores A") then Some (unsure Operator (codes "TS"))
-    else if same_name meant (codes "TC calls a routine") then Some (unsure Operator (codes "TC"))
-    else if same_name meant (codes "RETURN goes back") then Some (unsure Operator (codes "RETURN"))
-    else if same_name meant (codes "NOOP does nothing") then Some (unsure Operator (codes "NOOP"))
-    else if same_name meant (codes "AD adds a word to A") then Some (unsure Operator (codes "AD"))
-    else if same_name meant (codes "ERASE reserves a word") then Some (unsure Operator (codes "ERASE"))
-    else None
-
--- of a cure that is another text alone
-abbrev pub meant_mend : List ℕ → List ℕ → Option Mend
-meant_mend cure meant = if same_name cure (codes "!") then foreign_mend meant else None
+abbrev pub foreign_mends : List (List ℕ × Mend)
+foreign_mends =
+    (codes "SETLOC sets the location", unsure Operator (codes "SETLOC"))
+    ∷ (codes "EQUALS gives a name its value", unsure Operator (codes "EQUALS"))
+    ∷ (codes "CA loads A", unsure Operator (codes "CA"))
+    ∷ (codes "TS stores A", unsure Operator (codes "TS"))
+    ∷ (codes "TC calls a routine", unsure Operator (codes "TC"))
+    ∷ (codes "RETURN goes back", unsure Operator (codes "RETURN"))
+    ∷ (codes "NOOP does nothing", unsure Operator (codes "NOOP"))
+    ∷ (codes "AD adds a word to A", unsure Operator (codes "AD"))
+    ∷ (codes "ERASE reserves a word", unsure Operator (codes "ERASE"))
+    ∷ []
 
 -- the edit that a cure is, in which another text may stand; none where it is no edit of the text
 unfoldable pub mend_of : List ℕ → List ℕ → Option Mend
-mend_of cure meant = option_or (name_mend cure)
-    (option_or (line_mend cure) (option_or (operand_mend cure) (option_or (operator_mend cure) (meant_mend cure meant))))
+mend_of cure meant = if same_name cure (codes "!") then value_in foreign_mends meant else value_in mends cure
 
 -- ## Places
 -- the line that an edit stands on, of a finding on a line

@@ -1,6 +1,7 @@
 -- What is asked of an operator, by what it is; of none, and of a name that is no operator's, nothing is so.
 use Rattle.std.specs.Prelude.{Bool, true, false, Option, Some}
 use Rattle.yayul.specs.declared.role.Role.{Role}
+use Rattle.diagnostics.specs.declared.roles.Class.{Class}
 
 -- SETLOC
 abbrev pub is_setloc : Option Role → Bool
@@ -351,3 +352,54 @@ may_skip _ = false
 abbrev pub is_idle : Option Role → Bool
 is_idle (Some Role.Idle) = true
 is_idle _ = false
+
+-- whether an operator is one of a class
+abbrev pub has : Class → Option Role → Bool
+has Class.Setloc role = is_setloc role
+has Class.NamesBank role = names_bank role
+has Class.Block role = is_block role
+has Class.Erase role = is_erase role
+has Class.Equals role = is_equals role
+has Class.MovesLocation role = moves_location role
+has Class.KeepsLocation role = keeps_location role
+has Class.RefusesLabel role = refuses_label role
+has Class.Octal role = is_octal role
+has Class.OctalPair role = is_octal_pair role
+has Class.VerbNoun role = is_verb_noun role
+has Class.Decimal role = is_decimal role
+has Class.TakesDecimal role = takes_decimal role
+has Class.Constant role = is_constant role
+has Class.GivesTwo role = gives_two role
+has Class.TakesNothing role = takes_nothing role
+has Class.TakesChannel role = takes_channel role
+has Class.TakesErasablePlace role = takes_erasable_place role
+has Class.TakesFixedPlace role = takes_fixed_place role
+has Class.TakesLowBank role = takes_low_bank role
+has Class.CountComplement role = is_count_complement role
+has Class.LeadsToFixed role = leads_to_fixed role
+has Class.Leaving role = is_leaving role
+has Class.SetsBank role = sets_bank role
+has Class.Reads role = reads role
+has Class.ReadsWord role = reads_word role
+has Class.ReadsErasable role = reads_erasable role
+has Class.Index role = is_index role
+has Class.WritesErasable role = writes_erasable role
+has Class.Stores role = stores role
+has Class.TakesPair role = takes_pair role
+has Class.LeadsOnTo role = leads_on_to role
+has Class.Subtracts role = subtracts role
+has Class.Call role = is_call role
+has Class.Jump role = is_jump role
+has Class.KeepsA role = keeps_a role
+has Class.KeepsL role = keeps_l role
+has Class.KeepsQ role = keeps_q role
+has Class.ChangesA role = changes_a role
+has Class.ChangesL role = changes_l role
+has Class.WritesChannel role = writes_channel role
+has Class.ComputesWay role = computes_way role
+has Class.Resumes role = resumes role
+has Class.GoesBack role = goes_back role
+has Class.Releases role = releases role
+has Class.HasFourWays role = has_four_ways role
+has Class.MaySkip role = may_skip role
+has Class.Idle role = is_idle role

@@ -13,23 +13,26 @@ use Rattle.yayul.specs.declared.language.Language.{Language}
 use Rattle.yayul.specs.declared.language.Language.TheVariants.{Flight, Standard}
 use Rattle.diagnostics.specs.Roles.{gives_two, is_call, is_constant, is_equals, is_erase, is_index, is_jump, is_leaving, is_setloc}
 use Rattle.diagnostics.specs.Roles.{keeps_location, leads_on_to, leads_to_fixed, moves_location, names_bank, reads, reads_word, sets_bank}
-use Rattle.diagnostics.specs.Roles.{stores, takes_pair}
+use Rattle.diagnostics.specs.Roles.{stores, takes_pair, writes_erasable}
 use Rattle.diagnostics.specs.Roles.{changes_a, changes_l, computes_way, goes_back, has_four_ways, is_idle, keeps_a, keeps_l, keeps_q}
 use Rattle.diagnostics.specs.Roles.{may_skip, releases, resumes, writes_channel}
-use Rattle.yayul.specs.Readings.{Parts, parts_for}
+use Rattle.yayul.specs.Readings.{Parts, operand_value, parts_for}
 use Rattle.yayul.specs.Roles.{is_operator_of}
 use Rattle.symbols.specs.Registers.{registers}
+use Rattle.symbols.specs.Values.{SymbolTable}
+use Rattle.symbols.specs.declared.values.Value.{Value}
+use Rattle.symbols.specs.declared.values.Value.TheVariants.{Erasable, Fixed, Num}
 use Rattle.diagnostics.specs.declared.flow.Before.{Before}
 use Rattle.diagnostics.specs.declared.handlers.Handlers.{Handlers}
 use Rattle.diagnostics.specs.declared.handlers.Unkept.{Unkept}
-use Rattle.diagnostics.specs.declared.mistakes.Names.{Names}
+use Rattle.diagnostics.specs.declared.warning.Names.{Names}
 use Rattle.diagnostics.specs.declared.reserved.Reserved.{Reserved}
 use Rattle.diagnostics.specs.declared.unreached.Leads.{Leads}
 use Rattle.diagnostics.specs.declared.switched.BankRegister.{BankRegister}
 use Rattle.diagnostics.specs.declared.switched.BankRegister.TheVariants.{Eb, Fb}
 use Rattle.diagnostics.specs.declared.switched.Banks.{Banks}
-use Rattle.diagnostics.specs.declared.switched.Region.{Region}
-use Rattle.diagnostics.specs.declared.switched.Region.TheVariants.{Common, Elsewhere, SwitchedErasable, SwitchedFixed}
+use Rattle.diagnostics.specs.declared.switched.Target.{Target}
+use Rattle.diagnostics.specs.declared.switched.Target.TheVariants.{Cell, InBank, Plain, Unknown}
 use Rattle.diagnostics.specs.declared.told.Warning.{Warning}
 
 -- ## Names
@@ -202,125 +205,93 @@ is_overrun filled left = option_map_or (nat_le 4) filled false && not left
 abbrev pub overruns : Before → Parts → Bool
 overruns before parts = is_overrun before.filled before.left && gives_word parts
 
--- ## 6 and 9: a word of a switched bank, where no line sets EB or FB
--- the region of a place as SETLOC takes it: EB leads to those of erasable memory from 1400 on, and banks 2 and 3 are reached whatever FB
--- holds
-abbrev pub region_of_place : ℕ → Region
-region_of_place place = if nat_lt place 0o1400 then Elsewhere else if nat_lt place 0o4000 then SwitchedErasable else if nat_lt place 0o10000
-    then Common else Elsewhere
+-- ## 6 and 9: a place of a switched bank, where no line sets EB or FB
+-- EB is 3, FB 4, and BB, which has both, 6
+abbrev pub has_bank : BankRegister → ℕ → Bool
+has_bank Eb n = n == 3 || n == 6
+has_bank Fb n = n == 4 || n == 6
 
--- the region of a bank of fixed memory; a machine starts with FB at bank 0
-abbrev pub region_of_bank : ℕ → Region
-region_of_bank bank = if bank == 2 || bank == 3 then Common else if nat_lt 0 bank && nat_lt bank 0o44 then SwitchedFixed else Elsewhere
+-- a write at a number sets a register: at its place, and of two words at the place before it; after INDEX one at a place up to 6 may
+abbrev pub writes_bank : BankRegister → Bool → Bool → ℕ → Bool
+writes_bank register indexed pair n = has_bank register n || (pair && has_bank register (n + 1)) || (indexed && nat_lt n 7)
 
--- the region of a number in octal, and elsewhere by any other text
-abbrev pub region_at : (ℕ → Region) → List ℕ → Region
-region_at region_of text = option_map_or region_of (digits_value 8 text) Elsewhere
+-- what an operand with a value leads to: a number, a cell of erasable memory, or a place of a bank of fixed memory
+abbrev pub target_at : Value → Target
+target_at (Num n) = Plain n
+target_at (Erasable n) = Cell n
+target_at (Fixed bank n) = InBank bank
 
--- where words stand after a line, by where they do before it
-abbrev pub region_after : Region → Parts → Region
-region_after region parts =
-    if has_alone (is_setloc parts.role) parts then region_at region_of_place (text_of parts.operand)
-    else if is_setloc parts.role then Elsewhere
-    else if names_bank parts.role then region_at region_of_bank (text_of parts.operand)
-    else region
+-- what the operand of a line leads to by the symbols of a source
+abbrev pub target_in : Language → SymbolTable → Parts → Target
+target_in language table parts = option_map_or target_at (operand_value language table parts) Unknown
 
-abbrev pub is_common : Region → Bool
-is_common Common = true
-is_common SwitchedErasable = false
-is_common SwitchedFixed = false
-is_common Elsewhere = false
+-- a write at a target may set a register; one at what is not known may
+abbrev pub may_write : BankRegister → Bool → Bool → Target → Bool
+may_write register indexed pair Unknown = true
+may_write register indexed pair (Plain n) = writes_bank register indexed pair n
+may_write register indexed pair (Cell n) = writes_bank register indexed pair n
+may_write register indexed pair (InBank bank) = false
 
-abbrev pub is_switched_erasable : Region → Bool
-is_switched_erasable SwitchedErasable = true
-is_switched_erasable Common = false
-is_switched_erasable SwitchedFixed = false
-is_switched_erasable Elsewhere = false
+-- a line may set a register: DTCB or DTCF, or a write
+abbrev pub may_set : BankRegister → Bool → Target → Parts → Bool
+may_set register indexed target parts =
+    sets_bank parts.role || (writes_erasable parts.role && may_write register indexed (takes_pair parts.role) target)
 
-abbrev pub is_switched_fixed : Region → Bool
-is_switched_fixed SwitchedFixed = true
-is_switched_fixed Common = false
-is_switched_fixed SwitchedErasable = false
-is_switched_fixed Elsewhere = false
-
--- some names, and the label of a word that a line reserves in a switched erasable bank
-abbrev pub with_erasable : Region → List (List ℕ) → Parts → List (List ℕ)
-with_erasable region names parts = if is_switched_erasable region && is_erase parts.role then with_field names parts.label else names
-
--- some names, and a label that stands for a place of a switched bank of fixed memory
-abbrev pub with_fixed : Region → List (List ℕ) → Parts → List (List ℕ)
-with_fixed region names parts = if is_switched_fixed region && not (is_equals parts.role) then with_field names parts.label else names
-
--- EB is 3, FB 4 and BB, which has both, 6; an exchange of two words has one of them from the place before it too, and Z, 5, before BB
-abbrev pub is_bank_place : BankRegister → ℕ → Bool
-is_bank_place Eb n = n == 2 || n == 3 || n == 5 || n == 6
-is_bank_place Fb n = nat_le 3 n && nat_le n 6
-
--- octal digits of one of these places
-abbrev pub is_bank_number : BankRegister → List ℕ → Bool
-is_bank_number register text = option_map_or (is_bank_place register) (digits_value 8 text) false
-
--- some names, and the label of a line that gives it one of these places
-abbrev pub with_bank_name : BankRegister → List (List ℕ) → Parts → List (List ℕ)
-with_bank_name register names parts =
-    if has_alone (is_equals parts.role) parts && is_bank_number register (text_of parts.operand)
-    then with_field names parts.label else names
-
--- some names, and where a line stores
-abbrev pub with_stored : List (List ℕ) → Parts → List (List ℕ)
-with_stored names parts = if stores parts.role then with_field names parts.operand else names
-
--- what is known of banks after a line
-abbrev pub banks_after : Banks → Parts → Banks
-banks_after banks parts = record {
-  region = region_after banks.region parts;
-  erasable = with_erasable banks.region banks.erasable parts;
-  fixed = with_fixed banks.region banks.fixed parts;
-  erasable_registers = with_bank_name Eb banks.erasable_registers parts;
-  fixed_registers = with_bank_name Fb banks.fixed_registers parts;
-  stored = with_stored banks.stored parts;
-  far = banks.far || sets_bank parts.role;
+-- what is known of banks after a line whose operand has a target
+abbrev pub banks_after : Banks → Target → Parts → Banks
+banks_after banks target parts = record {
+  indexed = indexed_after banks.indexed parts;
+  sets_erasable = banks.sets_erasable || may_set Eb banks.indexed target parts;
+  sets_fixed = banks.sets_fixed || may_set Fb banks.indexed target parts;
   instructs = banks.instructs || is_instruction parts;
 }
 
--- a source begins at 4000
 abbrev pub no_banks : Banks
-no_banks = record {
-  region = Common;
-  erasable = [];
-  fixed = [];
-  erasable_registers = [];
-  fixed_registers = [];
-  stored = [];
-  far = false;
-  instructs = false;
-}
+no_banks = record { indexed = false; sets_erasable = false; sets_fixed = false; instructs = false }
 
-abbrev pub banks_of : List Parts → Banks
-banks_of lines = fold (λ banks parts. banks_after banks parts) no_banks lines
+-- what some lines of a source say of banks, by the values of its symbols
+abbrev pub banks_of : Language → SymbolTable → List Parts → Banks
+banks_of language table lines = fold (λ banks parts. banks_after banks (target_in language table parts) parts) no_banks lines
 
--- a field is the number of one of these places, or one of some names
-abbrev pub is_bank_field : BankRegister → List (List ℕ) → List ℕ → Bool
-is_bank_field register names text = is_bank_number register text || is_among names text
+-- banks 2 and 3, which are reached whatever FB holds
+abbrev pub is_common : ℕ → Bool
+is_common bank = bank == 2 || bank == 3
 
--- some line may set a register: by DTCB or DTCF, or by a store at one of its places, by number or by one of some names
-abbrev pub may_set : BankRegister → List (List ℕ) → Banks → Bool
-may_set register names banks = banks.far || list_any (is_bank_field register names) banks.stored
+-- a register leads to a target: EB to a cell from 1400 on, FB to a place of a bank but 2 and 3, and 0, where a machine starts
+abbrev pub is_switched : BankRegister → Target → Bool
+is_switched Eb (Cell n) = nat_le 0o1400 n
+is_switched Fb (InBank bank) = not (bank == 0 || is_common bank)
+is_switched _ _ = false
 
-abbrev pub may_set_erasable : Banks → Bool
-may_set_erasable banks = may_set Eb banks.erasable_registers banks
+-- an instruction on such a place
+abbrev pub reaches : BankRegister → Target → Parts → Bool
+reaches register target parts = is_some parts.role && is_instruction parts && is_switched register target
 
-abbrev pub may_set_fixed : Banks → Bool
-may_set_fixed banks = may_set Fb banks.fixed_registers banks
+-- the place of a target is in bank 2 or 3; a number from 4000 to 7777 is one
+abbrev pub is_common_place : Target → Bool
+is_common_place (Plain n) = nat_le 0o4000 n && nat_lt n 0o10000
+is_common_place (InBank bank) = is_common bank
+is_common_place _ = false
 
--- an instruction on a word of a switched erasable bank, where no line sets EB
-abbrev pub needs_erasable_bank : Names → Parts → Bool
-needs_erasable_bank names parts = not names.sets_erasable && is_instruction parts && is_among names.banks.erasable (text_of parts.operand)
+-- a target is the number of one of them
+abbrev pub is_common_number : Target → Bool
+is_common_number (Plain n) = is_common n
+is_common_number _ = false
+
+-- words stand in bank 2 or 3 after a line whose operand has a target, where they do or do not before it
+abbrev pub common_after : Bool → Target → Parts → Bool
+common_after common target parts =
+    if is_setloc parts.role then is_common_place target
+    else if names_bank parts.role then is_common_number target
+    else common
+
+-- an instruction on a place of a switched erasable bank, where no line sets EB
+abbrev pub needs_erasable_bank : Banks → Target → Parts → Bool
+needs_erasable_bank banks target parts = not banks.sets_erasable && reaches Eb target parts
 
 -- an instruction of banks 2 and 3 on a place of a switched bank of fixed memory, where no line sets FB
-abbrev pub needs_fixed_bank : Names → Region → Parts → Bool
-needs_fixed_bank names region parts =
-    not names.sets_fixed && is_common region && is_instruction parts && is_among names.banks.fixed (text_of parts.operand)
+abbrev pub needs_fixed_bank : Banks → Bool → Target → Parts → Bool
+needs_fixed_bank banks common target parts = not banks.sets_fixed && common && reaches Fb target parts
 
 -- ## 7: a register's name at another place
 -- two numbers in octal are the same
@@ -382,9 +353,13 @@ is_register_field text = is_some (value_in registers text) || is_register_number
 abbrev pub calls : Parts → Bool
 calls parts = is_call parts.role && is_some parts.operand && not (is_register_field (text_of parts.operand))
 
+-- octal digits of 3 to 6
+abbrev pub is_way_number : List ℕ → Bool
+is_way_number text = option_map_or (λ n. nat_le 3 n && nat_le n 6) (digits_value 8 text) false
+
 -- FB, Z or BB by name, or a place of 3 to 6 by number
 abbrev pub is_way_register : List ℕ → Bool
-is_way_register text = option_map_or is_jump_register (value_in registers text) false || is_bank_number Fb text
+is_way_register text = option_map_or is_jump_register (value_in registers text) false || is_way_number text
 
 -- a line stores where the next instruction is found
 abbrev pub stores_way : Parts → Bool
@@ -603,13 +578,13 @@ filled_after filled parts =
     if moves_location parts.role then (if sets_vector parts then Some 0 else None)
     else option_and_then (λ n. if nat_lt n 4 then Some (n + word_count parts) else if gives_word parts then None else Some n) filled
 
--- what stands after a line
-abbrev pub before_next : Handlers → Before → Parts → Before
-before_next handlers before parts = record {
+-- what stands after a line whose operand has a target
+abbrev pub before_next : Handlers → Before → Target → Parts → Before
+before_next handlers before target parts = record {
   indexed = indexed_after before.indexed parts;
   filled = filled_after before.filled parts;
   left = if gives_word parts then leaves parts else before.left;
-  region = region_after before.region parts;
+  common = common_after before.common target parts;
   place = place_after before.place parts;
   bank = bank_after before.bank parts;
   unkept = unkept_after (unkept_at handlers before.unkept parts) parts;
@@ -622,7 +597,7 @@ at_start = record {
   indexed = false;
   filled = None;
   left = false;
-  region = Common;
+  common = true;
   place = Some 0o4000;
   bank = Some 2;
   unkept = none_unkept;
@@ -633,14 +608,12 @@ at_start = record {
 -- ## All
 -- the names of some lines: those for which one word is reserved, those that an operand is and those that are read; and what is known of
 -- banks, of routines of interrupts, of words that are reserved, and of what leads to words
-abbrev pub names_of : List Parts → Names
-names_of lines = record {
+abbrev pub names_of : Language → SymbolTable → List Parts → Names
+names_of language table lines = record {
   singles = fold (λ names parts. with_single names parts) [] lines;
   operands = fold (λ names parts. with_field names parts.operand) [] lines;
   read = fold (λ names parts. with_read names parts) [] lines;
-  banks = banks_of lines;
-  sets_erasable = may_set_erasable (banks_of lines);
-  sets_fixed = may_set_fixed (banks_of lines);
+  banks = banks_of language table lines;
   handlers = handlers_of lines;
   reserved = reserved_of lines;
   leads = leads_of lines;
@@ -677,37 +650,38 @@ flow_warnings language names before after line parts
     ++ warned_if (overruns before parts) line 5 parts.operator
 
 -- those of a bank that is not set, and of a channel that is a register
-abbrev pub place_warnings : Names → Before → ℕ → Parts → List Warning
-place_warnings names before line parts =
-    warned_if (needs_erasable_bank names parts) line 6 parts.operand
-    ++ warned_if (needs_fixed_bank names before.region parts) line 9 parts.operand
+abbrev pub place_warnings : Names → Before → Target → ℕ → Parts → List Warning
+place_warnings names before target line parts =
+    warned_if (needs_erasable_bank names.banks target parts) line 6 parts.operand
+    ++ warned_if (needs_fixed_bank names.banks before.common target parts) line 9 parts.operand
     ++ warned_if (stays_inside parts) line 10 parts.operand
 
--- the warnings of its operand
-abbrev pub operand_warnings : Names → Before → ℕ → Parts → List Warning
-operand_warnings names before line parts =
+-- the warnings of its operand, which has a target
+abbrev pub operand_warnings : Names → Before → Target → ℕ → Parts → List Warning
+operand_warnings names before target line parts =
     warned_if (reads_number before.indexed parts) line 2 parts.operand
     ++ warned_if (lacks_word names.singles parts) line 3 parts.operand
-    ++ place_warnings names before line parts
+    ++ place_warnings names before target line parts
 
 -- the warnings of a line, in the order of its fields
-abbrev pub line_warnings : Language → Bool → Names → Before → List Parts → ℕ → Parts → List Warning
-line_warnings language unused names before after line parts =
+abbrev pub line_warnings : Language → Bool → Names → Before → Target → List Parts → ℕ → Parts → List Warning
+line_warnings language unused names before target after line parts =
     name_warnings language unused names before line parts ++ flow_warnings language names before after line parts
-    ++ operand_warnings names before line parts
+    ++ operand_warnings names before target line parts
 
--- the warnings of some lines of a source of a language, the first of them with a number
-abbrev pub warned_lines : Language → Bool → Names → Before → ℕ → List Parts → List Warning
-warned_lines language unused names before line [] = []
-warned_lines language unused names before line (parts ∷ rest) =
-    line_warnings language unused names before rest line parts
-    ++ warned_lines language unused names (before_next names.handlers before parts) (line + 1) rest
+-- the warnings of some lines of a source of a language, the first of them with a number, by the values of its symbols
+abbrev pub warned_lines : Language → Bool → SymbolTable → Names → Before → ℕ → List Parts → List Warning
+warned_lines language unused table names before line [] = []
+warned_lines language unused table names before line (parts ∷ rest) =
+    line_warnings language unused names before (target_in language table parts) rest line parts
+    ++ warned_lines language unused table names (before_next names.handlers before (target_in language table parts) parts) (line + 1)
+    rest
 
 -- the lines of a source that are looked at, taken apart
 abbrev pub lines_apart : Language → List ℕ → List Parts
 lines_apart language source = map (parts_for language) (looked_at language source)
 
--- the warnings of a source of a language, of as many lines as are looked at for faults
-unfoldable pub warnings : Language → Bool → List ℕ → List Warning
-warnings language unused source = warned_lines language unused (names_of (lines_apart language source)) at_start 1
-    (lines_apart language source)
+-- the warnings of a source of a language, of as many lines as are looked at for faults, by the values of its symbols
+unfoldable pub warnings : Language → Bool → SymbolTable → List ℕ → List Warning
+warnings language unused table source = warned_lines language unused table (names_of language table (lines_apart language source)) at_start
+    1 (lines_apart language source)

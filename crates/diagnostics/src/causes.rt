@@ -7,23 +7,19 @@ ghost use Rattle.agc_text.specs.Views.{piece};
 ghost use Rattle.yayul.specs.Readings.{parts_in};
 ghost use Rattle.diagnostics.specs.Causes.{byte_cause, near_operator, begins_with_mark, label_cause, operator_cause};
 ghost use Rattle.diagnostics.specs.Causes.{digits_cause, place_cause, operand_cause, symbol_cause, undefined_cause};
-ghost use Rattle.diagnostics.specs.Causes.{definition_cause, is_another_form, early_cause, below_cause, bank_cause};
-ghost use Rattle.diagnostics.specs.Causes.{room_cause, kind_cause, range_cause, cause_of_kind, fault_cause};
-ghost use Rattle.diagnostics.specs.Causes.{near_label, said, cured, cured_by, text_of, holds, begins, holds_sign, is_signed};
-ghost use Rattle.diagnostics.specs.Causes.{is_label, is_octal_bank, is_decimal_bank, has_parted_offset, lists_numbers};
-ghost use Rattle.diagnostics.specs.Causes.{without_colon, long_cause, is_foreign_comment, has_foreign_comment};
-ghost use Rattle.diagnostics.specs.Causes.{is_beyond_octal, foreign_operators};
+ghost use Rattle.diagnostics.specs.Causes.{definition_cause, definition_cure, is_another_form, early_cause};
+ghost use Rattle.diagnostics.specs.Causes.{below_cause, bank_cause, room_cause, kind_cause, range_cause, cause_of_kind};
+ghost use Rattle.diagnostics.specs.Causes.{fault_cause, near_label, said, cured, cured_by, text_of, holds, begins};
+ghost use Rattle.diagnostics.specs.Causes.{holds_sign, is_signed, is_label, is_octal_bank, is_decimal_bank};
+ghost use Rattle.diagnostics.specs.Causes.{has_parted_offset, lists_numbers, without_colon, long_cause};
+ghost use Rattle.diagnostics.specs.Causes.{is_foreign_comment, has_foreign_comment, is_beyond_octal, foreign_operators};
 ghost use Rattle.diagnostics.specs.Views.{cause_in, entries};
 
+use crate::caret::front;
+use crate::explain::refusals::meaning;
 use crate::names::{NameSet, is_short};
 use crate::operators::near_operator;
-use crate::refusals::meaning;
-use crate::roles::{
-    is_block, is_decimal, is_erase, is_octal, leads_on_to, leads_to_fixed, names_bank, reads,
-    reads_erasable, refuses_label, subtracts, takes_channel, takes_erasable_place,
-    takes_fixed_place, takes_nothing, writes_erasable,
-};
-use crate::texts::front;
+use crate::roles::Class;
 use agc_text::{Field, LINE_LENGTH, Number, decimal_value, octal_value};
 use symbols::register_place;
 use yayul::{FaultKind, Finding, Language, Reading, is_digits, is_operator};
@@ -224,7 +220,7 @@ fn label_cause(parts: &Reading<'_>) -> Cause
             b"% gives a name its value, and no name stands in the first column",
             b"NAME % @",
         )
-    } else if refuses_label(parts.role) {
+    } else if Class::RefusesLabel.has(parts.role) {
         if is_label(text_of(parts.label)) {
             Cause::cured(b"% takes no label", b"put & on the next line")
         } else {
@@ -280,22 +276,22 @@ fn digits_cause(parts: &Reading<'_>) -> Cause
             b"% takes one number, and nothing after it",
             b"a comment begins with #",
         )
-    } else if is_octal(parts.role) && is_signed(text_of(parts.operand)) {
+    } else if Class::Octal.has(parts.role) && is_signed(text_of(parts.operand)) {
         Cause::cured(
             b"OCT takes no sign",
             b"DEC takes one; a minus complements the word",
         )
-    } else if is_octal(parts.role) {
+    } else if Class::Octal.has(parts.role) {
         Cause::cured(
             b"OCT takes octal digits, 0 to 7, and @ is no such number",
             b"DEC takes decimal digits",
         )
-    } else if is_decimal(parts.role) {
+    } else if Class::Decimal.has(parts.role) {
         Cause::said(
             b"DEC takes a whole number, or a fraction of 1 to 9 decimals as .75, and @ is neither",
         )
     } else if is_beyond_octal(text_of(parts.operand)) {
-        if is_decimal_bank(parts) && !is_block(parts.role) {
+        if is_decimal_bank(parts) && !Class::Block.has(parts.role) {
             Cause::cured(
                 b"banks are octal, and @ has a digit 8 or 9",
                 b"% @D takes it as decimal",
@@ -353,16 +349,19 @@ fn operand_cause(parts: &Reading<'_>) -> Cause
             b"the operand does not end where a comment was meant to begin",
             b"a comment begins with #",
         )
-    } else if takes_nothing(parts.role) {
+    } else if Class::TakesNothing.has(parts.role) {
         Cause::cured(b"% takes no operand", b"a comment begins with #")
-    } else if is_erase(parts.role) {
+    } else if Class::Erase.has(parts.role) {
         Cause::cured(
             b"ERASE takes nothing, or a plus sign and a number",
             b"ERASE reserves one word, ERASE +1 two",
         )
     } else if parts.operand.is_none() {
         Cause::said(b"% needs an operand")
-    } else if is_octal(parts.role) || is_decimal(parts.role) || names_bank(parts.role) {
+    } else if Class::Octal.has(parts.role)
+        || Class::Decimal.has(parts.role)
+        || Class::NamesBank.has(parts.role)
+    {
         digits_cause(parts)
     } else {
         place_cause(parts)
@@ -396,28 +395,22 @@ fn is_another_form(parts: &Reading<'_>) -> bool
 fn definition_cause(parts: &Reading<'_>) -> Cause
     ensures { cause_in result ≡ definition_cause (parts_in parts.now) }
 {
-    if writes_erasable(parts.role) || reads_erasable(parts.role) {
-        Cause::cured(
-            b"no line defines @",
-            b"@ ERASE, among lines after SETLOC 100, reserves a word of this name",
-        )
-    } else if takes_channel(parts.role) {
-        Cause::cured(
-            b"no line defines @",
-            b"@ EQUALS and an octal number give a channel this name",
-        )
-    } else if leads_on_to(parts.role) {
-        Cause::cured(
-            b"no line defines @",
-            b"@ in the first column of the line to which % is to lead",
-        )
-    } else if reads(parts.role) {
-        Cause::cured(
-            b"no line defines @",
-            b"of a number: @ DEC 5, behind the last jump, and of a word that changes: @ ERASE, after SETLOC 100",
-        )
+    Cause::cured(b"no line defines @", definition_cure(parts))
+}
+
+fn definition_cure(parts: &Reading<'_>) -> &'static [u8]
+    ensures { result.now ≡ definition_cure (parts_in parts.now) }
+{
+    if Class::WritesErasable.has(parts.role) || Class::ReadsErasable.has(parts.role) {
+        b"@ ERASE, among lines after SETLOC 100, reserves a word of this name"
+    } else if Class::TakesChannel.has(parts.role) {
+        b"@ EQUALS and an octal number give a channel this name"
+    } else if Class::LeadsOnTo.has(parts.role) {
+        b"@ in the first column of the line to which % is to lead"
+    } else if Class::Reads.has(parts.role) {
+        b"of a number: @ DEC 5, behind the last jump, and of a word that changes: @ ERASE, after SETLOC 100"
     } else {
-        Cause::said(b"no line defines @")
+        b""
     }
 }
 
@@ -471,7 +464,7 @@ pub(crate) fn below_cause() -> Cause
 fn bank_cause(parts: &Reading<'_>) -> Cause
     ensures { cause_in result ≡ bank_cause (parts_in parts.now) }
 {
-    if is_block(parts.role) {
+    if Class::Block.has(parts.role) {
         if is_octal_bank(parts) {
             Cause::cured(b"BLOCK takes 2 and 3, and @ is neither", b"BANK @")
         } else {
@@ -486,7 +479,7 @@ fn bank_cause(parts: &Reading<'_>) -> Cause
 fn room_cause(parts: &Reading<'_>) -> Cause
     ensures { cause_in result ≡ room_cause (parts_in parts.now) }
 {
-    if is_erase(parts.role) {
+    if Class::Erase.has(parts.role) {
         Cause::said(b"ERASE passes the end of erasable memory, 3777")
     } else if parts.operator.is_none() {
         Cause::said(b"& stands past the end of its bank, or of erasable memory")
@@ -502,30 +495,30 @@ fn room_cause(parts: &Reading<'_>) -> Cause
 fn kind_cause(parts: &Reading<'_>) -> Cause
     ensures { cause_in result ≡ kind_cause (parts_in parts.now) }
 {
-    if is_erase(parts.role) {
+    if Class::Erase.has(parts.role) {
         Cause::cured(
             b"ERASE reserves erasable words, and the location is in fixed memory",
             b"SETLOC and a place below 4000 before it",
         )
-    } else if takes_channel(parts.role) {
+    } else if Class::TakesChannel.has(parts.role) {
         Cause::said(b"% takes a channel, 0 to 777, and @^ is none")
-    } else if takes_erasable_place(parts.role) {
+    } else if Class::TakesErasablePlace.has(parts.role) {
         Cause::said(b"% takes an erasable place, and @^ is none")
-    } else if takes_fixed_place(parts.role) {
+    } else if Class::TakesFixedPlace.has(parts.role) {
         Cause::said(b"% takes a fixed place, and @^ is none")
-    } else if leads_to_fixed(parts.role) {
+    } else if Class::LeadsToFixed.has(parts.role) {
         Cause::said(b"% leads to fixed memory, 2000 and up, and @^ is not there")
-    } else if writes_erasable(parts.role) {
+    } else if Class::WritesErasable.has(parts.role) {
         Cause::cured(
             b"% writes to erasable memory, and @^ is not there",
             b"reserve the word there: SETLOC and a place below 4000, and ERASE",
         )
-    } else if subtracts(parts.role) {
+    } else if Class::Subtracts.has(parts.role) {
         Cause::cured(
             b"% takes a word of erasable memory, and @^ is not there",
             b"CS @ and AD subtract a constant: X less @ is CS @, AD X, without EXTEND",
         )
-    } else if reads_erasable(parts.role) {
+    } else if Class::ReadsErasable.has(parts.role) {
         Cause::cured(
             b"% takes a word of erasable memory, and @^ is not there",
             b"copy the word to erasable memory first",
@@ -539,13 +532,13 @@ fn kind_cause(parts: &Reading<'_>) -> Cause
 fn range_cause(parts: &Reading<'_>) -> Cause
     ensures { cause_in result ≡ range_cause (parts_in parts.now) }
 {
-    if is_octal(parts.role) {
+    if Class::Octal.has(parts.role) {
         Cause::said(b"a word holds 77777 at most, and @ is more")
-    } else if is_decimal(parts.role) && holds(b'.', text_of(parts.operand)) {
+    } else if Class::Decimal.has(parts.role) && holds(b'.', text_of(parts.operand)) {
         Cause::said(b"a fraction of a word comes to less than 1 in 14 bits, and @ does not")
-    } else if is_decimal(parts.role) {
+    } else if Class::Decimal.has(parts.role) {
         Cause::said(b"a word holds -16383 to 16383, and @ is beyond")
-    } else if takes_nothing(parts.role) {
+    } else if Class::TakesNothing.has(parts.role) {
         Cause::said(b"% goes to the next word, and this is the last of its bank")
     } else if parts.offset.is_some() || is_signed(text_of(parts.operand)) {
         Cause::said(b"this leads out of its bank, or of the numbers")
@@ -629,7 +622,7 @@ fn has_parted_offset(parts: &Reading<'_>) -> bool
 fn lists_numbers(parts: &Reading<'_>) -> bool
     ensures { result ≡ lists_numbers (parts_in parts.now) }
 {
-    (is_octal(parts.role) || is_decimal(parts.role))
+    (Class::Octal.has(parts.role) || Class::Decimal.has(parts.role))
         && (holds(b',', text_of(parts.operand)) || is_digits(text_of(parts.offset)))
 }
 

@@ -2,14 +2,14 @@
 
 ghost use Rattle.std.specs.Prelude.{◌≡◌, is_some};
 ghost use Rattle.diagnostics.specs.FeedCauses.{is_decimal, taken_words, slip_cause, cycle_cause, first_cause};
-ghost use Rattle.diagnostics.specs.FeedCauses.{factor_cause, name_cause, channel_cause, word_cause, request_cause};
-ghost use Rattle.diagnostics.specs.FeedCauses.{missing_cause, surplus_cause, not_taken};
+ghost use Rattle.diagnostics.specs.FeedCauses.{factor_cause, name_cause, channel_cause, word_cause};
+ghost use Rattle.diagnostics.specs.FeedCauses.{not_taken};
 ghost use Rattle.diagnostics.specs.Views.{cause_in};
 
 use crate::causes::{Cause, is_beyond_octal};
+use crate::explain::refusals::meaning;
 use crate::names::is_among;
 use crate::nearness::{is_in_capitals, near_in};
-use crate::refusals::meaning;
 use agc_text::decimal_value;
 use feed::{Counter, Sequence, Why, input_names};
 
@@ -31,11 +31,14 @@ pub(crate) fn slip_cause(why: Why, text: &[u8]) -> Cause
         Why::Name => name_cause(text),
         Why::Channel => channel_cause(text),
         Why::Word => word_cause(text),
-        Why::Request => request_cause(),
+        Why::Request => Cause::said(b"~ is no interrupt, which are 1 to 10"),
         Why::Sequence(counter) => not_taken(b"~ is no sequence", counter),
         Why::NotTaken(counter) => not_taken(b"the counter does not take ~", counter),
-        Why::Missing => missing_cause(),
-        Why::Surplus => surplus_cause(),
+        Why::Missing => Cause::cured(
+            b"nothing follows ~",
+            b"CHAN with a channel and a word, RUPT with a number, or a counter with a sequence",
+        ),
+        Why::Surplus => Cause::cured(b"~ follows the whole input", b"a comment begins with #"),
     }
 }
 
@@ -127,27 +130,6 @@ fn word_cause(text: &[u8]) -> Cause
     } else {
         Cause::said(b"~ is no word, which is 0 to 77777 in octal")
     }
-}
-
-fn request_cause() -> Cause
-    ensures { cause_in result ≡ request_cause }
-{
-    Cause::said(b"~ is no interrupt, which are 1 to 10")
-}
-
-fn missing_cause() -> Cause
-    ensures { cause_in result ≡ missing_cause }
-{
-    Cause::cured(
-        b"nothing follows ~",
-        b"CHAN with a channel and a word, RUPT with a number, or a counter with a sequence",
-    )
-}
-
-fn surplus_cause() -> Cause
-    ensures { cause_in result ≡ surplus_cause }
-{
-    Cause::cured(b"~ follows the whole input", b"a comment begins with #")
 }
 
 // What is no sequence that a counter takes.

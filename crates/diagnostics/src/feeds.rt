@@ -8,30 +8,29 @@ ghost use Rattle.agc_text.specs.Views.{piece};
 ghost use Rattle.feed.specs.Feed.{inputs, most_bytes};
 ghost use Rattle.yayul.specs.Survey.{wrong_place};
 ghost use Rattle.diagnostics.specs.Report.{text_at};
-ghost use Rattle.yayul.specs.Readings.{parts_in};
-ghost use Rattle.diagnostics.specs.FeedReport.{field_span, wrong_field, slipped, wrong_line, is_earlier_input, last_before};
-ghost use Rattle.diagnostics.specs.FeedReport.{early, early_line, earlier_place, wrong_at, wrong_text, surplus_line};
-ghost use Rattle.diagnostics.specs.FeedReport.{fault_text, fault_of, feed_report, feed_faults};
-ghost use Rattle.diagnostics.specs.Views.{cause_in, place_in, wrong_in};
+ghost use Rattle.diagnostics.specs.FeedReport.{field_span, wrong_field, slipped, wrong_line, is_earlier_input};
+ghost use Rattle.diagnostics.specs.FeedReport.{last_before, early, early_line, earlier_place, wrong_text};
+ghost use Rattle.diagnostics.specs.FeedReport.{surplus_line, fault_text, fault_of, feed_report, feed_faults};
+ghost use Rattle.diagnostics.specs.Views.{cause_in, lines_in, place_in, wrong_in};
 ghost use Rattle.diagnostics.specs.Causes.{said, text_of};
 ghost use Rattle.diagnostics.specs.Refusals.{meaning};
 ghost use Rattle.agc_text.specs.Bytes.{is_text_byte};
 
+use crate::caret::{DIGITS, push_finding};
 use crate::causes::{Cause, byte_cause, long_cause};
+use crate::explain::refusals::meaning;
 use crate::feed_causes::slip_cause;
-use crate::findings::{line_texts, text_at};
 use crate::kinds::{is_input, push_kind_of_feed};
-use crate::objects::{Place, place_of};
-use crate::refusals::meaning;
-use crate::texts::{DIGITS, push_finding};
-use crate::told::{Severity, Told};
+use crate::objects::{Note, Place, place_of};
+use crate::reporting::{line_texts, text_at};
+use crate::told::{Severity, Source, Told};
 use agc_text::{Field, LINE_LENGTH, before_comment, is_text, next_field, next_line};
 use arrayvec::ArrayVec;
 use feed::{FeedFault, Slip, line_slip};
 use json_text::Notation;
 use std::alloc::{AllocError, Global};
 use words::push_decimal;
-use yayul::{Language, Reading, Span, reading_of};
+use yayul::{Language, Span, reading_of};
 
 /// The most inputs of a feed.
 const MOST_INPUTS: u32 = 65_536;
@@ -64,8 +63,14 @@ pub fn feed_report(
     match first_fault(alloc, text)? {
         Some(fault) => {
             let texts = line_texts(alloc, text)?;
-            push_fault(&mut out, notation, name, text, &texts, fault)?;
-            push_kind_of_feed(&mut out, notation, name, text, &texts)?;
+            let source = Source {
+                notation,
+                language: Language::Standard,
+                name,
+                texts: &texts,
+            };
+            push_fault(&mut out, &source, text, fault)?;
+            push_kind_of_feed(&mut out, &source, text)?;
             Ok((out, 1))
         }
         None => Ok((out, 0)),
@@ -87,138 +92,104 @@ fn first_fault(alloc: Global, text: &[u8]) -> Result<Option<FeedFault>, AllocErr
 // Appends the lines of a fault.
 fn push_fault(
     out: &mut Vec<u8>,
-    notation: Notation,
-    name: &[u8],
+    source: &Source<'_, '_, '_>,
     text: &[u8],
-    texts: &[&[u8]],
     fault: FeedFault,
 ) -> Result<(), AllocError>
     requires few { length text.now ≤ most_bytes }
-    requires lines { map (λ t. t.now) texts.now ≡ lines text.now }
+    requires lines { lines_in source.now ≡ lines text.now }
     ensures { OnOk result (out.new.items ≡ out.old.items
-        ++ fault_text notation name.now (map (λ t. t.now) texts.now) fault) }
+        ++ fault_text source.now.notation source.now.name.now (lines_in source.now) fault) }
 {
     match fault {
-        FeedFault::BadLine(line) => push_wrong_line(out, notation, name, texts, line, 30),
-        FeedFault::OutOfOrder(line) => push_early(out, notation, name, texts, line),
-        FeedFault::TooMany => push_surplus(out, notation, name, texts, surplus_line(text), 32),
-        FeedFault::WrongCounter(line) => push_wrong_line(out, notation, name, texts, line, 33),
-        FeedFault::TooManySeries(line) => push_surplus(out, notation, name, texts, line, 35),
+        FeedFault::BadLine(line) => push_wrong_line(out, source, line, 30),
+        FeedFault::OutOfOrder(line) => push_early(out, source, line),
+        FeedFault::TooMany => push_surplus(out, source, surplus_line(text), 32),
+        FeedFault::WrongCounter(line) => push_wrong_line(out, source, line, 33),
+        FeedFault::TooManySeries(line) => push_surplus(out, source, line, 35),
         FeedFault::NoMemory | FeedFault::ReadFailed | FeedFault::TooLong => Ok(()),
     }
 }
 
 // Appends the lines of a fault of a number on a line.
-fn push_wrong(
-    out: &mut Vec<u8>,
-    notation: Notation,
-    name: &[u8],
-    texts: &[&[u8]],
-    line: u32,
-    number: u8,
-    wrong: &Wrong<'_>,
-    place: Option<Place<'_>>,
-) -> Result<(), AllocError>
-    ensures { OnOk result (out.new.items ≡ out.old.items
-        ++ wrong_text notation name.now (map (λ t. t.now) texts.now) line number (wrong_in wrong.now)
-        (option_map place_in place.entry)) }
-{
-    let text = text_at(texts, line);
-    let parts = reading_of(Language::Standard, text);
-    push_wrong_at(
-        out, notation, name, text, &parts, line, number, wrong, place,
-    )
-}
-
-// Appends the lines of a fault of a number on a line, which has a number too and some fields.
 #[tactic(auto, unfolding(crate::specs::FeedReport::wrong_at))]
-fn push_wrong_at(
+fn push_wrong<'a>(
     out: &mut Vec<u8>,
-    notation: Notation,
-    name: &[u8],
-    text: &[u8],
-    parts: &Reading<'_>,
+    source: &Source<'_, '_, 'a>,
     line: u32,
     number: u8,
     wrong: &Wrong<'_>,
-    place: Option<Place<'_>>,
+    other: Option<Place<'a>>,
 ) -> Result<(), AllocError>
-    ensures { OnOk result (out.new.items ≡ out.old.items
-        ++ wrong_at notation name.now text.now (parts_in parts.now) line number (wrong_in wrong.now)
-        (option_map place_in place.entry)) }
+    ensures { OnOk result (out.new.items ≡ out.old.items ++ wrong_text source.now.notation source.now.name.now
+        (lines_in source.now) line number (wrong_in wrong.now) (option_map place_in other.entry)) }
 {
+    let text = text_at(source.texts, line);
+    let Wrong {
+        span,
+        beside,
+        cause,
+    } = *wrong;
     let told = Told {
         severity: Severity::Error,
         number,
         line,
-        span: wrong.span,
+        span,
     };
-    push_finding(
-        out,
-        notation,
-        name,
+    let note = Note {
+        told,
+        name: source.name,
         text,
-        parts,
-        wrong.beside,
-        place,
-        &told,
-        &wrong.cause,
-    )
+        parts: reading_of(Language::Standard, text),
+        beside,
+        other,
+        cause,
+    };
+    push_finding(out, source.notation, &note)
 }
 
 // Appends the lines of a fault of a line that is no input and no series, or whose counter does not take the sequence.
 fn push_wrong_line(
     out: &mut Vec<u8>,
-    notation: Notation,
-    name: &[u8],
-    texts: &[&[u8]],
+    source: &Source<'_, '_, '_>,
     line: u32,
     number: u8,
 ) -> Result<(), AllocError>
-    ensures { OnOk result (out.new.items ≡ out.old.items
-        ++ wrong_text notation name.now (map (λ t. t.now) texts.now) line number
-        (wrong_line (text_at (map (λ t. t.now) texts.now) line)) None) }
+    ensures { OnOk result (out.new.items ≡ out.old.items ++ wrong_text source.now.notation source.now.name.now
+        (lines_in source.now) line number (wrong_line (text_at (lines_in source.now) line)) None) }
 {
-    let wrong = wrong_line(text_at(texts, line));
-    push_wrong(out, notation, name, texts, line, number, &wrong, None)
+    let wrong = wrong_line(text_at(source.texts, line));
+    push_wrong(out, source, line, number, &wrong, None)
 }
 
 // Appends the lines of a fault of a line that is one too many.
 fn push_surplus(
     out: &mut Vec<u8>,
-    notation: Notation,
-    name: &[u8],
-    texts: &[&[u8]],
+    source: &Source<'_, '_, '_>,
     line: u32,
     number: u8,
 ) -> Result<(), AllocError>
     ensures { OnOk result (out.new.items ≡ out.old.items
-        ++ wrong_text notation name.now (map (λ t. t.now) texts.now) line number
-        (wrong_field (text_at (map (λ t. t.now) texts.now) line) 0 (said (meaning number))) None) }
+        ++ wrong_text source.now.notation source.now.name.now (lines_in source.now) line number
+        (wrong_field (text_at (lines_in source.now) line) 0 (said (meaning number))) None) }
 {
-    let wrong = wrong_field(text_at(texts, line), 0, Cause::said(meaning(number)));
-    push_wrong(out, notation, name, texts, line, number, &wrong, None)
+    let wrong = wrong_field(text_at(source.texts, line), 0, Cause::said(meaning(number)));
+    push_wrong(out, source, line, number, &wrong, None)
 }
 
 // Appends the lines of a fault of a line whose cycle is below that of an earlier one.
 #[tactic(auto, using(words::proofs::Digits::short_decimal))]
-fn push_early(
-    out: &mut Vec<u8>,
-    notation: Notation,
-    name: &[u8],
-    texts: &[&[u8]],
-    line: u32,
-) -> Result<(), AllocError>
+fn push_early(out: &mut Vec<u8>, source: &Source<'_, '_, '_>, line: u32) -> Result<(), AllocError>
     ensures { OnOk result (out.new.items ≡ out.old.items
-        ++ wrong_text notation name.now (map (λ t. t.now) texts.now) line 31 (early (map (λ t. t.now) texts.now) line)
-        (Some (earlier_place (map (λ t. t.now) texts.now) line))) }
+        ++ wrong_text source.now.notation source.now.name.now (lines_in source.now) line 31
+        (early (lines_in source.now) line) (Some (earlier_place (lines_in source.now) line))) }
 {
-    let earlier = last_before(texts, line);
+    let earlier = last_before(source.texts, line);
     let mut digits = ArrayVec::<u8, DIGITS>::new();
     push_decimal(&mut digits, earlier);
-    let place = Some(place_of(Language::Standard, texts, earlier));
-    let wrong = early_line(text_at(texts, line), digits.as_slice());
-    push_wrong(out, notation, name, texts, line, 31, &wrong, place)
+    let place = Some(place_of(Language::Standard, source.texts, earlier));
+    let wrong = early_line(text_at(source.texts, line), digits.as_slice());
+    push_wrong(out, source, line, 31, &wrong, place)
 }
 
 // A line whose cycle is below that of an earlier one, the number of which has some digits.

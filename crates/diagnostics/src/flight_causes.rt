@@ -5,12 +5,12 @@ ghost use Rattle.std.specs.Option.{option_map_or};
 ghost use Rattle.agc_text.specs.Digits.{digits_value};
 ghost use Rattle.agc_text.specs.Tables.{value_in};
 ghost use Rattle.yayul.specs.Readings.{parts_in};
-ghost use Rattle.diagnostics.specs.FlightCauses.{unsure_operators, form_cause, has_ten_alone, signed_label_cause};
-ghost use Rattle.diagnostics.specs.FlightCauses.{has_signed_label, has_octal_alone, has_signed_alone, decimal_cause};
+ghost use Rattle.diagnostics.specs.FlightCauses.{unsure_operators, form_cause, signed_label_cause};
+ghost use Rattle.diagnostics.specs.FlightCauses.{has_signed_label, has_signed_alone, decimal_cause};
 ghost use Rattle.diagnostics.specs.FlightCauses.{flight_operand_cause, flight_label_cause, flight_operator_cause};
 ghost use Rattle.diagnostics.specs.FlightCauses.{flight_early_cause, waiting_cause, flight_kind_cause, is_moved_back};
-ghost use Rattle.diagnostics.specs.FlightCauses.{is_between_banks, flight_range_cause, flight_cause, is_of_flight};
-ghost use Rattle.diagnostics.specs.FlightCauses.{alternatives, is_moved_far, is_of_form, is_symbol_alone, told_cause};
+ghost use Rattle.diagnostics.specs.FlightCauses.{is_between_banks, flight_range_cause, flight_cause};
+ghost use Rattle.diagnostics.specs.FlightCauses.{alternatives, is_moved_far, is_of_form, told_cause};
 ghost use Rattle.diagnostics.specs.Report.{flight_clause};
 ghost use Rattle.diagnostics.specs.Views.{cause_in, entries};
 
@@ -19,10 +19,7 @@ use crate::causes::{
     symbol_cause, text_of, value_in,
 };
 use crate::names::is_short;
-use crate::roles::{
-    is_count_complement, is_equals, is_erase, is_octal, is_octal_pair, is_verb_noun, names_bank,
-    refuses_label, takes_decimal, takes_low_bank,
-};
+use crate::roles::Class;
 use agc_text::{Number, decimal_value, octal_value};
 use yayul::{FaultKind, Finding, Language, Reading, has_flight_form, is_count};
 
@@ -37,19 +34,11 @@ pub(crate) fn told_cause(
     ensures { cause_in result ≡ told_cause language near text.now (parts_in parts.now) finding.now }
 {
     match language {
-        Language::Standard => fault_cause(text, parts, near, finding).with_flight(is_of_flight(
-            text,
-            finding.kind,
-        )),
+        Language::Standard => fault_cause(text, parts, near, finding).with_flight(
+            is_of_form(finding.kind) && has_flight_form(text),
+        ),
         Language::Flight => flight_cause(near, text, parts, finding),
     }
-}
-
-// Whether a fault is one of a line's form, and the language of flight programs takes that form.
-fn is_of_flight(text: &[u8], kind: FaultKind) -> bool
-    ensures { result ≡ is_of_flight text.now kind }
-{
-    is_of_form(kind) && has_flight_form(text)
 }
 
 // Whether a fault is one of a line's form: its length, its label, its operator or its operand.
@@ -155,7 +144,7 @@ fn alternative_of(operator: &[u8]) -> &'static [u8]
 fn flight_early_cause(near: bool, text: &[u8], parts: &Reading<'_>, finding: &Finding) -> Cause
     ensures { cause_in result ≡ flight_early_cause near text.now (parts_in parts.now) finding.now }
 {
-    if is_equals(parts.role) {
+    if Class::Equals.has(parts.role) {
         waiting_cause(near, parts)
     } else {
         fault_cause(text, parts, near, finding)
@@ -177,22 +166,15 @@ fn has_signed_label(parts: &Reading<'_>) -> bool
     ensures { result ≡ has_signed_label (parts_in parts.now) }
 {
     is_signed(text_of(parts.label))
-        && !refuses_label(parts.role)
+        && !Class::RefusesLabel.has(parts.role)
         && !holds(b'$', text_of(parts.label))
-}
-
-// Decimal digits, and an `E` after them.
-fn has_ten_alone(parts: &Reading<'_>) -> bool
-    ensures { result ≡ has_ten_alone (parts_in parts.now) }
-{
-    decimal_value(text_of(parts.operand)).is_some() && begins(b'E', text_of(parts.offset))
 }
 
 // E16 of a decimal constant.
 fn decimal_cause(parts: &Reading<'_>) -> Cause
     ensures { cause_in result ≡ decimal_cause (parts_in parts.now) }
 {
-    if has_ten_alone(parts) {
+    if decimal_value(text_of(parts.operand)).is_some() && begins(b'E', text_of(parts.offset)) {
         Cause::cured(
             b"digits with E need a point or B: whether yaYUL makes a whole number of them or a fraction is not known for \
                 sure",
@@ -209,12 +191,12 @@ fn flight_operand_cause(near: bool, text: &[u8], parts: &Reading<'_>, finding: &
 {
     if has_foreign_comment(parts) {
         fault_cause(text, parts, near, finding)
-    } else if is_erase(parts.role) {
+    } else if Class::Erase.has(parts.role) {
         Cause::cured(
             b"ERASE takes nothing, or a plus sign and a number: of a range perhaps all words (60 to 90 in 100)",
             b"ERASE reserves one word, ERASE +1 two",
         )
-    } else if names_bank(parts.role) && parts.operand.is_none() {
+    } else if Class::NamesBank.has(parts.role) && parts.operand.is_none() {
         Cause::said(
             b"% without a bank goes on in that of the location, which is in erasable memory",
         )
@@ -229,18 +211,18 @@ fn flight_operand_cause(near: bool, text: &[u8], parts: &Reading<'_>, finding: &
 fn form_cause(near: bool, text: &[u8], parts: &Reading<'_>, finding: &Finding) -> Cause
     ensures { cause_in result ≡ form_cause near text.now (parts_in parts.now) finding.now }
 {
-    if takes_decimal(parts.role) {
+    if Class::TakesDecimal.has(parts.role) {
         decimal_cause(parts)
-    } else if has_octal_alone(parts) {
+    } else if Class::Octal.has(parts.role) && parts.offset.is_none() {
         Cause::cured(
             b"% takes octal digits, 0 to 7, or a sign and such digits, and @ is neither",
             b"DEC takes decimal digits",
         )
-    } else if is_octal_pair(parts.role) {
+    } else if Class::OctalPair.has(parts.role) {
         Cause::said(
             b"2OCT takes ten octal digits, 0 to 7, in one field: fewer perhaps with zeros before them (85 in 100)",
         )
-    } else if is_verb_noun(parts.role) {
+    } else if Class::VerbNoun.has(parts.role) {
         Cause::said(
             b"VN takes four decimal digits, two of the verb and two of the noun: fewer perhaps with zeros before \
                 them (85 in 100)",
@@ -255,13 +237,6 @@ fn form_cause(near: bool, text: &[u8], parts: &Reading<'_>, finding: &Finding) -
     } else {
         fault_cause(text, parts, near, finding)
     }
-}
-
-// Whether the operator takes octal digits, and no offset stands.
-fn has_octal_alone(parts: &Reading<'_>) -> bool
-    ensures { result ≡ has_octal_alone (parts_in parts.now) }
-{
-    is_octal(parts.role) && parts.offset.is_none()
 }
 
 // Whether the operand has a sign and is no count, and no offset stands.
@@ -287,12 +262,12 @@ fn waiting_cause(near: bool, parts: &Reading<'_>) -> Cause
 fn flight_kind_cause(near: bool, text: &[u8], parts: &Reading<'_>, finding: &Finding) -> Cause
     ensures { cause_in result ≡ flight_kind_cause near text.now (parts_in parts.now) finding.now }
 {
-    if takes_low_bank(parts.role) {
+    if Class::TakesLowBank.has(parts.role) {
         Cause::said(
             b"% takes a fixed place of a bank below 30, and @^ is none: from bank 30 on yaYUL perhaps adds 060 \
                 (65 in 100)",
         )
-    } else if is_count_complement(parts.role) {
+    } else if Class::CountComplement.has(parts.role) {
         Cause::said(b"% takes a word of erasable memory, and @^ is not there")
     } else {
         fault_cause(text, parts, near, finding)
@@ -303,11 +278,11 @@ fn flight_kind_cause(near: bool, text: &[u8], parts: &Reading<'_>, finding: &Fin
 fn flight_range_cause(near: bool, text: &[u8], parts: &Reading<'_>, finding: &Finding) -> Cause
     ensures { cause_in result ≡ flight_range_cause near text.now (parts_in parts.now) finding.now }
 {
-    if takes_decimal(parts.role) {
+    if Class::TakesDecimal.has(parts.role) {
         Cause::said(
             b"this is more than % holds: yaYUL perhaps makes the greatest of it (85 in 100, of DEC 70)",
         )
-    } else if is_octal(parts.role) {
+    } else if Class::Octal.has(parts.role) {
         Cause::said(b"a word holds 77777 at most, and @ is more")
     } else if is_moved_back(parts) {
         Cause::said(
@@ -321,7 +296,7 @@ fn flight_range_cause(near: bool, text: &[u8], parts: &Reading<'_>, finding: &Fi
         Cause::said(
             b"this leads out of its bank: less the number of a place it is perhaps an offset (88 in 100)",
         )
-    } else if is_symbol_alone(parts) {
+    } else if octal_value(text_of(parts.operand)).is_none() && parts.offset.is_none() {
         Cause::said(
             b"@ is past the last address: a number of EQUALS is perhaps a place from 10000 on (88 in 100)",
         )
@@ -356,13 +331,6 @@ fn is_far_number(text: &[u8]) -> bool
         Some(Number::Large) => true,
         None => false,
     }
-}
-
-// Whether a symbol stands without an offset.
-fn is_symbol_alone(parts: &Reading<'_>) -> bool
-    ensures { result ≡ is_symbol_alone (parts_in parts.now) }
-{
-    octal_value(text_of(parts.operand)).is_none() && parts.offset.is_none()
 }
 
 // Octal digits that name no place, between those of bank 1 and those of bank 4.

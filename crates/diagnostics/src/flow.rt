@@ -4,7 +4,8 @@ ghost use Rattle.std.specs.Prelude.{◌≡◌, ◌≤◌, map, false};
 ghost use Rattle.yayul.specs.Readings.{parts_in};
 ghost use Rattle.diagnostics.specs.Warnings.{gives_word, is_instruction, is_jump_register, is_jump_place, leaves};
 ghost use Rattle.diagnostics.specs.Warnings.{goes_on_to_instruction, runs_out, is_vector, sets_vector, word_count};
-ghost use Rattle.diagnostics.specs.Warnings.{is_overrun, overruns, filled_after, before_next, at_start, starts_with_constant};
+ghost use Rattle.diagnostics.specs.Warnings.{is_overrun, overruns, filled_after, before_next, at_start};
+ghost use Rattle.diagnostics.specs.Warnings.{starts_with_constant};
 ghost use Rattle.agc_text.specs.Digits.{digits_value};
 ghost use Rattle.agc_text.specs.Tables.{value_in};
 ghost use Rattle.symbols.specs.Registers.{registers};
@@ -12,14 +13,12 @@ ghost use Rattle.std.specs.Option.{option_map_or};
 
 use crate::causes::text_of;
 use crate::handlers::{Handlers, Unkept, has_label};
-use crate::mistakes::{has_alone, indexed_after, is_register_number};
 use crate::names::NameSet;
-use crate::roles::{
-    gives_two, is_constant, is_leaving, is_setloc, keeps_location, moves_location, stores,
-};
+use crate::roles::Class;
 use crate::standing::{bank_after, is_same_known, leads_on, place_after};
-use crate::switched::{Region, region_after};
+use crate::switched::{Target, common_after};
 use crate::unreached::{behind_after, skips_after};
+use crate::warning::{has_alone, indexed_after, is_register_number};
 use agc_text::{Number, octal_value};
 use symbols::register_place;
 use yayul::Reading;
@@ -36,8 +35,8 @@ pub(crate) struct Before {
     pub(crate) filled: Option<u8>,
     /// Whether the last word is left for another place.
     pub(crate) left: bool,
-    /// Where words stand.
-    pub(crate) region: Region,
+    /// Whether words stand in bank 2 or 3.
+    pub(crate) common: bool,
     /// The number of the place where the line stands, as SETLOC takes it, where the fields of the lines tell it.
     pub(crate) place: Option<u32>,
     /// The bank behind whose words it stands, likewise.
@@ -59,7 +58,7 @@ impl Before {
             indexed: false,
             filled: None,
             left: false,
-            region: Region::Common,
+            common: true,
             place: Some(0o4000),
             bank: Some(2),
             unkept: Unkept::none(),
@@ -68,9 +67,9 @@ impl Before {
         }
     }
 
-    /// What stands after a line.
-    pub(crate) fn next(self, handlers: &Handlers, parts: &Reading<'_>) -> Before
-        ensures { result ≡ before_next handlers.now self (parts_in parts.now) }
+    /// What stands after a line whose operand has a target.
+    pub(crate) fn next(self, handlers: &Handlers, target: Target, parts: &Reading<'_>) -> Before
+        ensures { result ≡ before_next handlers.now self target (parts_in parts.now) }
     {
         Before {
             indexed: indexed_after(self.indexed, parts),
@@ -80,7 +79,7 @@ impl Before {
             } else {
                 self.left
             },
-            region: region_after(self.region, parts),
+            common: common_after(self.common, target, parts),
             place: place_after(self.place, parts),
             bank: bank_after(self.bank, parts),
             unkept: handlers.unkept_at(self.unkept, parts).after(parts),
@@ -94,7 +93,7 @@ impl Before {
 fn filled_after(filled: Option<u8>, parts: &Reading<'_>) -> Option<u8>
     ensures { result ≡ filled_after filled (parts_in parts.now) }
 {
-    if moves_location(parts.role) {
+    if Class::MovesLocation.has(parts.role) {
         return if sets_vector(parts) { Some(0) } else { None };
     }
     match filled {
@@ -109,7 +108,7 @@ pub(crate) fn word_count(parts: &Reading<'_>) -> u8
     ensures count { result ≡ word_count (parts_in parts.now) }
     ensures few { result ≤ 2 }
 {
-    if gives_two(parts.role) {
+    if Class::GivesTwo.has(parts.role) {
         2
     } else if gives_word(parts) {
         1
@@ -135,7 +134,7 @@ fn is_overrun(before: Before) -> bool
 pub(crate) fn sets_vector(parts: &Reading<'_>) -> bool
     ensures { result ≡ sets_vector (parts_in parts.now) }
 {
-    has_alone(is_setloc(parts.role), parts) && is_vector(text_of(parts.operand))
+    has_alone(Class::Setloc.has(parts.role), parts) && is_vector(text_of(parts.operand))
 }
 
 // The place of a vector where an interrupt enters.
@@ -176,7 +175,10 @@ pub(crate) fn runs_out(
 pub(crate) fn starts_with_constant(instructs: bool, place: Option<u32>, parts: &Reading<'_>) -> bool
     ensures { result ≡ starts_with_constant instructs place (parts_in parts.now) }
 {
-    instructs && is_same_known(place, Some(0o4000)) && gives_word(parts) && is_constant(parts.role)
+    instructs
+        && is_same_known(place, Some(0o4000))
+        && gives_word(parts)
+        && Class::Constant.has(parts.role)
 }
 
 // Whether of some lines the first that gives words or moves the location to another place gives an instruction.
@@ -187,7 +189,7 @@ fn goes_on_to_instruction(place: Option<u32>, bank: Option<u32>, lines: &[Readin
         if leads_on(place, bank, parts) {
             continue;
         }
-        if gives_word(parts) || moves_location(parts.role) {
+        if gives_word(parts) || Class::MovesLocation.has(parts.role) {
             return is_instruction(parts);
         }
     }
@@ -198,21 +200,23 @@ fn goes_on_to_instruction(place: Option<u32>, bank: Option<u32>, lines: &[Readin
 pub(crate) fn gives_word(parts: &Reading<'_>) -> bool
     ensures { result ≡ gives_word (parts_in parts.now) }
 {
-    parts.operator.is_some() && !(moves_location(parts.role) || keeps_location(parts.role))
+    parts.operator.is_some()
+        && !(Class::MovesLocation.has(parts.role) || Class::KeepsLocation.has(parts.role))
 }
 
 /// Instructions.
 pub fn is_instruction(parts: &Reading<'_>) -> bool
     ensures { result ≡ is_instruction (parts_in parts.now) }
 {
-    gives_word(parts) && !is_constant(parts.role)
+    gives_word(parts) && !Class::Constant.has(parts.role)
 }
 
 // Whether the next word is not reached from this one.
 fn leaves(parts: &Reading<'_>) -> bool
     ensures { result ≡ leaves (parts_in parts.now) }
 {
-    is_leaving(parts.role) || (stores(parts.role) && is_jump_place(text_of(parts.operand)))
+    Class::Leaving.has(parts.role)
+        || (Class::Stores.has(parts.role) && is_jump_place(text_of(parts.operand)))
 }
 
 // Whether a text is a place whose change may lead elsewhere.

@@ -4,7 +4,8 @@
 ghost use Rattle.std.specs.Prelude.{◌≡◌, ◌&&◌, not, OnOk};
 ghost use Rattle.yayul.specs.Readings.{parts_in};
 ghost use Rattle.diagnostics.specs.Warnings.{all_unkept, none_unkept};
-ghost use Rattle.diagnostics.specs.Warnings.{is_register_field, calls, is_way_register, stores_way, goes_elsewhere};
+ghost use Rattle.diagnostics.specs.Warnings.{is_register_field, calls, is_way_number, is_way_register, stores_way};
+ghost use Rattle.diagnostics.specs.Warnings.{goes_elsewhere};
 ghost use Rattle.diagnostics.specs.Warnings.{unkept_after, unkept_at, unkept_less, on_straight};
 ghost use Rattle.diagnostics.specs.Warnings.{closes_a, closes_l};
 ghost use Rattle.diagnostics.specs.Warnings.{with_target, is_resume_number, may_resume, no_handlers, handlers_after};
@@ -12,14 +13,10 @@ ghost use Rattle.diagnostics.specs.Warnings.{has_label, loses, loses_unkept, is_
 
 use crate::causes::text_of;
 use crate::flow::{gives_word, is_instruction, is_jump_name, sets_vector};
-use crate::mistakes::{add_field, has_alone, is_register_number};
 use crate::names::NameSet;
-use crate::roles::{
-    changes_a, changes_l, is_call, is_leaving, keeps_a, keeps_l, keeps_location, keeps_q,
-    leads_to_fixed, moves_location, releases, resumes, stores,
-};
+use crate::roles::Class;
 use crate::standing::is_same_known;
-use crate::switched::{BankRegister, is_bank_number};
+use crate::warning::{add_field, has_alone, is_register_number};
 use agc_text::{Number, octal_value};
 use std::alloc::{AllocError, Global};
 use symbols::register_place;
@@ -61,7 +58,9 @@ impl Unkept {
     fn on_straight(self, parts: &Reading<'_>) -> Unkept
         ensures { result ≡ on_straight self (parts_in parts.now) }
     {
-        if parts.label.is_some() && !(moves_location(parts.role) || keeps_location(parts.role)) {
+        if parts.label.is_some()
+            && !(Class::MovesLocation.has(parts.role) || Class::KeepsLocation.has(parts.role))
+        {
             Unkept::none()
         } else {
             self
@@ -72,7 +71,7 @@ impl Unkept {
     pub(crate) fn after(self, parts: &Reading<'_>) -> Unkept
         ensures { result ≡ unkept_after self (parts_in parts.now) }
     {
-        if moves_location(parts.role) {
+        if Class::MovesLocation.has(parts.role) {
             if sets_vector(parts) {
                 Unkept::all()
             } else {
@@ -94,7 +93,7 @@ impl Unkept {
         Unkept {
             a: and_not(self.a, closes_a(parts)),
             l: and_not(self.l, closes_l(parts)),
-            q: and_not(self.q, keeps_q(parts.role)),
+            q: and_not(self.q, Class::KeepsQ.has(parts.role)),
         }
     }
 
@@ -102,7 +101,9 @@ impl Unkept {
     fn is_lost(self, parts: &Reading<'_>) -> bool
         ensures { result ≡ loses self (parts_in parts.now) }
     {
-        self.a && changes_a(parts.role) || self.l && changes_l(parts.role) || self.q && calls(parts)
+        self.a && Class::ChangesA.has(parts.role)
+            || self.l && Class::ChangesL.has(parts.role)
+            || self.q && calls(parts)
     }
 }
 
@@ -152,9 +153,9 @@ impl Handlers {
         add_target(way.a, &mut self.a, parts)?;
         add_target(way.l, &mut self.l, parts)?;
         add_target(way.q, &mut self.q, parts)?;
-        self.resumes = self.resumes || resumes(parts.role);
+        self.resumes = self.resumes || Class::Resumes.has(parts.role);
         self.may_resume = self.may_resume || may_resume(parts);
-        self.relints = self.relints || releases(parts.role);
+        self.relints = self.relints || Class::Releases.has(parts.role);
         self.vectors = self.vectors || sets_vector(parts);
         self.unkept = way.after(parts);
         Ok(())
@@ -164,7 +165,7 @@ impl Handlers {
     pub(crate) fn unkept_at(&self, unkept: Unkept, parts: &Reading<'_>) -> Unkept
         ensures { result ≡ unkept_at self.now unkept (parts_in parts.now) }
     {
-        if moves_location(parts.role) || keeps_location(parts.role) {
+        if Class::MovesLocation.has(parts.role) || Class::KeepsLocation.has(parts.role) {
             unkept
         } else {
             let way = unkept.on_straight(parts);
@@ -210,7 +211,7 @@ impl Handlers {
 fn add_target(condition: bool, names: &mut NameSet, parts: &Reading<'_>) -> Result<(), AllocError>
     ensures { OnOk result (names.new ≡ with_target condition names.old (parts_in parts.now)) }
 {
-    if has_alone(condition && leads_to_fixed(parts.role), parts) {
+    if has_alone(condition && Class::LeadsToFixed.has(parts.role), parts) {
         add_field(names, parts.operand)
     } else {
         Ok(())
@@ -238,7 +239,7 @@ fn is_begun(filled: Option<u8>) -> bool
 fn may_resume(parts: &Reading<'_>) -> bool
     ensures { result ≡ may_resume (parts_in parts.now) }
 {
-    resumes(parts.role) || is_resume_number(text_of(parts.operand))
+    Class::Resumes.has(parts.role) || is_resume_number(text_of(parts.operand))
 }
 
 fn is_resume_number(text: &[u8]) -> bool
@@ -251,7 +252,9 @@ fn is_resume_number(text: &[u8]) -> bool
 fn calls(parts: &Reading<'_>) -> bool
     ensures { result ≡ calls (parts_in parts.now) }
 {
-    is_call(parts.role) && parts.operand.is_some() && !is_register_field(text_of(parts.operand))
+    Class::Call.has(parts.role)
+        && parts.operand.is_some()
+        && !is_register_field(text_of(parts.operand))
 }
 
 // A register or a counter, by name or by number.
@@ -265,21 +268,28 @@ fn is_register_field(text: &[u8]) -> bool
 pub(crate) fn goes_elsewhere(parts: &Reading<'_>) -> bool
     ensures { result ≡ goes_elsewhere (parts_in parts.now) }
 {
-    is_leaving(parts.role) || stores_way(parts)
+    Class::Leaving.has(parts.role) || stores_way(parts)
 }
 
 /// Whether a line stores where the next instruction is found.
 pub(crate) fn stores_way(parts: &Reading<'_>) -> bool
     ensures { result ≡ stores_way (parts_in parts.now) }
 {
-    stores(parts.role) && is_way_register(text_of(parts.operand))
+    Class::Stores.has(parts.role) && is_way_register(text_of(parts.operand))
 }
 
 // FB, Z or BB by name, or a place of 3 to 6 by number.
 fn is_way_register(text: &[u8]) -> bool
     ensures { result ≡ is_way_register text.now }
 {
-    is_jump_name(text) || is_bank_number(BankRegister::Fb, text)
+    is_jump_name(text) || is_way_number(text)
+}
+
+// Octal digits of 3 to 6.
+fn is_way_number(text: &[u8]) -> bool
+    ensures { result ≡ is_way_number text.now }
+{
+    matches!(octal_value(text), Some(Number::Small(number)) if (3..=6).contains(&number))
 }
 
 // Whether one thing is so, and another is not.
@@ -293,12 +303,12 @@ fn and_not(one: bool, other: bool) -> bool
 fn closes_a(parts: &Reading<'_>) -> bool
     ensures { result ≡ closes_a (parts_in parts.now) }
 {
-    keeps_a(parts.role) || changes_a(parts.role)
+    Class::KeepsA.has(parts.role) || Class::ChangesA.has(parts.role)
 }
 
 // Whether L is.
 fn closes_l(parts: &Reading<'_>) -> bool
     ensures { result ≡ closes_l (parts_in parts.now) }
 {
-    keeps_l(parts.role) || changes_l(parts.role)
+    Class::KeepsL.has(parts.role) || Class::ChangesL.has(parts.role)
 }

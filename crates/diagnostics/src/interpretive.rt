@@ -12,9 +12,9 @@ ghost use Rattle.diagnostics.specs.Views.{cause_in};
 ghost use Rattle.diagnostics.specs.Warnings.{has_operator};
 
 use crate::causes::{Cause, text_of};
-use crate::findings::text_at;
 use crate::kinds::has_field;
-use crate::mistakes::has_operator;
+use crate::reporting::text_at;
+use crate::warning::has_operator;
 use std::alloc::{AllocError, Global};
 use yayul::{FaultKind, Finding, Language, Reading, is_count, reading_of};
 

@@ -3,7 +3,7 @@
 ghost use Rattle.std.specs.Prelude.{◌≡◌, ◌++◌, IfOk, OnOk};
 ghost use Rattle.diagnostics.specs.Joined.{joined};
 
-use crate::findings::count_before;
+use crate::reporting::count_before;
 use crate::told::Warning;
 use std::alloc::{AllocError, Global};
 

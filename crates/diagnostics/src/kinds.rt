@@ -4,10 +4,12 @@ ghost use Rattle.std.specs.Prelude.{◌≡◌, ◌++◌, ◌==◌, map, length, 
 ghost use Rattle.agc_text.specs.Fields.{fields, runs, texts};
 ghost use Rattle.agc_text.specs.Lines.{lines};
 ghost use Rattle.json_text.specs.declared.notation.Notation.TheVariants.{Text};
-ghost use Rattle.diagnostics.specs.Kinds.{is_input, is_image, begins_series, is_of_feed, is_of_source, first_said, note};
-ghost use Rattle.diagnostics.specs.Kinds.{kind_of_source, kind_of_feed};
+ghost use Rattle.diagnostics.specs.Kinds.{is_input, is_image, begins_series, is_of_feed, is_of_source, first_said};
+ghost use Rattle.diagnostics.specs.Kinds.{note, kind_of_source, kind_of_feed};
+ghost use Rattle.diagnostics.specs.Views.{lines_in};
 
 use crate::objects::push_file_object;
+use crate::told::Source;
 use agc_text::{before_comment, split_field};
 use feed::{is_cycle, parse_line};
 use json_text::Notation;
@@ -21,28 +23,20 @@ const IMAGE_LENGTH: usize = 73_728;
 #[tactic(auto, unfolding(crate::specs::Kinds::kind_of_source))]
 pub(crate) fn push_kind_of_source(
     out: &mut Vec<u8>,
-    notation: Notation,
-    name: &[u8],
+    source: &Source<'_, '_, '_>,
     text: &[u8],
-    texts: &[&[u8]],
 ) -> Result<(), AllocError>
-    requires { map (λ t. t.now) texts.now ≡ lines text.now }
-    ensures { OnOk result (out.new.items ≡ out.old.items ++ kind_of_source notation name.now text.now) }
+    requires { lines_in source.now ≡ lines text.now }
+    ensures { OnOk result (out.new.items ≡ out.old.items
+        ++ kind_of_source source.now.notation source.now.name.now text.now) }
 {
     if is_image(text) {
-        push_note(
-            out,
-            notation,
-            name,
-            b"this is a rope image, and no source: run, trace, cover and debug take it with --image",
-        )?;
-    } else if is_of_feed(first_said(texts)) {
-        push_note(
-            out,
-            notation,
-            name,
-            b"this is a feed, and no source: it stands after the source",
-        )?;
+        let words =
+            b"this is a rope image, and no source: run, trace, cover and debug take it with --image";
+        push_note(out, source, words)?;
+    } else if is_of_feed(first_said(source.texts)) {
+        let words = b"this is a feed, and no source: it stands after the source";
+        push_note(out, source, words)?;
     }
     Ok(())
 }
@@ -51,26 +45,21 @@ pub(crate) fn push_kind_of_source(
 #[tactic(auto, unfolding(crate::specs::Kinds::kind_of_feed))]
 pub(crate) fn push_kind_of_feed(
     out: &mut Vec<u8>,
-    notation: Notation,
-    name: &[u8],
+    source: &Source<'_, '_, '_>,
     text: &[u8],
-    texts: &[&[u8]],
 ) -> Result<(), AllocError>
-    requires { map (λ t. t.now) texts.now ≡ lines text.now }
-    ensures { OnOk result (out.new.items ≡ out.old.items ++ kind_of_feed notation name.now text.now) }
+    requires { lines_in source.now ≡ lines text.now }
+    ensures { OnOk result (out.new.items ≡ out.old.items
+        ++ kind_of_feed source.now.notation source.now.name.now text.now) }
 {
     if is_image(text) {
+        let words =
+            b"this is a rope image, and no feed: run, trace, cover and debug take it with --image, before the feed";
+        push_note(out, source, words)?;
+    } else if is_of_source(first_said(source.texts)) {
         push_note(
             out,
-            notation,
-            name,
-            b"this is a rope image, and no feed: run, trace, cover and debug take it with --image, before the feed",
-        )?;
-    } else if is_of_source(first_said(texts)) {
-        push_note(
-            out,
-            notation,
-            name,
+            source,
             b"this is a source, and no feed: it stands first",
         )?;
     }
@@ -78,17 +67,13 @@ pub(crate) fn push_kind_of_feed(
 }
 
 // Appends what is said of a file, in a notation.
-fn push_note(
-    out: &mut Vec<u8>,
-    notation: Notation,
-    name: &[u8],
-    words: &[u8],
-) -> Result<(), AllocError>
-    ensures { OnOk result (out.new.items ≡ out.old.items ++ note notation name.now words.now) }
+fn push_note(out: &mut Vec<u8>, source: &Source<'_, '_, '_>, words: &[u8]) -> Result<(), AllocError>
+    ensures { OnOk result (out.new.items ≡ out.old.items
+        ++ note source.now.notation source.now.name.now words.now) }
 {
-    match notation {
-        Notation::Text => push_note_text(out, name, words),
-        Notation::Json => push_file_object(out, name, words),
+    match source.notation {
+        Notation::Text => push_note_text(out, source.name, words),
+        Notation::Json => push_file_object(out, source.name, words),
     }
 }
 

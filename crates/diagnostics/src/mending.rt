@@ -2,13 +2,13 @@
 
 ghost use Rattle.std.specs.Prelude.{◌≡◌, ◌≤◌, ◌+◌, length};
 ghost use Rattle.std.specs.Option.{option_map};
+ghost use Rattle.agc_text.specs.Tables.{value_in};
 ghost use Rattle.agc_text.specs.Views.{piece};
 ghost use Rattle.yayul.specs.Readings.{parts_in};
-ghost use Rattle.diagnostics.specs.Mending.{behind_span, comment_span, end_in, first_begins, foreign_mend, gap_after};
-ghost use Rattle.diagnostics.specs.Mending.{gap_span, indent_span, is_comment_at, line_at, line_mend, meant_mend, mend_of};
-ghost use Rattle.diagnostics.specs.Mending.{name_mend, octal_span, operand_mend, operator_mend, piece_span, sign_place};
-ghost use Rattle.diagnostics.specs.Mending.{sign_span, span_at, sure, unsure};
-ghost use Rattle.diagnostics.specs.Views.{mend_in};
+ghost use Rattle.diagnostics.specs.Mending.{behind_span, comment_span, end_in, first_begins, foreign_mends, gap_after};
+ghost use Rattle.diagnostics.specs.Mending.{gap_span, indent_span, is_comment_at, line_at, mend_of, mends, octal_span};
+ghost use Rattle.diagnostics.specs.Mending.{piece_span, sign_place, sign_span, span_at};
+ghost use Rattle.diagnostics.specs.Views.{mend_in, mends_in};
 
 use crate::causes::{is_beyond_octal, is_foreign_comment, text_of};
 use crate::feeds::field_after;
@@ -56,28 +56,6 @@ pub(crate) struct Mend {
 }
 
 impl Mend {
-    // An edit that is sure.
-    fn sure(at: At, put: &'static [u8]) -> Mend
-        ensures { mend_in result ≡ sure at put.now }
-    {
-        Mend {
-            at,
-            put,
-            is_sure: true,
-        }
-    }
-
-    // An edit that may not be what was meant.
-    fn unsure(at: At, put: &'static [u8]) -> Mend
-        ensures { mend_in result ≡ unsure at put.now }
-    {
-        Mend {
-            at,
-            put,
-            is_sure: false,
-        }
-    }
-
     /// The line that it stands on, of a finding on a line.
     pub(crate) fn line(&self, line: u32) -> u64
         ensures { result ≡ line_at self.now.at line }
@@ -94,129 +72,109 @@ impl Mend {
 pub(crate) fn mend_of(cure: &[u8], meant: &[u8]) -> Option<Mend>
     ensures { option_map mend_in result ≡ mend_of cure.now meant.now }
 {
-    if let Some(mend) = name_mend(cure) {
-        Some(mend)
-    } else if let Some(mend) = line_mend(cure) {
-        Some(mend)
-    } else if let Some(mend) = operand_mend(cure) {
-        Some(mend)
-    } else if let Some(mend) = operator_mend(cure) {
-        Some(mend)
-    } else {
-        meant_mend(cure, meant)
-    }
-}
-
-// Of a cure that is a name in the place of another.
-fn name_mend(cure: &[u8]) -> Option<Mend>
-    ensures { option_map mend_in result ≡ name_mend cure.now }
-{
-    if cure == b"did you mean !?".as_slice() {
-        Some(Mend::sure(At::Blamed, b"!"))
-    } else if cure == b"did you mean ~?".as_slice() {
-        Some(Mend::sure(At::Blamed, b"~"))
-    } else if cure == b"did you mean EVERY?".as_slice() {
-        Some(Mend::sure(At::Blamed, b"EVERY"))
-    } else if cure == b"! takes DINC".as_slice() {
-        Some(Mend::unsure(At::Blamed, b"DINC"))
-    } else if cure == b"! takes PINC".as_slice() {
-        Some(Mend::unsure(At::Blamed, b"PINC"))
-    } else {
-        None
-    }
-}
-
-// Of a cure that stands in front of a line, or takes away what stands there.
-fn line_mend(cure: &[u8]) -> Option<Mend>
-    ensures { option_map mend_in result ≡ line_mend cure.now }
-{
-    if cure == b"put a blank before &".as_slice() {
-        Some(Mend::sure(At::BeforeLine, b"        "))
-    } else if cure == b"EXTEND on the line before, behind a blank".as_slice() {
-        Some(Mend::sure(At::BeforeLine, b"        EXTEND\n"))
-    } else if cure
-        == b"no register has a name beforehand; this line gives it one: @ EQUALS !".as_slice()
-    {
-        Some(Mend::sure(At::BeforeSource, b"@ EQUALS !\n"))
-    } else if cure == b"a label begins in the first column: no blank before %".as_slice() {
-        Some(Mend::unsure(At::Indent, b""))
-    } else if cure == b"tail -c +4 FILE > NEW".as_slice() {
-        Some(Mend::sure(At::OrderMark, b""))
-    } else {
-        None
-    }
-}
-
-// Of a cure that changes the operand, or what stands in front of it, in it or behind it.
-fn operand_mend(cure: &[u8]) -> Option<Mend>
-    ensures { option_map mend_in result ≡ operand_mend cure.now }
-{
-    if cure == b"@D is decimal".as_slice() || cure == b"% @D takes it as decimal".as_slice() {
-        Some(Mend::unsure(At::Operand, b"@D"))
-    } else if cure == b"@ is one name; a blank stands before an offset".as_slice() {
-        Some(Mend::unsure(At::BeforeSign, b" "))
-    } else if cure == b"no blank stands between both".as_slice() {
-        Some(Mend::unsure(At::BehindOffset, b""))
-    } else if cure == b"B-28 behind @ makes @ the lower word".as_slice() {
-        Some(Mend::unsure(At::BehindOperand, b" B-28"))
-    } else if cure == b"a comment begins with #".as_slice() {
-        Some(Mend::unsure(At::BeforeComment, b"# "))
-    } else {
-        None
-    }
-}
-
-// Of a cure that is another operator.
-fn operator_mend(cure: &[u8]) -> Option<Mend>
-    ensures { option_map mend_in result ≡ operator_mend cure.now }
-{
-    if cure == b"DEC takes decimal digits".as_slice() {
-        Some(Mend::unsure(At::DecimalOperator, b"DEC"))
-    } else if cure == b"BANK @".as_slice() {
-        Some(Mend::unsure(At::Operator, b"BANK"))
-    } else if cure == b"CA @".as_slice() {
-        Some(Mend::unsure(At::Operator, b"CA"))
-    } else {
-        None
-    }
-}
-
-// Of a cure that is another text alone.
-fn meant_mend(cure: &[u8], meant: &[u8]) -> Option<Mend>
-    ensures { option_map mend_in result ≡ meant_mend cure.now meant.now }
-{
     if cure == b"!".as_slice() {
-        foreign_mend(meant)
+        mend_among(foreign_mends(), meant)
     } else {
-        None
+        mend_among(mends(), cure)
     }
 }
 
-// Of what is said of another assembler's operator.
-fn foreign_mend(meant: &[u8]) -> Option<Mend>
-    ensures { option_map mend_in result ≡ foreign_mend meant.now }
+// The edit that stands for a text in a table.
+fn mend_among(table: &'static [(&'static str, Mend)], text: &[u8]) -> Option<Mend>
+    ensures { option_map mend_in result ≡ value_in (mends_in table.now) text.now }
 {
-    if meant == b"SETLOC sets the location".as_slice() {
-        Some(Mend::unsure(At::Operator, b"SETLOC"))
-    } else if meant == b"EQUALS gives a name its value".as_slice() {
-        Some(Mend::unsure(At::Operator, b"EQUALS"))
-    } else if meant == b"CA loads A".as_slice() {
-        Some(Mend::unsure(At::Operator, b"CA"))
-    } else if meant == b"TS stores A".as_slice() {
-        Some(Mend::unsure(At::Operator, b"TS"))
-    } else if meant == b"TC calls a routine".as_slice() {
-        Some(Mend::unsure(At::Operator, b"TC"))
-    } else if meant == b"RETURN goes back".as_slice() {
-        Some(Mend::unsure(At::Operator, b"RETURN"))
-    } else if meant == b"NOOP does nothing".as_slice() {
-        Some(Mend::unsure(At::Operator, b"NOOP"))
-    } else if meant == b"AD adds a word to A".as_slice() {
-        Some(Mend::unsure(At::Operator, b"AD"))
-    } else if meant == b"ERASE reserves a word".as_slice() {
-        Some(Mend::unsure(At::Operator, b"ERASE"))
-    } else {
-        None
+    for (name, mend) in table {
+        if text == name.as_bytes() {
+            return Some(*mend);
+        }
     }
+    None
+}
+
+// A row: a cure, where its edit stands, what is put there, and whether that is what was meant for sure.
+macro_rules! mend {
+    ($cure:literal, $at:ident, $put:literal, $is_sure:literal) => {
+        (
+            $cure,
+            Mend {
+                at: At::$at,
+                put: $put,
+                is_sure: $is_sure,
+            },
+        )
+    };
+}
+
+static MENDS: [(&str, Mend); 19] = [
+    mend!("did you mean !?", Blamed, b"!", true),
+    mend!("did you mean ~?", Blamed, b"~", true),
+    mend!("did you mean EVERY?", Blamed, b"EVERY", true),
+    mend!("! takes DINC", Blamed, b"DINC", false),
+    mend!("! takes PINC", Blamed, b"PINC", false),
+    mend!("put a blank before &", BeforeLine, b"        ", true),
+    mend!(
+        "EXTEND on the line before, behind a blank",
+        BeforeLine,
+        b"        EXTEND\n",
+        true
+    ),
+    mend!(
+        "no register has a name beforehand; this line gives it one: @ EQUALS !",
+        BeforeSource,
+        b"@ EQUALS !\n",
+        true
+    ),
+    mend!(
+        "a label begins in the first column: no blank before %",
+        Indent,
+        b"",
+        false
+    ),
+    mend!("tail -c +4 FILE > NEW", OrderMark, b"", true),
+    mend!("@D is decimal", Operand, b"@D", false),
+    mend!("% @D takes it as decimal", Operand, b"@D", false),
+    mend!(
+        "@ is one name; a blank stands before an offset",
+        BeforeSign,
+        b" ",
+        false
+    ),
+    mend!("no blank stands between both", BehindOffset, b"", false),
+    mend!(
+        "B-28 behind @ makes @ the lower word",
+        BehindOperand,
+        b" B-28",
+        false
+    ),
+    mend!("a comment begins with #", BeforeComment, b"# ", false),
+    mend!("DEC takes decimal digits", DecimalOperator, b"DEC", false),
+    mend!("BANK @", Operator, b"BANK", false),
+    mend!("CA @", Operator, b"CA", false),
+];
+
+fn mends() -> &'static [(&'static str, Mend)]
+    ensures { mends_in result.now ≡ mends }
+{
+    &MENDS
+}
+
+// Of another assembler's operators, by what is said of them.
+static FOREIGN_MENDS: [(&str, Mend); 9] = [
+    mend!("SETLOC sets the location", Operator, b"SETLOC", false),
+    mend!("EQUALS gives a name its value", Operator, b"EQUALS", false),
+    mend!("CA loads A", Operator, b"CA", false),
+    mend!("TS stores A", Operator, b"TS", false),
+    mend!("TC calls a routine", Operator, b"TC", false),
+    mend!("RETURN goes back", Operator, b"RETURN", false),
+    mend!("NOOP does nothing", Operator, b"NOOP", false),
+    mend!("AD adds a word to A", Operator, b"AD", false),
+    mend!("ERASE reserves a word", Operator, b"ERASE", false),
+];
+
+fn foreign_mends() -> &'static [(&'static str, Mend)]
+    ensures { mends_in result.now ≡ foreign_mends }
+{
+    &FOREIGN_MENDS
 }
 
 /// The bytes of a line that an edit takes the place of, where a finding has some to blame; none where what it asks for

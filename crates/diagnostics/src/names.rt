@@ -59,21 +59,6 @@ impl NameSet {
         near_name(&self.symbols, text)
     }
 
-    /// How many there are.
-    pub(crate) fn len(&self) -> usize
-        ensures { result ≡ length self.now }
-    {
-        self.symbols.len()
-    }
-
-    /// The name that was added after so many others.
-    pub(crate) fn name_at(&self, index: usize) -> &[u8]
-        requires { index < length self.now }
-        ensures { Some result.now ≡ slice_get self.now index }
-    {
-        name_at(&self.symbols, index)
-    }
-
     /// Whether a text is one of them.
     pub(crate) fn has(&self, text: &[u8]) -> bool
         ensures { result ≡ is_among self.now text.now }

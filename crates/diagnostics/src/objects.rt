@@ -5,15 +5,15 @@ ghost use Rattle.std.specs.Option.{option_map};
 ghost use Rattle.json_text.specs.Strings.{escaped_byte, hex_digit, json_string};
 ghost use Rattle.yayul.specs.Readings.{parts_in};
 ghost use Rattle.diagnostics.specs.Causes.{filled};
-ghost use Rattle.diagnostics.specs.Objects.{bool_text, count_object, cure_or_null, edit_text, file_object, finding_object};
-ghost use Rattle.diagnostics.specs.Objects.{fix_text, front_span, head_text, kind_members, place_members, place_of};
-ghost use Rattle.diagnostics.specs.Objects.{place_or_null, said_text};
+ghost use Rattle.diagnostics.specs.Objects.{bool_text, count_object, cure_or_null, edit_text, file_object};
+ghost use Rattle.diagnostics.specs.Objects.{finding_object, fix_text, front_span, head_text, kind_members};
+ghost use Rattle.diagnostics.specs.Objects.{place_members, place_of, place_or_null, said_text};
 ghost use Rattle.diagnostics.specs.Shown.{text_at};
 ghost use Rattle.diagnostics.specs.Views.{cause_in, mend_in, place_in};
 
+use crate::caret::{push_filled, push_number};
 use crate::causes::Cause;
 use crate::mending::{Mend, mend_of, span_at};
-use crate::texts::{push_filled, push_number};
 use crate::told::{Severity, Told};
 use std::alloc::AllocError;
 use yayul::{Language, Reading, Span, reading_of};
@@ -27,6 +27,25 @@ pub(crate) struct Place<'a> {
     text: &'a [u8],
     /// Where they stand in it.
     span: Span,
+}
+
+/// What is told of a line, and why.
+#[derive(Clone, Copy)]
+pub(crate) struct Note<'n, 'a, 'b> {
+    /// What it is, and where it stands.
+    pub(crate) told: Told,
+    /// The name of the file.
+    pub(crate) name: &'n [u8],
+    /// The line.
+    pub(crate) text: &'a [u8],
+    /// The fields of the line.
+    pub(crate) parts: Reading<'a>,
+    /// A text from other lines; empty where there is none.
+    pub(crate) beside: &'b [u8],
+    /// The place that this is from.
+    pub(crate) other: Option<Place<'a>>,
+    /// Why.
+    pub(crate) cause: Cause,
 }
 
 /// The label of a line of a source, or its operator.
@@ -66,26 +85,17 @@ fn front_span(parts: &Reading<'_>) -> Span
 
 /// Appends the object of what is told of a line, with why, a text from other lines, and the place that it is from.
 #[tactic(auto, unfolding(crate::specs::Objects::finding_object))]
-pub(crate) fn push_object(
-    out: &mut Vec<u8>,
-    name: &[u8],
-    text: &[u8],
-    parts: &Reading<'_>,
-    beside: &[u8],
-    other: Option<Place<'_>>,
-    told: &Told,
-    cause: &Cause,
-) -> Result<(), AllocError>
+pub(crate) fn push_object(out: &mut Vec<u8>, note: &Note<'_, '_, '_>) -> Result<(), AllocError>
     ensures { OnOk result (out.new.items ≡ out.old.items
-        ++ finding_object name.now text.now (parts_in parts.now) beside.now (option_map place_in other.entry) told.now
-        (cause_in cause.now)) }
+        ++ finding_object note.now.name.now note.now.text.now (parts_in note.now.parts) note.now.beside.now
+        (option_map place_in note.now.other) note.now.told (cause_in note.now.cause)) }
 {
-    push_head(out, name, text, told)?;
-    push_said(out, parts, beside, cause)?;
+    push_head(out, note)?;
+    push_said(out, note)?;
     out.extend_from_slice(b",\"fix\":")?;
-    push_fix(out, text, parts, beside, told, cause)?;
+    push_fix(out, note)?;
     out.extend_from_slice(b",\"related\":")?;
-    push_place_or_null(out, other)?;
+    push_place_or_null(out, note.other)?;
     out.extend_from_slice(b"}\n")?;
     Ok(())
 }
@@ -124,15 +134,16 @@ pub(crate) fn push_count_object(
 
 // Appends what is told, its number, and where it stands.
 #[tactic(auto, unfolding(crate::specs::Objects::head_text))]
-fn push_head(out: &mut Vec<u8>, name: &[u8], text: &[u8], told: &Told) -> Result<(), AllocError>
-    ensures { OnOk result (out.new.items ≡ out.old.items ++ head_text name.now text.now told.now) }
+fn push_head(out: &mut Vec<u8>, note: &Note<'_, '_, '_>) -> Result<(), AllocError>
+    ensures { OnOk result (out.new.items ≡ out.old.items
+        ++ head_text note.now.name.now note.now.text.now note.now.told) }
 {
-    out.extend_from_slice(kind_members(told.severity))?;
-    push_number(out, u64::from(told.number))?;
+    out.extend_from_slice(kind_members(note.told.severity))?;
+    push_number(out, u64::from(note.told.number))?;
     out.extend_from_slice(b"\",\"file\":")?;
-    push_string(out, name)?;
+    push_string(out, note.name)?;
     out.extend_from_slice(b",")?;
-    push_place_members(out, u64::from(told.line), text, &told.span)
+    push_place_members(out, u64::from(note.told.line), note.text, &note.told.span)
 }
 
 // What is told.
@@ -167,55 +178,41 @@ fn push_place_members(
 
 // Appends why something is wrong, how it is mended, and whether `--flight` takes what stands there.
 #[tactic(auto, unfolding(crate::specs::Objects::said_text))]
-fn push_said(
-    out: &mut Vec<u8>,
-    parts: &Reading<'_>,
-    beside: &[u8],
-    cause: &Cause,
-) -> Result<(), AllocError>
-    ensures { OnOk result (out.new.items ≡ out.old.items ++ said_text (parts_in parts.now) beside.now (cause_in cause.now)) }
+fn push_said(out: &mut Vec<u8>, note: &Note<'_, '_, '_>) -> Result<(), AllocError>
+    ensures { OnOk result (out.new.items ≡ out.old.items
+        ++ said_text (parts_in note.now.parts) note.now.beside.now (cause_in note.now.cause)) }
 {
     out.extend_from_slice(b",\"said\":")?;
-    push_filled_string(out, parts, cause.other, beside, cause.words)?;
+    push_filled_string(out, note, note.cause.words)?;
     out.extend_from_slice(b",\"cure\":")?;
-    push_cure_or_null(out, parts, beside, cause)?;
+    push_cure_or_null(out, note)?;
     out.extend_from_slice(b",\"flight\":")?;
-    out.extend_from_slice(bool_text(cause.flight))?;
+    out.extend_from_slice(bool_text(note.cause.flight))?;
     Ok(())
 }
 
 // Appends how something is mended, or that this is not sure.
-fn push_cure_or_null(
-    out: &mut Vec<u8>,
-    parts: &Reading<'_>,
-    beside: &[u8],
-    cause: &Cause,
-) -> Result<(), AllocError>
-    ensures { OnOk result (out.new.items ≡ out.old.items ++ cure_or_null (parts_in parts.now) beside.now (cause_in cause.now)) }
+fn push_cure_or_null(out: &mut Vec<u8>, note: &Note<'_, '_, '_>) -> Result<(), AllocError>
+    ensures { OnOk result (out.new.items ≡ out.old.items
+        ++ cure_or_null (parts_in note.now.parts) note.now.beside.now (cause_in note.now.cause)) }
 {
-    if cause.cure.is_empty() {
-        out.extend_from_slice(b"null")?;
-        Ok(())
+    if note.cause.cure.is_empty() {
+        push_null(out)
     } else {
-        push_filled_string(out, parts, cause.other, beside, cause.cure)
+        push_filled_string(out, note, note.cause.cure)
     }
 }
 
 // Appends the edit that a cure is, or that it is none.
 #[tactic(auto, unfolding(crate::specs::Objects::fix_text))]
-fn push_fix(
-    out: &mut Vec<u8>,
-    text: &[u8],
-    parts: &Reading<'_>,
-    beside: &[u8],
-    told: &Told,
-    cause: &Cause,
-) -> Result<(), AllocError>
-    ensures { OnOk result (out.new.items ≡ out.old.items ++ fix_text text.now (parts_in parts.now) beside.now told.now (cause_in cause.now)) }
+fn push_fix(out: &mut Vec<u8>, note: &Note<'_, '_, '_>) -> Result<(), AllocError>
+    ensures { OnOk result (out.new.items ≡ out.old.items
+        ++ fix_text note.now.text.now (parts_in note.now.parts) note.now.beside.now note.now.told
+        (cause_in note.now.cause)) }
 {
-    match mend_of(cause.cure, cause.other) {
-        Some(mend) => match span_at(mend.at, text, parts, &told.span) {
-            Some(span) => push_edit(out, text, parts, beside, cause, told.line, &mend, &span),
+    match mend_of(note.cause.cure, note.cause.other) {
+        Some(mend) => match span_at(mend.at, note.text, &note.parts, &note.told.span) {
+            Some(span) => push_edit(out, note, &mend, &span),
             None => push_null(out),
         },
         None => push_null(out),
@@ -234,20 +231,18 @@ fn push_null(out: &mut Vec<u8>) -> Result<(), AllocError>
 #[tactic(auto, unfolding(crate::specs::Objects::edit_text))]
 fn push_edit(
     out: &mut Vec<u8>,
-    text: &[u8],
-    parts: &Reading<'_>,
-    beside: &[u8],
-    cause: &Cause,
-    line: u32,
+    note: &Note<'_, '_, '_>,
     mend: &Mend,
     span: &Span,
 ) -> Result<(), AllocError>
-    ensures { OnOk result (out.new.items ≡ out.old.items ++ edit_text text.now (parts_in parts.now) beside.now (cause_in cause.now) line (mend_in mend.now) span.now) }
+    ensures { OnOk result (out.new.items ≡ out.old.items
+        ++ edit_text note.now.text.now (parts_in note.now.parts) note.now.beside.now (cause_in note.now.cause)
+        note.now.told.line (mend_in mend.now) span.now) }
 {
     out.extend_from_slice(b"{")?;
-    push_place_members(out, mend.line(line), text, span)?;
+    push_place_members(out, mend.line(note.told.line), note.text, span)?;
     out.extend_from_slice(b",\"text\":")?;
-    push_filled_string(out, parts, cause.other, beside, mend.put)?;
+    push_filled_string(out, note, mend.put)?;
     out.extend_from_slice(b",\"sure\":")?;
     out.extend_from_slice(bool_text(mend.is_sure))?;
     out.extend_from_slice(b"}")?;
@@ -278,15 +273,14 @@ fn bool_text(holds: bool) -> &'static [u8]
 // Appends a text with all that its marks stand for, as a string.
 fn push_filled_string(
     out: &mut Vec<u8>,
-    parts: &Reading<'_>,
-    other: &[u8],
-    beside: &[u8],
+    note: &Note<'_, '_, '_>,
     text: &[u8],
 ) -> Result<(), AllocError>
-    ensures { OnOk result (out.new.items ≡ out.old.items ++ json_string (filled (parts_in parts.now) other.now beside.now text.now)) }
+    ensures { OnOk result (out.new.items ≡ out.old.items
+        ++ json_string (filled (parts_in note.now.parts) note.now.cause.other.now note.now.beside.now text.now)) }
 {
     let mut said = Vec::new(*out.allocator());
-    push_filled(&mut said, parts, other, beside, text)?;
+    push_filled(&mut said, note, text)?;
     push_string(out, &said)
 }
 

@@ -5,8 +5,8 @@ ghost use Rattle.diagnostics.specs.Warnings.{is_register_channel, stays_inside};
 ghost use Rattle.yayul.specs.Readings.{parts_in};
 
 use crate::causes::text_of;
-use crate::mistakes::has_alone;
-use crate::roles::writes_channel;
+use crate::roles::Class;
+use crate::warning::has_alone;
 use agc_text::{Number, octal_value};
 use yayul::Reading;
 
@@ -14,7 +14,8 @@ use yayul::Reading;
 pub(crate) fn stays_inside(parts: &Reading<'_>) -> bool
     ensures { result ≡ stays_inside (parts_in parts.now) }
 {
-    has_alone(writes_channel(parts.role), parts) && is_register_channel(text_of(parts.operand))
+    has_alone(Class::WritesChannel.has(parts.role), parts)
+        && is_register_channel(text_of(parts.operand))
 }
 
 // Octal digits of a channel that is L or Q.

@@ -5,9 +5,9 @@ ghost use Rattle.yayul.specs.Readings.{parts_in};
 ghost use Rattle.diagnostics.specs.Warnings.{is_same_number, is_zero, is_elsewhere, takes_register};
 
 use crate::causes::text_of;
-use crate::mistakes::has_alone;
-use crate::roles::is_equals;
+use crate::roles::Class;
 use crate::standing::{is_same_known, small_number};
+use crate::warning::has_alone;
 use agc_text::{Number, octal_value};
 use symbols::register_place;
 use yayul::Reading;
@@ -28,8 +28,8 @@ pub(crate) fn takes_register(place: Option<u32>, parts: &Reading<'_>) -> bool
 fn is_elsewhere(place: Option<u32>, register: &[u8], parts: &Reading<'_>) -> bool
     ensures { result ≡ is_elsewhere place register.now (parts_in parts.now) }
 {
-    if is_equals(parts.role) {
-        has_alone(is_equals(parts.role), parts)
+    if Class::Equals.has(parts.role) {
+        has_alone(Class::Equals.has(parts.role), parts)
             && octal_value(text_of(parts.operand)).is_some()
             && !is_same_number(text_of(parts.operand), register)
     } else {

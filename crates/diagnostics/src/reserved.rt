@@ -2,13 +2,13 @@
 
 ghost use Rattle.std.specs.Prelude.{◌≡◌, [], OnOk};
 ghost use Rattle.yayul.specs.Readings.{parts_in};
-ghost use Rattle.diagnostics.specs.Warnings.{is_reserved, with_place, is_again, names_one, none_reserved, reserved_after};
-ghost use Rattle.diagnostics.specs.Warnings.{stands_again};
+ghost use Rattle.diagnostics.specs.Warnings.{is_reserved, with_place, is_again, names_one, none_reserved};
+ghost use Rattle.diagnostics.specs.Warnings.{reserved_after, stands_again};
 
 use crate::causes::text_of;
-use crate::mistakes::{add_field, reserves_one};
 use crate::names::NameSet;
 use crate::standing::place_after;
+use crate::warning::{add_field, reserves_one};
 use std::alloc::{AllocError, Global};
 use std::marker::Model;
 use yayul::Reading;
@@ -77,12 +77,7 @@ impl PlaceSet {
 fn is_reserved(places: &[u32], place: u32) -> bool
     ensures { result ≡ is_reserved places.now place }
 {
-    for other in places {
-        if *other == place {
-            return true;
-        }
-    }
-    false
+    places.contains(&place)
 }
 
 /// What the lines say of words that are reserved.

@@ -7,8 +7,8 @@ ghost use Rattle.diagnostics.specs.Warnings.{leads_on, small_number};
 
 use crate::causes::text_of;
 use crate::flow::word_count;
-use crate::mistakes::{has_alone, reserves_one};
-use crate::roles::{is_erase, is_setloc, names_bank};
+use crate::roles::Class;
+use crate::warning::{has_alone, reserves_one};
 use agc_text::{Number, octal_value};
 use yayul::Reading;
 
@@ -19,11 +19,11 @@ const END: u32 = 0o10000;
 pub(crate) fn place_after(place: Option<u32>, parts: &Reading<'_>) -> Option<u32>
     ensures { result ≡ place_after place (parts_in parts.now) }
 {
-    if is_setloc(parts.role) {
-        number_beside(is_setloc(parts.role), parts)
-    } else if names_bank(parts.role) {
+    if Class::Setloc.has(parts.role) {
+        number_beside(Class::Setloc.has(parts.role), parts)
+    } else if Class::NamesBank.has(parts.role) {
         None
-    } else if is_erase(parts.role) {
+    } else if Class::Erase.has(parts.role) {
         if reserves_one(parts) {
             place_past(1, place)
         } else {
@@ -38,10 +38,10 @@ pub(crate) fn place_after(place: Option<u32>, parts: &Reading<'_>) -> Option<u32
 pub(crate) fn bank_after(bank: Option<u32>, parts: &Reading<'_>) -> Option<u32>
     ensures { result ≡ bank_after bank (parts_in parts.now) }
 {
-    if is_setloc(parts.role) {
+    if Class::Setloc.has(parts.role) {
         None
-    } else if names_bank(parts.role) {
-        number_beside(names_bank(parts.role), parts)
+    } else if Class::NamesBank.has(parts.role) {
+        number_beside(Class::NamesBank.has(parts.role), parts)
     } else {
         bank
     }
@@ -51,8 +51,8 @@ pub(crate) fn bank_after(bank: Option<u32>, parts: &Reading<'_>) -> Option<u32>
 pub(crate) fn leads_on(place: Option<u32>, bank: Option<u32>, parts: &Reading<'_>) -> bool
     ensures { result ≡ leads_on place bank (parts_in parts.now) }
 {
-    is_same_known(place, number_beside(is_setloc(parts.role), parts))
-        || is_same_known(bank, number_beside(names_bank(parts.role), parts))
+    is_same_known(place, number_beside(Class::Setloc.has(parts.role), parts))
+        || is_same_known(bank, number_beside(Class::NamesBank.has(parts.role), parts))
 }
 
 /// Whether two numbers are known and the same.

@@ -3,7 +3,8 @@
 ghost use Rattle.std.specs.Prelude.{◌≡◌};
 ghost use Rattle.diagnostics.specs.Report.{as_error, as_warning};
 
-use yayul::{Finding, Span};
+use json_text::Notation;
+use yayul::{Finding, Language, Span};
 
 /// Whether what is found bars a source from assembling.
 #[derive(Clone, Copy, PartialEq, Eq, Debug, Drop)]
@@ -72,4 +73,15 @@ impl Told {
             span: warning.span,
         }
     }
+}
+
+/// A source that is told of.
+#[derive(Clone, Copy)]
+pub(crate) struct Source<'n, 't, 's> {
+    pub(crate) notation: Notation,
+    pub(crate) language: Language,
+    /// The name of its file.
+    pub(crate) name: &'n [u8],
+    /// Its lines.
+    pub(crate) texts: &'t [&'s [u8]],
 }

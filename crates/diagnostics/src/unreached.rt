@@ -12,11 +12,8 @@ ghost use Rattle.diagnostics.specs.Warnings.{skipping, skips_after, behind_after
 use crate::causes::{is_signed, text_of};
 use crate::flow::{Before, gives_word, is_instruction, is_vector_place};
 use crate::handlers::stores_way;
-use crate::mistakes::indexed_after;
-use crate::roles::{
-    computes_way, goes_back, has_four_ways, is_call, is_constant, is_equals, is_idle, is_index,
-    is_jump, leads_on_to, may_skip, moves_location, sets_bank,
-};
+use crate::roles::Class;
+use crate::warning::indexed_after;
 use agc_text::octal_value;
 use symbols::register_place;
 use yayul::Reading;
@@ -63,7 +60,7 @@ fn leads_unnamed(indexed: bool, parts: &Reading<'_>) -> bool
 fn jumps_unnamed(indexed: bool, parts: &Reading<'_>) -> bool
     ensures { result ≡ jumps_unnamed indexed (parts_in parts.now) }
 {
-    leads_on_to(parts.role)
+    Class::LeadsOnTo.has(parts.role)
         && (indexed || parts.offset.is_some() || is_unnamed(text_of(parts.operand)))
 }
 
@@ -71,14 +68,14 @@ fn jumps_unnamed(indexed: bool, parts: &Reading<'_>) -> bool
 fn names_beyond(parts: &Reading<'_>) -> bool
     ensures { result ≡ names_beyond (parts_in parts.now) }
 {
-    (is_constant(parts.role) || is_equals(parts.role)) && parts.offset.is_some()
+    (Class::Constant.has(parts.role) || Class::Equals.has(parts.role)) && parts.offset.is_some()
 }
 
 // What goes on where a register says.
 fn goes_by_register(parts: &Reading<'_>) -> bool
     ensures { result ≡ goes_by_register (parts_in parts.now) }
 {
-    sets_bank(parts.role) || computes_way(parts.role) || stores_way(parts)
+    Class::SetsBank.has(parts.role) || Class::ComputesWay.has(parts.role) || stores_way(parts)
 }
 
 // A number, a place beside the line, or a register but Q.
@@ -102,9 +99,12 @@ fn is_other_register(text: &[u8]) -> bool
 fn skipping(parts: &Reading<'_>) -> u8
     ensures { result ≡ skipping (parts_in parts.now) }
 {
-    if has_four_ways(parts.role) {
+    if Class::HasFourWays.has(parts.role) {
         4
-    } else if is_call(parts.role) || is_index(parts.role) || may_skip(parts.role) {
+    } else if Class::Call.has(parts.role)
+        || Class::Index.has(parts.role)
+        || Class::MaySkip.has(parts.role)
+    {
         2
     } else {
         0
@@ -128,8 +128,8 @@ pub(crate) fn behind_after(behind: bool, parts: &Reading<'_>) -> bool
     ensures { result ≡ behind_after behind (parts_in parts.now) }
 {
     if gives_word(parts) {
-        is_jump(parts.role) || goes_back(parts.role)
-    } else if moves_location(parts.role) || parts.label.is_some() {
+        Class::Jump.has(parts.role) || Class::GoesBack.has(parts.role)
+    } else if Class::MovesLocation.has(parts.role) || parts.label.is_some() {
         false
     } else {
         behind
@@ -151,7 +151,10 @@ fn may_enter(place: Option<u32>, bank: Option<u32>) -> bool
 fn is_work(parts: &Reading<'_>) -> bool
     ensures { result ≡ is_work (parts_in parts.now) }
 {
-    is_instruction(parts) && !(is_jump(parts.role) || is_call(parts.role) || is_idle(parts.role))
+    is_instruction(parts)
+        && !(Class::Jump.has(parts.role)
+            || Class::Call.has(parts.role)
+            || Class::Idle.has(parts.role))
 }
 
 /// Whether a word stands behind a jump, to which nothing leads.

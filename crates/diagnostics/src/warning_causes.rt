@@ -8,7 +8,7 @@ ghost use Rattle.diagnostics.specs.Causes.{caution_cause, doubt_cause, number_ca
 ghost use Rattle.diagnostics.specs.Views.{cause_in};
 
 use crate::causes::{Cause, text_of};
-use crate::roles::reads_erasable;
+use crate::roles::Class;
 use crate::told::{Doubt, Warning};
 use symbols::register_place;
 use yayul::Reading;
@@ -61,7 +61,7 @@ fn warning_cause(parts: &Reading<'_>, number: u8) -> Cause
             b"TCF as the fourth, and the routine elsewhere",
         ),
         6 => Cause::cured(
-            b"@ stands in a switched erasable bank, and no line sets EB",
+            b"% reaches a switched erasable bank, and no line sets EB",
             b"NAME ECADR @ on a line of its own; before this CA NAME, and TS 3, which is EB",
         ),
         7 => Cause::cured_by(
@@ -120,7 +120,7 @@ fn way_cause(number: u8) -> Cause
 fn number_cause(parts: &Reading<'_>) -> Cause
     ensures { cause_in result ≡ number_cause (parts_in parts.now) }
 {
-    if reads_erasable(parts.role) {
+    if Class::ReadsErasable.has(parts.role) {
         Cause::cured(
             b"an operand is an address: @ is the register or the counter at place @, and not the number",
             b"the number has a line of its own, behind the last jump: NAME OCT @, and CA NAME and TS copy it to where \

@@ -1,28 +1,18 @@
 -- What a step does not write stays the same.
-use Rattle.std.proofs.Common.{◌≡◌, ◌≢◌, ℕ, zero, suc, ◌+◌, ◌-◌, ◌<◌, ◌≤◌, ◌==◌, ◌||◌, ◌&&◌, not, cond, true, false, Bool, List, [], ◌∷◌}
-use Rattle.std.proofs.Common.{Option, Some, None, ltb, eqb, drop, length, get_or, refl, sym, arith, ap, ◌∙◌, inl, inr}
+use Rattle.std.proofs.Common.{◌≡◌, ◌≢◌, ℕ, zero, suc, ◌+◌, ◌-◌, ◌<◌, ◌≤◌, ◌&&◌, not, true, false, Bool, List, [], ◌∷◌}
+use Rattle.std.proofs.Common.{Option, Some, None, ltb, eqb, drop, length, get_or, refl, arith, ap, ◌∙◌, inl, inr}
 use Rattle.std.specs.Option.{option_map, option_or}
 use Rattle.std.proofs.lemmas.Bool.{cases_Bool}
 use Rattle.std.proofs.lemmas.List.{drop_all, drop_more}
 use Rattle.std.proofs.lemmas.Bool.Decides.{nat_tests}
-use Rattle.space.specs.Cells.{Cells, accumulator, at, both_banks, channel_cell, erasable_count, get, get_channel, is_cell}
-use Rattle.space.specs.Cells.{lower_accumulator_channel, return_address, return_address_channel, word_at}
-use Rattle.words.specs.Numbers.{extend}
-use Rattle.cpu.specs.Links.{is_in, link, targets, writes}
+use Rattle.space.proofs.CellLaws.{same_get}
+use Rattle.space.specs.Cells.{Cells, at, both_banks, channel_cell, erasable_count, get_channel, is_cell}
+use Rattle.space.specs.Cells.{lower_accumulator_channel, return_address_channel}
+use Rattle.cpu.specs.Links.{is_in, link, targets}
 use Rattle.cpu.specs.Next.{next}
 use Rattle.cpu.specs.State.{Scenario, State}
 use Rattle.cpu.proofs.Leaving.{leaves_rest}
-use Rattle.differ.specs.declared.states.CellApart.{CellApart}
 use Rattle.differ.specs.States.{apart_after, apart_in, cell_apart, cell_count, first_cell, is_apart, reading, same_cells}
-
-same_word : (s t : Cells) (q : ℕ) → q ≢ both_banks → at t q ≡ at s q → word_at t q ≡ word_at s q
-same_word s t q m6 h = grind (arith, nat_tests)
-
-same_get : (s t : Cells) (q : ℕ) → q ≢ both_banks → at t q ≡ at s q → get t q ≡ get s q
-unfolding get
-same_get s t q m6 h =
-    let wide = q == accumulator || q == return_address in
-    ap (λ w. cond wide w (extend (word_at t q))) h ∙ ap (λ w. cond wide (at s q) (extend w)) (same_word s t q m6 h)
 
 same_channel : (s t : Cells) (n : ℕ) → n ≢ lower_accumulator_channel → n ≢ return_address_channel
     → at t (channel_cell n) ≡ at s (channel_cell n) → get_channel t n ≡ get_channel s n
@@ -45,7 +35,7 @@ no_back c le is = grind (arith, nat_tests, is, le)
 pub reading_kept : (s t : Cells) (c : ℕ) → is_cell c ≡ true → at t c ≡ at s c → reading t c ≡ reading s c
 unfolding reading
 reading_kept s t c is same = elim (cases_Bool (ltb c erasable_count)) [
-  | inl low ↦ rw low (same_get s t c (no_banks c is) same)
+  | inl low ↦ rw low (same_get t s c (no_banks c is) same)
   | inr high ↦
       let le : erasable_count ≤ c = grind (arith, nat_tests, high) in
       let back : channel_cell (c - erasable_count) ≡ c = omega (arith, le) in

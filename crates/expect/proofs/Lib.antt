@@ -1,5 +1,4 @@
 mod Watching
-mod Writing
 mod Steps
 mod Noted
 mod Rows

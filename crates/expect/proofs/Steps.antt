@@ -5,6 +5,7 @@ use Rattle.std.proofs.lemmas.Bool.Decides.{eqb_tells}
 use Rattle.std.specs.Prelude.{IfErr, OnOk, is_some}
 use Rattle.std.specs.Option.{option_or}
 use Rattle.agc_text.specs.Fields.{before_comment, fields, runs, texts}
+use Rattle.words.proofs.Texts.{append-then}
 use Rattle.symbols.specs.Values.{SymbolTable}
 use Rattle.expect.specs.Facts.{Facts}
 use Rattle.expect.specs.Lines.{Reading, alone, and_word, claims_of, is_then, nothing_at, word_of_line, word_then, words_at}
@@ -197,3 +198,9 @@ pub words_add : (channel within at before : ℕ) (all : List (List ℕ)) (field 
 words_add channel within at before all field more claim test n old between new result is stands reads one adds =
     rw (words_word channel within at before all field more is stands, sym reads)
     (adds_more claim (words_at channel within at (before + 1) more) test n old between new result one adds)
+
+-- a text, a number and a text, one after another
+pub pushed_three : (old front number back one two new : List ℕ) → one ≡ old ++ front → two ≡ one ++ number → new ≡ two ++ back
+    → new ≡ old ++ (front ++ (number ++ back))
+pushed_three old front number back one two new first second third = append-then old one new front (number ++ back) first
+    (append-then one two new number back second third)

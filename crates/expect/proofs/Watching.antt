@@ -1,15 +1,12 @@
 -- Claims that are watched, step by step.
-use Rattle.std.proofs.Common.{◌≡◌, ℕ, zero, suc, ◌+◌, ◌<◌, ◌≤◌, ◌^◌, ◌-◌, List, [], ◌∷◌, ◌++◌, map, take, drop, length, get_or, None, true}
-use Rattle.std.proofs.Common.{false, refl, sym, ap, ◌∙◌, inl, inr, arith, add-one, append-nil, take_all}
+use Rattle.std.proofs.Common.{◌≡◌, ℕ, zero, suc, ◌+◌, ◌<◌, ◌≤◌, ◌^◌, ◌-◌, List, [], ◌∷◌, ◌++◌, map, take, drop, length, None}
+use Rattle.std.proofs.Common.{refl, ap, ◌∙◌, inl, inr, arith, add-one, append-nil, take_all}
 use Rattle.std.proofs.lemmas.List.{drop_all, length-map}
-use Rattle.std.specs.List.{All}
 use Rattle.std.proofs.lemmas.Bool.{cases_Bool}
-use Rattle.cpu.specs.declared.output.Output.{Output}
 use Rattle.cpu.specs.Next.{next}
 use Rattle.cpu.specs.Run.{run, out}
-use Rattle.cpu.specs.State.{FitsRun, Scenario, State}
-use Rattle.cpu.proofs.RunLaws.{cycles-run, out-add-one, run-add-one}
-use Rattle.cpu.proofs.TakenLaws.{run-fits}
+use Rattle.cpu.specs.State.{Scenario, State}
+use Rattle.cpu.proofs.RunLaws.{out-add-one, run-add-one}
 use Rattle.expect.specs.Claims.{broken, call_at, counts, seen}
 use Rattle.expect.specs.Watches.{AreFew, ended, judged, noted, started, unseen, watched}
 use Rattle.expect.specs.declared.claim.Claim.{Claim}
@@ -109,13 +106,3 @@ all_few scenario n (c ∷ cs) few (suc k) d lt = all_few scenario n cs few k d (
 pub few_watches : (scenario : Scenario) (n : ℕ) (watches : List Watch) (claims : List Stated) → n < 2 ^ 62
     → watches ≡ map (watched scenario n) claims → AreFew watches
 few_watches scenario n watches claims few is = rw is (all_few scenario n claims few)
-
-pub state_more : (scenario now : Scenario) (n : ℕ) (s t : State) → now ≡ scenario → s ≡ run scenario n → t ≡ (next now s).0
-    → t ≡ run scenario (n + 1)
-state_more scenario now n s t same at made = rw (run-add-one scenario n) (rw (same, at) at made)
-
-pub few_cycles : (scenario : Scenario) (n : ℕ) (s : State) → s ≡ run scenario n → n < 2 ^ 40 → s.cycles ≤ 2 ^ 62
-few_cycles scenario n s e h = rw e (omega (arith, cycles-run scenario n))
-
-pub fits_after : (scenario now : Scenario) (n : ℕ) (s : State) → now ≡ scenario → s ≡ run scenario n → FitsRun now s
-fits_after scenario now n s same e = rw (same, e) (run-fits scenario n)

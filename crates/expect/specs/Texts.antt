@@ -1,6 +1,7 @@
 -- A text of tests: what it runs, and what each of its tests claims; or where it is refused.
 use Rattle.std.specs.Prelude.{◌≡◌, ℕ, ◌+◌, ◌-◌, ◌^◌, ◌==◌, ◌&&◌, nat_le, Bool, true, false, List, [], ◌∷◌, ◌++◌}
-use Rattle.std.specs.Prelude.{map, Option, None, Some, Result, Ok, Err, codes}
+use Rattle.std.specs.Prelude.{map, Option, None, Some, Result, Ok, Err, MatchResult, codes}
+use Rattle.std.specs.Option.{option_map}
 use Rattle.std.specs.Prelude.{if◌then◌else◌, ⊤}
 use Rattle.agc_text.specs.Fields.{runs, texts}
 use Rattle.agc_text.specs.Lines.{lines}
@@ -12,6 +13,7 @@ use Rattle.expect.specs.Lines.{Reading, claims_of, words_at}
 use Rattle.expect.specs.Statements.{Statement, statements}
 use Rattle.expect.specs.declared.claim.Claim.{Claim}
 use Rattle.expect.specs.declared.claim.Stated.{Stated}
+use Rattle.expect.specs.declared.heading.Expectation.{Expectation}
 use Rattle.expect.specs.declared.line.Line.{Line}
 use Rattle.expect.specs.declared.line.Line.TheVariants as line
 use Rattle.expect.specs.declared.refusal.Asked.{Asked}
@@ -98,6 +100,20 @@ with_source s (Some source) more = after_source source more
 abbrev pub heading_of : List Statement → Result Heading Refusal
 heading_of [] = refused_at 0 0 asked.Source
 heading_of (s ∷ more) = with_source s (setting (codes "SOURCE") s.fields) more
+
+-- the heading that an expectation is
+abbrev pub heading_by : Expectation → Heading
+heading_by e = record {
+  source = e.source.now;
+  feed = option_map (λ f. f.now) e.feed;
+  steps = e.steps;
+  until_idle = e.until_idle;
+  tests = statements e.line (lines e.tests.now);
+}
+
+-- whether an expectation is a heading that is told, or the refusal is
+abbrev pub IsTold : Result Heading Refusal → Result Expectation Refusal → Type 0
+IsTold told result = MatchResult result (λ e. told ≡ Ok (heading_by e)) (λ refusal. told ≡ Err refusal)
 
 -- ## What is claimed
 -- a claim of a line of a test

@@ -1,11 +1,11 @@
 //! What a text of tests runs.
 
-ghost use Rattle.std.specs.Prelude.{◌≡◌, ◌+◌, ◌-◌, ◌∷◌, ◌≤◌, ◌^◌, length, Option, Ok, Err, IfOk, IfSome, MatchResult};
+ghost use Rattle.std.specs.Prelude.{◌≡◌, ◌+◌, ◌-◌, ◌∷◌, ◌≤◌, ◌^◌, length, Option, IfOk, IfSome};
 ghost use Rattle.std.specs.Option.{option_map};
 ghost use Rattle.agc_text.specs.Fields.{runs, texts};
 ghost use Rattle.agc_text.specs.Lines.{lines};
 ghost use Rattle.expect.specs.Statements.{statements};
-ghost use Rattle.expect.specs.Texts.{after_feed, after_source, heading_of, setting, steps_field, steps_of};
+ghost use Rattle.expect.specs.Texts.{IsTold, after_feed, after_source, heading_of, setting, steps_field, steps_of};
 ghost use Rattle.expect.specs.Texts.{until_in};
 
 use crate::condition::wrong;
@@ -38,17 +38,7 @@ pub struct Expectation<'a> {
 /// its tests follow. The first line that is another is told.
 pub fn expectation_in(text: &[u8]) -> Result<Expectation<'_>, Refusal>
     requires { length text.now ≤ 2 ^ 20 }
-    ensures heading { MatchResult result
-        (λ e. heading_of (statements 0 (lines text.now))
-        ≡ Ok (record {
-          source = e.source.now;
-          feed = option_map (λ f. f.now) e.feed;
-          steps = e.steps;
-          until_idle = e.until_idle;
-          tests
-              = statements e.line (lines e.tests.now);
-        }))
-        (λ refusal. heading_of (statements 0 (lines text.now)) ≡ Err refusal) }
+    ensures heading { IsTold (heading_of (statements 0 (lines text.now))) result }
     ensures few { IfOk result (λ e. e.line + length e.tests.now ≤ 2 ^ 20) }
     ensures steps { IfOk result (λ e. e.steps ≤ 2 ^ 40 - 2) }
 {
@@ -64,17 +54,7 @@ pub fn expectation_in(text: &[u8]) -> Result<Expectation<'_>, Refusal>
 /// The same, where the source is known, and so many lines are read.
 fn after_source<'a>(source: &'a [u8], line: u64, text: &'a [u8]) -> Result<Expectation<'a>, Refusal>
     requires { line + length text.now ≤ 2 ^ 20 }
-    ensures heading { MatchResult result
-        (λ e. after_source source.now (statements line (lines text.now))
-        ≡ Ok (record {
-          source = e.source.now;
-          feed = option_map (λ f. f.now) e.feed;
-          steps = e.steps;
-          until_idle = e.until_idle;
-          tests
-              = statements e.line (lines e.tests.now);
-        }))
-        (λ refusal. after_source source.now (statements line (lines text.now)) ≡ Err refusal) }
+    ensures heading { IsTold (after_source source.now (statements line (lines text.now))) result }
     ensures few { IfOk result (λ e. e.line + length e.tests.now ≤ 2 ^ 20) }
     ensures steps { IfOk result (λ e. e.steps ≤ 2 ^ 40 - 2) }
 {
@@ -95,18 +75,8 @@ fn after_feed<'a>(
     text: &'a [u8],
 ) -> Result<Expectation<'a>, Refusal>
     requires { line + length text.now ≤ 2 ^ 20 }
-    ensures heading { MatchResult result
-        (λ e. after_feed source.now (option_map (λ f. f.now) feed.entry) (statements line (lines text.now))
-        ≡ Ok (record {
-          source = e.source.now;
-          feed = option_map (λ f. f.now) e.feed;
-          steps = e.steps;
-          until_idle = e.until_idle;
-          tests
-              = statements e.line (lines e.tests.now);
-        }))
-        (λ refusal. after_feed source.now (option_map (λ f. f.now) feed.entry) (statements line (lines text.now))
-        ≡ Err refusal) }
+    ensures heading { IsTold (after_feed source.now (option_map (λ f. f.now) feed.entry)
+        (statements line (lines text.now))) result }
     ensures few { IfOk result (λ e. e.line + length e.tests.now ≤ 2 ^ 20) }
     ensures steps { IfOk result (λ e. e.steps ≤ 2 ^ 40 - 2) }
 {
@@ -123,21 +93,9 @@ fn with_steps<'a>(
     next: &Statement<'a>,
 ) -> Result<Expectation<'a>, Refusal>
     requires { next.now.line + length next.now.rest.now ≤ 2 ^ 20 }
-    ensures heading { MatchResult result
-        (λ e. after_feed source.now (option_map (λ f. f.now) feed.entry)
+    ensures heading { IsTold (after_feed source.now (option_map (λ f. f.now) feed.entry)
         (record { line = next.now.line; fields = texts (runs next.now.fields.now) }
-        ∷ statements next.now.line (lines next.now.rest.now))
-        ≡ Ok (record {
-          source = e.source.now;
-          feed = option_map (λ f. f.now) e.feed;
-          steps = e.steps;
-          until_idle = e.until_idle;
-          tests
-              = statements e.line (lines e.tests.now);
-        }))
-        (λ refusal. after_feed source.now (option_map (λ f. f.now) feed.entry)
-        (record { line = next.now.line; fields = texts (runs next.now.fields.now) }
-        ∷ statements next.now.line (lines next.now.rest.now)) ≡ Err refusal) }
+        ∷ statements next.now.line (lines next.now.rest.now))) result }
     ensures few { IfOk result (λ e. e.line + length e.tests.now ≤ 2 ^ 20) }
     ensures steps { IfOk result (λ e. e.steps ≤ 2 ^ 40 - 2) }
 {

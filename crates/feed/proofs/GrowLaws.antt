@@ -4,6 +4,7 @@ use Rattle.std.proofs.Common.{Some, length, ap, ◌∙◌, sym, arith, subst, ma
 use Rattle.std.specs.Prelude.{slice_get, IfSome}
 use Rattle.std.specs.List.{range_with_len}
 use Rattle.std.proofs.lemmas.List.{append-nil}
+use Rattle.feed.proofs.Numbered.{pushed}
 use Rattle.feed.specs.declared.entry.Entry.{Entry}
 use Rattle.feed.specs.declared.entry.Plain.{Plain}
 use Rattle.feed.specs.declared.entry.Series.{Series}
@@ -55,10 +56,7 @@ among-parts x (z ∷ xs) ys (inr h) = elim (among-parts x xs ys h) [ inl a ↦ i
 entries-more : (j n : ℕ) (series : List Series) (s : Series) → j + length series ≡ n
     → entries_from j (series ++ s ∷ []) ≡ entries_from j series ++ entries_of n s
 unfolding entries_from
-entries-more j n [] s e = append-nil _ ∙ ap (λ k. entries_of k s) (let f : j ≡ n = omega (arith, e) in f)
-entries-more j n (t ∷ series) s e =
-    ap (λ l. entries_of j t ++ l) (entries-more (j + 1) n series s (omega (arith, e)))
-    ∙ sym (append_assoc (entries_of j t) (entries_from (j + 1) series) (entries_of n s))
+entries-more j n series s e = pushed entries_of entries_from (λ k. refl) (λ k t ts. refl) j n series s e
 
 own-range : (n : ℕ) (s : Series) (x : Entry) (a k : ℕ) → IsAmong x (map (series_entry n s) (range_with_len a k))
     → (x.line ≡ s.line) × (x.series ≡ Some n)

@@ -14,3 +14,4 @@ mod KeptLaws
 mod AddLaws
 mod GrowLaws
 pub mod Givens
+mod Numbered

@@ -4,6 +4,7 @@ use Rattle.std.specs.List.{insert}
 use Rattle.std.proofs.lemmas.Bool.{ltb-false}
 use Rattle.std.specs.Option.{option_or}
 use Rattle.std.proofs.lemmas.List.{append_assoc, append-nil, length-append}
+use Rattle.feed.proofs.Numbered.{pushed}
 use Rattle.feed.specs.Added.{LinesBelow}
 use Rattle.feed.specs.Feed.{most_inputs, is_late, plain_in, series_in, plain_from, series_from, fault_after, first_fault}
 use Rattle.feed.specs.Heads.{IsRule}
@@ -30,19 +31,13 @@ first_from plain series number (line ∷ after) =
 plain_from-push : (line number : ℕ) (before : List Statement) (said : Statement) → line + length before ≡ number
     → plain_from line (before ++ said ∷ []) ≡ plain_from line before ++ plain_in number said
 unfolding plain_from
-plain_from-push line number [] said at = append-nil _ ∙ ap (λ n. plain_in n said) (let e : line ≡ number = omega (arith, at) in e)
-plain_from-push line number (first ∷ before) said at =
-    ap (λ list. plain_in line first ++ list) (plain_from-push (line + 1) number before said (omega (arith, at)))
-    ∙ sym (append_assoc (plain_in line first) (plain_from (line + 1) before) (plain_in number said))
+plain_from-push line number before said at = pushed plain_in plain_from (λ n. refl) (λ n x xs. refl) line number before said at
 
 -- the series of one line more
 series_from-push : (line number : ℕ) (before : List Statement) (said : Statement) → line + length before ≡ number
     → series_from line (before ++ said ∷ []) ≡ series_from line before ++ series_in number said
 unfolding series_from
-series_from-push line number [] said at = append-nil _ ∙ ap (λ n. series_in n said) (let e : line ≡ number = omega (arith, at) in e)
-series_from-push line number (first ∷ before) said at =
-    ap (λ list. series_in line first ++ list) (series_from-push (line + 1) number before said (omega (arith, at)))
-    ∙ sym (append_assoc (series_in line first) (series_from (line + 1) before) (series_in number said))
+series_from-push line number before said at = pushed series_in series_from (λ n. refl) (λ n x xs. refl) line number before said at
 
 first_fault-from : (before after : List Statement)
     → first_fault before after ≡ first_from (plain_from 1 before) (series_from 1 before) (length before + 1) after

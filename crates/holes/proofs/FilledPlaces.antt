@@ -26,11 +26,11 @@ at_other w o f b k c m lk apart = elim (cases_Bool (is_hole_at w o b k)) [
   | inr none ↦ rw none refl
 ]
 
-not_last : (b c n m : ℕ) → (c ≢ b) ⊎ (suc n ≤ m) → (c ≢ b) ⊎ (m ≢ n)
+pub not_last : (b c n m : ℕ) → (c ≢ b) ⊎ (suc n ≤ m) → (c ≢ b) ⊎ (m ≢ n)
 not_last b c n m (inl apart) = inl apart
 not_last b c n m (inr past) = inr (λ (e : m ≡ n). omega (arith, past, e))
 
-past_less : (b c n m : ℕ) → (c ≢ b) ⊎ (suc n ≤ m) → (c ≢ b) ⊎ (n ≤ m)
+pub past_less : (b c n m : ℕ) → (c ≢ b) ⊎ (suc n ≤ m) → (c ≢ b) ⊎ (n ≤ m)
 past_less b c n m (inl apart) = inl apart
 past_less b c n m (inr past) = inr (omega (arith, past))
 

@@ -1,26 +1,13 @@
 -- A run that is made up to the first hole, step by step.
-use Rattle.std.proofs.Common.{◌≡◌, ℕ, zero, suc, ◌+◌, ◌-◌, ◌<◌, ◌≤◌, ◌^◌, Bool, true, false, Option, Some, None, refl, sym, ap, ◌∙◌}
+use Rattle.std.proofs.Common.{◌≡◌, ℕ, zero, suc, ◌+◌, ◌-◌, ◌<◌, Bool, true, false, Option, Some, None, refl, sym, ap, ◌∙◌}
 use Rattle.std.proofs.Common.{arith, add-one, if◌then◌else◌}
 use Rattle.std.specs.Option.{option_or}
-use Rattle.cpu.specs.Next.{next}
 use Rattle.cpu.specs.Run.{run}
-use Rattle.cpu.specs.State.{Scenario, State, FitsRun}
-use Rattle.cpu.proofs.RunLaws.{run-add-one, cycles-run}
-use Rattle.cpu.proofs.TakenLaws.{run-fits}
+use Rattle.cpu.specs.State.{Scenario, State}
 use Rattle.holes.specs.HoleRuns.{fetches_hole, first_hole, hole_after, place_of_z}
 use Rattle.holes.specs.declared.run_to_hole.FoundHole.{FoundHole}
 use Rattle.rope.specs.Places.{Words}
 use Rattle.space.specs.declared.place.Linear.{Linear}
-
-pub few_cycles : (scenario : Scenario) (n : ℕ) (s : State) → s ≡ run scenario n → n < 2 ^ 40 → s.cycles ≤ 2 ^ 62
-few_cycles scenario n s e h = rw e (omega (arith, cycles-run scenario n))
-
-pub fits_after : (scenario now : Scenario) (n : ℕ) (s : State) → now ≡ scenario → s ≡ run scenario n → FitsRun now s
-fits_after scenario now n s same e = rw (same, e) (run-fits scenario n)
-
-pub state_more : (scenario now : Scenario) (n : ℕ) (s t : State) → now ≡ scenario → s ≡ run scenario n → t ≡ (next now s).0
-    → t ≡ run scenario (n + 1)
-state_more scenario now n s t same at made = rw (run-add-one scenario n) (rw (same, at) at made)
 
 pub none_first : (scenario : Scenario) (other : Words) → first_hole scenario other 0 ≡ None
 unfolding first_hole

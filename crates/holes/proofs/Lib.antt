@@ -1,4 +1,5 @@
 pub mod FilledPlaces
+pub mod AroundPlaces
 pub mod Listed
 pub mod Passed
 pub mod HoleTurns

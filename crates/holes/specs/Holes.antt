@@ -56,6 +56,26 @@ filled_banks words other from (suc n) = filled_in (filled_banks words other from
 abbrev pub filled : Words → Words → Words → Words
 filled words other from = filled_banks words other from banks
 
+-- ## The words of an image around holes
+-- a place that is no hole has the word of the image
+unfoldable pub around_at : Words → Words → Words → ℕ → ℕ → Words
+around_at words other image bank offset =
+    if is_hole_at words other bank offset then words else with_word words bank offset (word_at image bank offset)
+
+-- so have those of the first n places of a bank
+unfoldable pub around_in : Words → Words → Words → ℕ → ℕ → Words
+around_in words other image bank zero = words
+around_in words other image bank (suc n) = around_at (around_in words other image bank n) other image bank n
+
+-- so have those of the first n banks
+unfoldable pub around_banks : Words → Words → Words → ℕ → Words
+around_banks words other image zero = words
+around_banks words other image (suc n) = around_in (around_banks words other image n) other image n bank_words
+
+-- so have all, and a hole the word that stands there, whatever the image has in its place
+abbrev pub around_holes : Words → Words → Words → Words
+around_holes words other image = around_banks words other image banks
+
 -- ## Text
 -- a comment that tells a hole: its place, and the word of the image there
 unfoldable pub hole_row : Words → ℕ × ℕ → List ℕ

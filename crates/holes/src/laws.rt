@@ -1,6 +1,6 @@
 //! The laws of holes. They are contracts of calls that do nothing.
 
-ghost use Rattle.holes.specs.HoleLaws.{AreFilled, StaysWithoutHoles};
+ghost use Rattle.holes.specs.HoleLaws.{AreFilled, HolesStay, StaysWithoutHoles};
 
 use rope::Rope;
 
@@ -18,4 +18,14 @@ pub fn holes_are_filled(words: &Rope, other: &Rope, from: &Rope)
     let _words = words;
     let _other = other;
     let _from = from;
+}
+
+/// Where the words of an image are put around holes each hole keeps its word, and each other place takes that of the
+/// image; and behind a hole whose word is 00000 no extracode is in force.
+pub fn holes_stay(words: &Rope, other: &Rope, image: &Rope)
+    ensures { HolesStay words.now other.now image.now }
+{
+    let _words = words;
+    let _other = other;
+    let _image = image;
 }

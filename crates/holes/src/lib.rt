@@ -3,6 +3,7 @@
 //! from another fixed memory. A run may be made up to the first hole, and the words of an image shown with the holes.
 #![tactic(auto)]
 
+mod around;
 mod filling;
 mod hole_lines;
 mod hole_rows;
@@ -12,6 +13,7 @@ mod program;
 mod run_to_hole;
 mod source;
 
+pub use around::put_around_holes;
 pub use filling::filled;
 pub use hole_rows::write_holes;
 pub use holed_words::write_holed_words;

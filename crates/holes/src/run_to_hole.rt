@@ -4,7 +4,8 @@ ghost use Rattle.std.specs.Prelude.{◌≡◌, ◌+◌, ◌-◌, ◌≤◌, ◌<
 ghost use Rattle.words.specs.Devices.{Writes, failures_after};
 ghost use Rattle.cpu.specs.Next.{next};
 ghost use Rattle.cpu.specs.State.{FitsRun};
-ghost use Rattle.holes.specs.HoleRuns.{fetches, fetches_hole, first_hole, hole_front, hole_text, is_hole_of, place_of_z};
+ghost use Rattle.holes.specs.HoleRuns.{fetches, fetches_hole, first_hole, hole_front, hole_text, is_hole_of};
+ghost use Rattle.holes.specs.HoleRuns.{place_of_z};
 
 use crate::filling::is_hole_at;
 use arrayvec::ArrayVec;

@@ -1,28 +1,16 @@
 -- A run that is made until the program idles, step by step.
 use Rattle.std.proofs.Common.{◌≡◌, ℕ, zero, suc, ◌+◌, ◌-◌, ◌*◌, ◌<◌, ◌≤◌, ◌^◌, Bool, true, false, Option}
 use Rattle.std.proofs.Common.{Some, None, length, refl, sym, ap, ◌∙◌}
-use Rattle.std.proofs.Common.{arith, add-one, length-append, subst, if◌then◌else◌, ◌++◌, inl, inr}
+use Rattle.std.proofs.Common.{arith, add-one, length-append, if◌then◌else◌, inl, inr}
 use Rattle.std.proofs.lemmas.Bool.{cases_Bool}
 use Rattle.std.specs.Option.{option_or, option_to_list}
 use Rattle.std.specs.Prelude.{nat_le, unwrap_or}
-use Rattle.cpu.specs.declared.output.Output.{Output}
 use Rattle.cpu.specs.Next.{next}
 use Rattle.cpu.specs.Run.{run, out, outs}
-use Rattle.cpu.specs.State.{Scenario, State, FitsRun}
-use Rattle.cpu.proofs.RunLaws.{run-zero, run-add-one, out-add-one, outs-zero, outs-add-one, cycles-run}
-use Rattle.cpu.proofs.TakenLaws.{run-fits}
+use Rattle.cpu.specs.State.{Scenario, State}
+use Rattle.cpu.proofs.RunLaws.{out-add-one, outs-zero, outs-add-one}
 use Rattle.idle.specs.Idling.{checkpoint, first_idle, idles, is_again, renewed, steps_until_idle}
 use Rattle.idle.specs.declared.checkpoint.Checkpoint.{Checkpoint}
-
-pub few_cycles : (scenario : Scenario) (n : ℕ) (s : State) → s ≡ run scenario n → n < 2 ^ 40 → s.cycles ≤ 2 ^ 62
-few_cycles scenario n s e h = rw e (omega (arith, cycles-run scenario n))
-
-pub fits_after : (scenario now : Scenario) (n : ℕ) (s : State) → now ≡ scenario → s ≡ run scenario n → FitsRun now s
-fits_after scenario now n s same e = rw (same, e) (run-fits scenario n)
-
-pub state_more : (scenario now : Scenario) (n : ℕ) (s t : State) → now ≡ scenario → s ≡ run scenario n → t ≡ (next now s).0
-    → t ≡ run scenario (n + 1)
-state_more scenario now n s t same at made = rw (run-add-one scenario n) (rw (same, at) at made)
 
 -- how many words were put out
 pub none_put : (scenario : Scenario) → 0 ≡ length (outs scenario 0)

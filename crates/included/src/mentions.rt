@@ -61,7 +61,8 @@ fn push_spaced(
     told: bool,
     word: &[u8],
 ) -> Result<(), AllocError>
-    ensures { OnOk result (out.new.items ≡ out.old.items ++ (word_text path.now joined.now told word.now ++ codes " ")) }
+    ensures { OnOk result (out.new.items
+        ≡ out.old.items ++ (word_text path.now joined.now told word.now ++ codes " ")) }
 {
     push_word(out, path, joined, told, word)?;
     out.push(b' ')?;

@@ -2,7 +2,8 @@
 
 ghost use Rattle.std.specs.Prelude.{◌≡◌, ◌++◌, ◌≤◌, decimal, length, replicate, IfOk, OnOk};
 ghost use Rattle.agc_text.specs.Bytes.{space};
-ghost use Rattle.included.specs.Located.{file_path, folder_length, line_name, line_path, numbered, path_beside, right_in};
+ghost use Rattle.included.specs.Located.{file_path, folder_length, line_name, line_path, numbered, path_beside};
+ghost use Rattle.included.specs.Located.{right_in};
 
 use crate::joined::Joined;
 use crate::place::Place;

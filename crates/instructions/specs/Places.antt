@@ -5,7 +5,7 @@ use Rattle.rope.specs.Places.{Words, bank_words, place_number}
 use Rattle.yayul.specs.declared.language.Language.{Language}
 use Rattle.yayul.specs.Program.{Source}
 use Rattle.yayul.specs.Readings.{parts_for}
-use Rattle.certain.specs.Rows.{is_second, place_before, placed_rows, text_on}
+use Rattle.yayul.specs.PlaceMargin.{is_second, place_before, placed_rows, text_on}
 use Rattle.instructions.specs.Roles.{is_instruction}
 
 -- how many places there are, those of the banks 044 to 047 included, where no word stands

@@ -8,14 +8,11 @@ ghost use Rattle.instructions.specs.Places.{row_passed, rows_passed, start_with,
 
 use crate::roles::is_instruction;
 use agc_text::next_line;
-use certain::{PlaceMargin, is_second, place_before, text_on};
-use json_text::Notation;
 use rope::Rope;
 use space::{BANK_WORDS, Bank, Offset};
 use std::alloc::{AllocError, Global};
 use std::marker::Model;
-use words::Buffer;
-use yayul::{Language, SourceRows, reading_of};
+use yayul::{Language, SourceRows, is_second, place_before, placed_rows, reading_of, text_on};
 
 /// How many places there are, those of the banks 044 to 047 included.
 const HELD_PLACES: usize = 0o50 * BANK_WORDS as usize;
@@ -41,7 +38,7 @@ impl Model for Instructions {
 impl Instructions {
     /// Those of the lines of a source of a language, whose words stand in a fixed memory. `None` is that memory ran
     /// out.
-    #[tactic(auto, unfolding(crate::specs::Places::instructions, certain::specs::Rows::placed_rows))]
+    #[tactic(auto, unfolding(crate::specs::Places::instructions))]
     pub fn of(
         alloc: Global,
         language: Language,
@@ -50,10 +47,7 @@ impl Instructions {
     ) -> Option<Instructions>
         ensures { IfSome result (λ marks. marks ≡ instructions language rows.now rope.now) }
     {
-        let mut listing = Buffer::new(alloc);
-        let Ok(()) = rows.write(Notation::Text, rope, &PlaceMargin, &mut listing) else {
-            return None;
-        };
+        let listing = placed_rows(alloc, rows, rope)?;
         let Ok(mut found) = Instructions::none(alloc) else {
             return None;
         };

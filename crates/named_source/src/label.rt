@@ -1,12 +1,9 @@
 //! Names that may be labels of a source.
 
-ghost use Rattle.std.specs.Prelude.{◌≡◌, ◌==◌, ◌-◌, ◌||◌, length, take};
-ghost use Rattle.std.specs.List.{list_any};
-ghost use Rattle.yayul.specs.Forms.{first_is, is_digits, is_marked_decimal, is_name, is_sign};
+ghost use Rattle.std.specs.Prelude.{◌≡◌, ◌||◌};
 ghost use Rattle.named_source.specs.NamedSources.{is_counter, is_kept, is_label, is_register};
 
-use agc_text::decimal_value;
-use symbols::NAME_LENGTH;
+use yayul::is_name;
 
 /// Whether a name may be a label of the source.
 #[tactic(auto, unfolding(crate::specs::NamedSources::is_label))]
@@ -62,17 +59,6 @@ fn is_counter(name: &[u8]) -> bool
         || name == "INLINK".as_bytes()
 }
 
-/// Whether a text has the form of a name.
-fn is_name(text: &[u8]) -> bool
-    ensures { result ≡ is_name text.now }
-{
-    !text.is_empty()
-        && text.len() <= NAME_LENGTH
-        && !holds_dollar_sign(text)
-        && !begins_with_sign(text)
-        && !is_digits(text)
-}
-
 /// Whether a name is the letters of a register.
 fn is_register(name: &[u8]) -> bool
     ensures { result ≡ is_register name.now }
@@ -84,47 +70,4 @@ fn is_register(name: &[u8]) -> bool
         || name == "FB".as_bytes()
         || name == "Z".as_bytes()
         || name == "BB".as_bytes()
-}
-
-fn holds_dollar_sign(text: &[u8]) -> bool
-    ensures { result ≡ list_any (λ byte. byte == 0o44) text.now }
-{
-    text.iter().any(|byte| *byte == b'$')
-}
-
-/// Whether a text begins with `+` or `-`.
-fn begins_with_sign(text: &[u8]) -> bool
-    ensures { result ≡ first_is is_sign text.now }
-{
-    match text.first() {
-        Some(byte) => *byte == b'+' || *byte == b'-',
-        None => false,
-    }
-}
-
-/// Whether a text is digits alone, or digits followed by `D`.
-fn is_digits(text: &[u8]) -> bool
-    ensures { result ≡ is_digits text.now }
-{
-    let digits = if is_marked_decimal(text) {
-        without_last(text)
-    } else {
-        text
-    };
-    decimal_value(digits).is_some()
-}
-
-fn is_marked_decimal(text: &[u8]) -> bool
-    ensures { result ≡ is_marked_decimal text.now }
-{
-    match text.last() {
-        Some(byte) => *byte == b'D',
-        None => false,
-    }
-}
-
-fn without_last(text: &[u8]) -> &[u8]
-    ensures { result.now ≡ take (length text.now - 1) text.now }
-{
-    &text[..text.len().saturating_sub(1)]
 }

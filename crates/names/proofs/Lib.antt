@@ -1,4 +1,4 @@
-mod Nearest
+pub mod Nearest
 mod Rows
 mod Steps
 pub mod Told

@@ -1,5 +1,5 @@
-//! Names of places for images: tables of names, the words of an image as text with names, and for each name of a place the
-//! words whose addresses lead to it.
+//! Names of places for images: tables of names, the words of an image as text with names, and for each name of a place
+//! the words whose addresses lead to it.
 #![tactic(auto)]
 
 mod entry;

@@ -4,14 +4,14 @@ ghost use Rattle.std.specs.Prelude.{◌≡◌, ◌+◌, ◌<◌, ◌≤◌, ◌+
 ghost use Rattle.arrayvec.specs.ArrayVec.{array_vec_len};
 ghost use Rattle.words.specs.Devices.{Writes, failures_after};
 ghost use Rattle.audit.specs.WordLines.{extracode_at};
-ghost use Rattle.names.specs.NamedLines.{named_bank_lines, named_instruction, named_line, named_lines};
+ghost use Rattle.names.specs.NamedLines.{named_instruction, named_line, named_lines};
 
 use crate::near::push_address;
 use arrayvec::ArrayVec;
-use audit::{BankText, offset_of, write_by_bank};
+use audit::{EachWord, WordAt, WordText, offset_of, write_by_bank};
 use cpu::{disassemble, extracode_after, instruction_name, named_address};
 use rope::Rope;
-use space::{BANK_WORDS, Bank, Linear, Offset};
+use space::{Bank, Linear, Offset};
 use trace::{Names, PlaceNames, place_text};
 use words::{Write, WriteFailed, push_all, push_octal, write_all};
 
@@ -26,6 +26,7 @@ pub type Line = ArrayVec<u8, LINE>;
 /// that place: the first name that stands for it, or the nearest before it and how far, as `TC WAITLIST +2`.
 ///
 /// After a failure a beginning of it was written.
+#[tactic(auto, unfolding(crate::specs::NamedLines::named_bank_lines))]
 pub fn write_named_words<W: Write>(
     rope: &Rope,
     names: &PlaceNames,
@@ -36,34 +37,22 @@ pub fn write_named_words<W: Write>(
         (named_lines names.now rope.now bank) result }
     ensures failures { W.failures out.new ≡ failures_after (W.failures out.old) result }
 {
-    write_by_bank(&NamedTexts { names }, rope, bank, out)
+    let texts = NamedTexts { names };
+    write_by_bank(&EachWord { text: &texts }, rope, bank, out)
 }
 
-/// The lines of the words of a bank, with names.
+/// The lines of words, with names.
 #[derive(Drop)]
 struct NamedTexts<'a> {
     names: &'a PlaceNames,
 }
 
-impl<'a> BankText for NamedTexts<'a> {
-    ghost text = { λ texts words bank. named_bank_lines texts.names.now words bank };
+impl<'a> WordText for NamedTexts<'a> {
+    ghost text = { λ texts words bank offset. named_line texts.names.now words bank offset };
 
-    fn write_bank<W: Write>(
-        &self,
-        rope: &Rope,
-        bank: Bank,
-        out: &mut W,
-    ) -> Result<(), WriteFailed> {
-        let mut extra = false;
-        for number in 0..BANK_WORDS {
-            let offset = offset_of(number);
-            write_all(
-                out,
-                named_line(rope, self.names, bank, offset, extra).as_slice(),
-            )?;
-            extra = extracode_after(rope.word(bank, offset), extra);
-        }
-        Ok(())
+    fn write<W: Write>(&self, rope: &Rope, word: WordAt, out: &mut W) -> Result<(), WriteFailed> {
+        let line = named_line(rope, self.names, word.bank, word.offset, word.extra);
+        write_all(out, line.as_slice())
     }
 }
 

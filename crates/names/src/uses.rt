@@ -4,7 +4,6 @@ ghost use Rattle.std.specs.Prelude.{◌≡◌, ◌+◌, ◌<◌, ◌≤◌, ◌^
 ghost use Rattle.arrayvec.specs.ArrayVec.{array_vec_len};
 ghost use Rattle.words.specs.Devices.{Writes, failures_after};
 ghost use Rattle.yayul.specs.Listing.{place_text};
-ghost use Rattle.xref.specs.Xref.{use_column};
 ghost use Rattle.xref.specs.declared.use_of.Use.TheVariants.{Defined};
 ghost use Rattle.names.specs.Uses.{has_place, row_where, rows_by, rows_in, rows_of, use_row, uses_head, uses_text};
 
@@ -15,7 +14,7 @@ use space::Linear;
 use symbols::{Symbols, Value};
 use trace::place_text;
 use words::{Write, WriteFailed, push_all, push_decimal, write_all};
-use xref::{Use, use_column};
+use xref::{Use, write_use};
 
 /// The most bytes of a part of a row.
 const PART: usize = 40;
@@ -137,16 +136,6 @@ fn write_row<W: Write>(
 {
     write_all(out, place_column(place).as_slice())?;
     write_use(name, used, out)
-}
-
-// Writes a name, and what is done with its place.
-fn write_use<W: Write>(name: &[u8], used: Use, out: &mut W) -> Result<(), WriteFailed>
-    ensures written { W.told ≡ true → Writes (W.written out.old) (W.written out.new)
-        (name.now ++ use_column name.now used) result }
-    ensures failures { W.failures out.new ≡ failures_after (W.failures out.old) result }
-{
-    write_all(out, name)?;
-    write_all(out, use_column(name, used).as_slice())
 }
 
 // A place in a comment, and a blank.

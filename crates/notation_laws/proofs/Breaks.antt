@@ -21,12 +21,12 @@ use Rattle.commands.specs.declared.extended.ExtendedLine.{ExtendedLine}
 use Rattle.commands.specs.declared.extended.ExtendedLine.TheVariants.{Common}
 use Rattle.commands.specs.declared.subject.Subject.TheVariants.{Place, Channel}
 use Rattle.debugger.specs.ExtendedReplies.{breakpoint_text}
+use Rattle.debugger.proofs.InputsRead.{AreFields, joined, octal_field}
 use Rattle.notation_laws.specs.Named.{AreApart, IsField}
 use Rattle.notation_laws.specs.ReadBack.{BreakpointReadsBack}
 use Rattle.notation_laws.proofs.Cells.{channel_alone, channel_field, listed_read, place_alone_read}
 use Rattle.notation_laws.proofs.Digits.{channel_back, word_back}
-use Rattle.notation_laws.proofs.Fields.{AreFields, joined, line_joined}
-use Rattle.notation_laws.proofs.Inputs.{octal_field}
+use Rattle.notation_laws.proofs.Fields.{line_joined}
 use Rattle.notation_laws.proofs.Symbols.{IsRead}
 
 -- ## A line that begins with `break`

@@ -26,10 +26,10 @@ use Rattle.commands.specs.declared.subject.Subject.TheVariants.{Place, Channel}
 use Rattle.trace.specs.TraceLines.{behind_text, full_name, near_count, near_name, near_symbol, octal_digits, operand_gap, place_name}
 use Rattle.trace.specs.TraceLines.{register_name, short_octal, special_name, symbol_at}
 use Rattle.names.specs.NamedLines.{distance_text, nearest, nearest_name, place_before, places_before}
+use Rattle.debugger.proofs.InputsRead.{field_alone, fields_joined, octal_value}
 use Rattle.notation_laws.specs.Named.{AreApart, IsApart, IsField, is_field_byte}
 use Rattle.notation_laws.specs.ReadBack.{CellReadsBack, IsPlace, NamedPlaceReadsBack, place_asked}
-use Rattle.notation_laws.proofs.Digits.{channel_back, octal_value}
-use Rattle.notation_laws.proofs.Fields.{field_alone, fields_joined}
+use Rattle.notation_laws.proofs.Digits.{channel_back}
 use Rattle.notation_laws.proofs.Places.{no_comma, place_reads_back}
 use Rattle.notation_laws.proofs.Registers.{IsOwn, if_map, if_or, if_weaker, register_read, special_read}
 use Rattle.notation_laws.proofs.Symbols.{IsRead, stays_read, symbol_at_read, unasked, value_passes}

@@ -19,8 +19,8 @@ use Rattle.commands.specs.Commands.{after_comma, bank_in, before_comma, fixed_pl
 use Rattle.commands.specs.NamedPlaces.{in_erasable_bank, in_fixed_bank, listed_place, named_place, own_place, place_of_bank}
 use Rattle.commands.specs.NamedPlaces.{unnamed_place}
 use Rattle.audit.specs.WordLines.{place_text as rope_place_text}
+use Rattle.debugger.proofs.InputsRead.{octal_value}
 use Rattle.notation_laws.specs.ReadBack.{IsPlace, PlaceReadsBack, HasOneText}
-use Rattle.notation_laws.proofs.Digits.{octal_value}
 
 -- ## Addresses
 -- the address of a place of fixed memory, and of one of erasable memory

@@ -27,13 +27,13 @@ use Rattle.yayul.specs.Listing.{blanks, symbol_row, symbols_head}
 use Rattle.commands.specs.Commands.{after_comma, before_comma, fixed_place_in}
 use Rattle.commands.specs.NamedPlaces.{listed_place, unnamed_place}
 use Rattle.names.specs.Tables.{below, entry, is_heading, listed_in, names_after, names_of, with_name}
+use Rattle.debugger.proofs.InputsRead.{all_append, all_weaker, decimal_all, decimal_long, decimal_number, field_then, fields_joined, is_decimal, is_open}
+use Rattle.debugger.proofs.InputsRead.{joined, joined_open, joined_stands, octal_field, octal_value, open_of}
 use Rattle.notation_laws.specs.Named.{IsField, is_field_byte}
 use Rattle.notation_laws.specs.SymbolRows.{IsListed, IsValue, SymbolsReadBack}
 use Rattle.notation_laws.proofs.Cells.{digit_stands, fixed_text_field}
-use Rattle.notation_laws.proofs.Digits.{decimal_all, decimal_long, decimal_number, erasable_back, is_decimal, octal_value, word_back}
-use Rattle.notation_laws.proofs.Fields.{all_append, all_weaker, bytes_open, field_then, is_open, joined, joined_open, joined_stands}
-use Rattle.notation_laws.proofs.Fields.{fields_joined, line_joined, open_of, without_comment}
-use Rattle.notation_laws.proofs.Inputs.{octal_field}
+use Rattle.notation_laws.proofs.Digits.{erasable_back, word_back}
+use Rattle.notation_laws.proofs.Fields.{bytes_open, line_joined, without_comment}
 use Rattle.notation_laws.proofs.Places.{fixed_text, no_comma, parted, seven, four, two}
 
 -- ## Blanks between a name and its value

@@ -1,17 +1,13 @@
 -- How often something happens, step by step.
-use Rattle.std.proofs.Common.{◌≡◌, ℕ, zero, suc, ◌+◌, ◌-◌, ◌++◌, ◌||◌, ◌<◌, append-nil, not, nat_lt, ◌≤◌, ◌^◌, ◌==◌, ◌&&◌, Bool, true}
-use Rattle.std.proofs.Common.{false, List, [], length, replicate, get_or, set, refl, sym, ap, ◌∙◌, inl, inr, Option, Some, None}
+use Rattle.std.proofs.Common.{◌≡◌, ℕ, zero, suc, ◌+◌, ◌-◌, ◌++◌, ◌||◌, ◌<◌, append-nil, not, ◌≤◌, ◌^◌, ◌==◌, ◌&&◌, Bool, true}
+use Rattle.std.proofs.Common.{false, List, [], length, replicate, get_or, set, refl, sym, ap, ◌∙◌, inl, inr, None}
 use Rattle.std.proofs.Common.{arith, add-one, subst, if◌then◌else◌}
-use Rattle.std.specs.Prelude.{codes}
-use Rattle.std.proofs.lemmas.Bool.{cases_Bool, and_parts, eqb-true, ltb-true}
+use Rattle.std.proofs.lemmas.Bool.{cases_Bool, and_parts, eqb-true}
 use Rattle.std.proofs.lemmas.Bool.Decides.{eqb_tells, nat_tests}
-use Rattle.std.proofs.lemmas.List.{get_or-set_same, get_or-set_other, length-replicate, length-set, set-get_or}
-use Rattle.space.specs.declared.place.Linear.{Linear}
-use Rattle.space.specs.declared.place.Linear.TheVariants.{Erasable, Fixed}
-use Rattle.rope.specs.Places.{Words, bank_words, banks, slot_at, stands}
+use Rattle.std.proofs.lemmas.List.{get_or-set_same, get_or-set_other, length-replicate, length-set}
+use Rattle.words.proofs.Replicated.{get_replicated}
 use Rattle.audit.proofs.PartTexts.{front, front_more}
 use Rattle.cpu.specs.declared.account.Account.{Account}
-use Rattle.cpu.specs.declared.account.Account.TheVariants.{Input, Entry, Waiting, Place}
 use Rattle.cpu.specs.Profiles.{same_account}
 use Rattle.cpu.specs.Run.{run}
 use Rattle.cpu.specs.State.{State, Scenario}
@@ -20,25 +16,24 @@ use Rattle.symbols.specs.Values.{SymbolTable}
 use Rattle.yayul.specs.Named.{Named}
 use Rattle.cover.specs.Tallies.{account_count, account_number, IsAccount}
 use Rattle.cover.proofs.Accounts.{other_account, same_is_one}
+use Rattle.cover.proofs.Counting.{number_within}
 use Rattle.notes.specs.declared.kind.Kind.{Kind}
 use Rattle.notes.specs.declared.kind.Kind.TheVariants.{Quotient, Skip, NoWord, InErasable, NoHandler, OtherBank, NotKept, MinusZero}
 use Rattle.notes.specs.declared.kind.Kind.TheVariants.{Overwritten, Shared, FixedBank}
 use Rattle.cpu.specs.NextStep.{next_step}
-use Rattle.cpu.specs.declared.next_step.Fetched.{Fetched}
 use Rattle.cpu.specs.declared.next_step.NextStep.{NextStep}
 use Rattle.cpu.specs.declared.next_step.NextStep.TheVariants as made
 use Rattle.notes.specs.declared.past.Past.{Past}
-use Rattle.notes.specs.Past.{comes_by, is_lost, is_marked, is_passed, marked, no_past, past, past_by, reads_channel, seen}
-use Rattle.notes.specs.Notes.{counts_minus_zero, divides, happens, happens_in, has_word, is_at_word, is_code_in_erasable, is_erasable}
-use Rattle.notes.specs.Notes.{is_plain, is_plain_code, is_plain_step, is_quiet_step, names_erasable_in, place_named, reaches_in}
-use Rattle.notes.specs.Notes.{is_named, reaches_other, skips}
-use Rattle.notes.proofs.Divisions.{basic_never, extracode_never, neither}
+use Rattle.notes.specs.Past.{no_past, past, past_by, seen}
+use Rattle.notes.specs.Notes.{happens, happens_in}
+use Rattle.notes.specs.Notes.{skips}
+use Rattle.notes.proofs.Divisions.{neither}
 use Rattle.notes.specs.RunNotes.{here, happens_at, kinds_text, step_text, text_after, times, times_from, told, where_of}
 use Rattle.notes.specs.declared.notebook.Told.{Told}
 use Rattle.notes.specs.Counted.{told_of, is_first, rewound, seen_by, some_kind, AreSmall, Book, Counted, counts_of, Left, Notes, Takes}
 use Rattle.notes.specs.Counted.{counted_more, left_after, taken, taken_at, Listed, Lists, first_steps, firsts_by, happens_first, listed_by}
 use Rattle.notes.specs.Counted.{nothing_listed}
-use Rattle.notes.specs.Waits.{Keeps, Waits, waits_after}
+use Rattle.notes.specs.Waits.{Keeps, waits_after}
 use Rattle.notes.proofs.FirstSteps.{first_more}
 use Rattle.notes.proofs.LongWaits.{keeps_more, keeps_none}
 
@@ -58,20 +53,11 @@ of_kinds P a b c d e f g h i j k Overwritten = i
 of_kinds P a b c d e f g h i j k Shared = j
 of_kinds P a b c d e f g h i j k FixedBank = k
 
-number_within : (a : Account) → IsAccount a → account_number a < account_count
-number_within Input known = omega arith
-number_within Entry known = omega arith
-number_within Waiting known = omega arith
-number_within (Place (Erasable p)) known = omega (arith, known)
-number_within (Place (Fixed bank offset)) known = omega (arith, known.0, known.1)
-
 abbrev no_count : ℕ
 no_count = 0
 
 none_held : (n k : ℕ) → get_or (replicate n no_count) k no_count ≡ no_count
-none_held zero k = refl
-none_held (suc n) zero = refl
-none_held (suc n) (suc k) = none_held n k
+none_held n k = get_replicated no_count n k
 
 -- before the first step
 pub none_counted : (named : Named) (scenario : Scenario) (book : Book) → book.named ≡ named

@@ -1,19 +1,18 @@
 -- What is told of channels says what the steps did.
-use Rattle.std.proofs.Common.{◌≡◌, ◌≢◌, ℕ, zero, suc, ◌+◌, ◌%◌, ◌<◌, ◌&&◌, ◌||◌, ◌==◌, ◌⊎◌, Bool, true, false, not, List, length, get_or}
+use Rattle.std.proofs.Common.{◌≡◌, ◌≢◌, ℕ, zero, suc, ◌%◌, ◌<◌, ◌&&◌, ◌||◌, ◌==◌, ◌⊎◌, Bool, true, false, not, List, length, get_or}
 use Rattle.std.proofs.Common.{set, replicate, Option, Some, None, is_some, refl, sym, ap, ◌∙◌, subst, inl, inr, arith, if◌then◌else◌}
 use Rattle.std.proofs.lemmas.Bool.{cases_Bool, cases_order}
 use Rattle.std.proofs.lemmas.Bool.Decides.{eqb_tells, nat_tests}
 use Rattle.std.proofs.lemmas.List.{get_or-set_same, get_or-set_other, length-set, length-replicate}
-use Rattle.feed.specs.declared.input.Input.{Input}
+use Rattle.words.proofs.Replicated.{get_replicated}
 use Rattle.feed.specs.declared.input.Input.TheVariants.{Count, Word, Interrupt}
-use Rattle.cpu.specs.declared.next_step.Fetched.{Fetched}
 use Rattle.cpu.specs.declared.next_step.NextStep.{NextStep}
 use Rattle.cpu.specs.declared.next_step.NextStep.TheVariants.{Takes, Enters, Executes}
 use Rattle.cpu.specs.NextStep.{next_step}
 use Rattle.cpu.specs.Run.{run}
 use Rattle.cpu.specs.State.{Scenario, State}
 use Rattle.notes.specs.Past.{came_by, came_first, channels, is_used_otherwise, past, read_by, reads_channel}
-use Rattle.notes.specs.Unread.{FirstWord, HeardExactly, SomeReads, UnreadIsExact, comes, is_read_in}
+use Rattle.notes.specs.Unread.{FirstWord, SomeReads, UnreadIsExact, comes, is_read_in}
 
 -- ## How long the lists are
 length_first : (came : List (Option ℕ)) (n cycles : ℕ) → length (came_first came n cycles) ≡ length came
@@ -159,14 +158,10 @@ kept_none cycles false None e = (refl, refl)
 kept_none cycles b (Some since) e = absurd (let no : Some since ≡ None = e in cc)
 
 none_of : (n c : ℕ) → get_or (replicate n no_cycles) c None ≡ None
-none_of zero c = refl
-none_of (suc n) zero = refl
-none_of (suc n) (suc c) = none_of n c
+none_of n c = get_replicated no_cycles n c
 
 none_read : (n c : ℕ) → get_or (replicate n false) c false ≡ false
-none_read zero c = refl
-none_read (suc n) zero = refl
-none_read (suc n) (suc c) = none_read n c
+none_read n c = get_replicated false n c
 
 some_same : (a b : ℕ) → Some a ≡ Some b → a ≡ b
 some_same a b e = cc

@@ -1,4 +1,5 @@
 mod Appending
+mod Booked
 pub mod Calm
 pub mod Counting
 pub mod Divisions

@@ -8,6 +8,7 @@ use Rattle.std.specs.Option.{option_map}
 use Rattle.std.specs.Ordering.{nat_cmp}
 use Rattle.std.specs.Cmp.{nat_cmp_total}
 use Rattle.std.specs.FinSet.{FinSet, contains, insert, remove, contains-empty, contains-insert, contains-remove}
+use Rattle.words.proofs.Replicated.{get_replicated}
 use Rattle.rope.specs.Places.{Words}
 use Rattle.feed.specs.Merged.{due}
 use Rattle.feed.specs.declared.input.Counter.{Counter}
@@ -129,9 +130,7 @@ abbrev no_moment : Option Moment
 no_moment = None
 
 none_in : (n k : ℕ) → get_or (replicate n no_moment) k no_moment ≡ no_moment
-none_in zero k = refl
-none_in (suc n) zero = refl
-none_in (suc n) (suc k) = none_in n k
+none_in n k = get_replicated no_moment n k
 
 pub keeps_none : (scenario : Scenario) (waits : Waits) → waits ≡ replicate 11 None → Keeps scenario 0 waits
 unfolding waits_since

@@ -1,21 +1,18 @@
 //! What is reached of an image as text.
 
-ghost use Rattle.std.specs.Prelude.{◌≡◌, ◌<◌, true};
+ghost use Rattle.std.specs.Prelude.{◌≡◌, true};
 ghost use Rattle.words.specs.Devices.{Writes, failures_after};
-ghost use Rattle.audit.specs.WordLines.{extracode_at};
-ghost use Rattle.cover.specs.CoverText.{image_line};
-ghost use Rattle.reach.specs.ReachText.{image_row, image_rows, image_rows_of};
+ghost use Rattle.reach.specs.ReachText.{image_row, image_rows};
 
-use audit::{bank_of, offset_of, word_line};
-use cpu::extracode_after;
-use names::named_line;
+use audit::{EachWord, WordAt, WordText, write_by_bank};
+use cover::write_line;
 use rope::Rope;
-use space::{BANK_WORDS, Bank, FIXED_BANKS, Offset};
 use trace::PlaceNames;
-use words::{Write, WriteFailed, write_all};
+use words::{Write, WriteFailed};
 use yayul::Margin;
 
 /// Writes the rows of all words.
+#[tactic(auto, unfolding(crate::specs::ReachText::image_rows_of))]
 pub(crate) fn write_words<M: Margin, W: Write>(
     margin: &M,
     rope: &Rope,
@@ -26,68 +23,22 @@ pub(crate) fn write_words<M: Margin, W: Write>(
         (image_rows (M.text margin.now) names.now rope.now) result }
     ensures failures { W.failures out.new ≡ failures_after (W.failures out.old) result }
 {
-    for number in 0..FIXED_BANKS {
-        write_bank(margin, rope, names, bank_of(number), out)?;
-    }
-    Ok(())
+    let rows = Rows { margin, names };
+    write_by_bank(&EachWord { text: &rows }, rope, None, out)
 }
 
-/// Writes the rows of a bank's words.
-fn write_bank<M: Margin, W: Write>(
-    margin: &M,
-    rope: &Rope,
-    names: &Option<PlaceNames>,
-    bank: Bank,
-    out: &mut W,
-) -> Result<(), WriteFailed>
-    ensures written { W.told ≡ true → Writes (W.written out.old) (W.written out.new)
-        (image_rows_of (M.text margin.now) names.now rope.now bank) result }
-    ensures failures { W.failures out.new ≡ failures_after (W.failures out.old) result }
-{
-    let mut extra = false;
-    for number in 0..BANK_WORDS {
-        let offset = offset_of(number);
-        write_word(margin, rope, names, bank, offset, extra, out)?;
-        extra = extracode_after(rope.word(bank, offset), extra);
-    }
-    Ok(())
+/// The rows of words.
+#[derive(Drop)]
+struct Rows<'a, M> {
+    margin: &'a M,
+    names: &'a Option<PlaceNames>,
 }
 
-/// Writes the row of a word.
-fn write_word<M: Margin, W: Write>(
-    margin: &M,
-    rope: &Rope,
-    names: &Option<PlaceNames>,
-    bank: Bank,
-    offset: Offset,
-    extra: bool,
-    out: &mut W,
-) -> Result<(), WriteFailed>
-    requires { extra ≡ extracode_at rope.now bank offset }
-    ensures written { W.told ≡ true → Writes (W.written out.old) (W.written out.new)
-        (image_row (M.text margin.now) names.now rope.now bank offset) result }
-    ensures failures { W.failures out.new ≡ failures_after (W.failures out.old) result }
-{
-    margin.write(Some((bank, offset)), out)?;
-    write_line(rope, names, bank, offset, extra, out)
-}
+impl<'a, M: Margin> WordText for Rows<'a, M> {
+    ghost text = { λ rows words bank offset. image_row (M.text rows.margin.now) rows.names.now words bank offset };
 
-/// Writes the line of a word, with names or without.
-fn write_line<W: Write>(
-    rope: &Rope,
-    names: &Option<PlaceNames>,
-    bank: Bank,
-    offset: Offset,
-    extra: bool,
-    out: &mut W,
-) -> Result<(), WriteFailed>
-    requires { extra ≡ extracode_at rope.now bank offset }
-    ensures written { W.told ≡ true → Writes (W.written out.old) (W.written out.new)
-        (image_line names.now rope.now bank offset) result }
-    ensures failures { W.failures out.new ≡ failures_after (W.failures out.old) result }
-{
-    match names {
-        Some(names) => write_all(out, named_line(rope, names, bank, offset, extra).as_slice()),
-        None => write_all(out, word_line(rope, bank, offset, extra).as_slice()),
+    fn write<W: Write>(&self, rope: &Rope, word: WordAt, out: &mut W) -> Result<(), WriteFailed> {
+        self.margin.write(Some((word.bank, word.offset)), out)?;
+        write_line(rope, self.names, word, out)
     }
 }

@@ -61,7 +61,7 @@ get-put_word s p x lt =
 same_word : (s t : Cells) (q : ℕ) → q ≢ both_banks → at s q ≡ at t q → word_at s q ≡ word_at t q
 same_word s t q m6 h = grind (arith, nat_tests)
 
-same_get : (s t : Cells) (q : ℕ) → q ≢ both_banks → at s q ≡ at t q → get s q ≡ get t q
+pub same_get : (s t : Cells) (q : ℕ) → q ≢ both_banks → at s q ≡ at t q → get s q ≡ get t q
 unfolding get
 same_get s t q m6 h =
     let wide = q == accumulator || q == return_address in
@@ -85,7 +85,7 @@ put_channel-word : (s : Cells) (n x : ℕ) → n ≢ lower_accumulator_channel �
 unfolding put_channel
 put_channel-word s n x n1 n2 n7 = grind (arith, nat_tests)
 
-get_channel-word : (s : Cells) (n : ℕ) → n ≢ lower_accumulator_channel → n ≢ return_address_channel
+pub get_channel-word : (s : Cells) (n : ℕ) → n ≢ lower_accumulator_channel → n ≢ return_address_channel
     → get_channel s n ≡ extend (at s (channel_cell n))
 unfolding get_channel
 get_channel-word s n n1 n2 =

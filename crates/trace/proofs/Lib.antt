@@ -1,4 +1,3 @@
 pub mod Finding
 mod Rows
-pub mod Lines
 mod Nearness

@@ -1,4 +1,3 @@
-mod Writing
 mod Same
 mod Stray
 mod Alike

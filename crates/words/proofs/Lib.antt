@@ -1,7 +1,9 @@
 pub mod Bits
 pub mod Sums
 pub mod Texts
+pub mod Writing
 pub mod Readings
+pub mod Replicated
 pub mod Digits
 pub mod Turns
 pub mod Shifts

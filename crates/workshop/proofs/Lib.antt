@@ -13,8 +13,8 @@ mod CheckWordsMade
 mod HolesMade
 mod ProfileWritten
 mod RunReached
-mod NotedSteps
 mod NotesWritten
 mod AccessCounts
 mod JudgedRuns
 mod ExecutedWords
+mod Slices

@@ -1,10 +1,9 @@
 -- A run, step by step.
-use Rattle.std.proofs.Common.{◌≡◌, ℕ, ◌+◌, ◌-◌, ◌^◌, ◌<◌, ◌≤◌, Bool, true, List, [], ◌++◌, length, Option, Some, None, refl, sym, ap, ◌∙◌}
+use Rattle.std.proofs.Common.{◌≡◌, ℕ, ◌+◌, ◌-◌, ◌^◌, ◌<◌, ◌≤◌, List, [], ◌++◌, length, Option, Some, None, refl, sym, ap, ◌∙◌}
 use Rattle.std.proofs.Common.{arith, append-nil, length-append, subst}
 use Rattle.std.proofs.lemmas.List.Concat.{flat_map-append}
 use Rattle.std.specs.Option.{option_to_list}
-use Rattle.words.specs.Devices.{IsBeginning, WritesBeginning}
-use Rattle.words.proofs.Texts.{append-then, beginning-after, first_begins}
+use Rattle.words.proofs.Texts.{first_begins}
 use Rattle.cpu.specs.declared.output.Output.{Output}
 use Rattle.cpu.specs.State.{Scenario, State, FitsRun}
 use Rattle.cpu.specs.Next.{next}
@@ -14,7 +13,8 @@ use Rattle.cpu.proofs.RunLaws.{run-add-one, out-add-one, outs-zero, outs-add-one
 use Rattle.cpu.proofs.SilentLaws.{silent_outs}
 use Rattle.cpu.proofs.TakenLaws.{run-fits}
 use Rattle.cpu.specs.ChannelLines.{channel_line, channel_lines}
-use Rattle.workshop.specs.Runs.{BreaksOff, outputs_after}
+use Rattle.workshop.specs.Runs.{outputs_after}
+use Rattle.workshop.specs.Stepping.{CountsLines, Grows}
 use Rattle.workshop.specs.Progress.{run_text}
 
 pub lines_of_none : channel_lines (option_to_list None) ≡ []
@@ -25,17 +25,6 @@ pub lines_of_one : (o : Output) → channel_lines (option_to_list (Some o)) ≡ 
 unfolding channel_lines
 lines_of_one o = append-nil (channel_line o)
 
--- a step without an output writes nothing
-pub written_none : (scenario : Scenario) (s t : State) (a : List ℕ) → (t, None) ≡ next scenario s
-    → a ≡ a ++ channel_lines (outputs_after scenario s)
-written_none scenario s t a e =
-    let none : outputs_after scenario s ≡ [] = ap (λ (p : State × Option Output). option_to_list p.1) (sym e) in
-    rw (none, lines_of_none) (sym (append-nil a))
-
--- a run before its first step
-pub start_writes : (scenario : Scenario) (a : List ℕ) → a ≡ a ++ channel_lines (outs scenario 0)
-start_writes scenario a = rw (outs-zero scenario, lines_of_none) (sym (append-nil a))
-
 pub lines_of_both : (l m : List Output) → channel_lines (l ++ m) ≡ channel_lines l ++ channel_lines m
 unfolding channel_lines
 lines_of_both l m = flat_map-append channel_line l m
@@ -43,8 +32,8 @@ lines_of_both l m = flat_map-append channel_line l m
 pub few_cycles : (scenario : Scenario) (n : ℕ) (s : State) → s ≡ run scenario n → n < 2 ^ 40 → s.cycles ≤ 2 ^ 62
 few_cycles scenario n s e h = rw e (omega (arith, cycles-run scenario n))
 
-pub fits_after : (scenario now : Scenario) (n : ℕ) (s : State) → now ≡ scenario → s ≡ run scenario n → FitsRun now s
-fits_after scenario now n s same e = rw (same, e) (run-fits scenario n)
+pub fits_after : (scenario : Scenario) (n : ℕ) (s : State) → s ≡ run scenario n → FitsRun scenario s
+fits_after scenario n s e = rw e (run-fits scenario n)
 
 pub outs_more : (scenario : Scenario) (n : ℕ) → outs scenario (n + 1) ≡ outs scenario n ++ outputs_after scenario (run scenario n)
 outs_more scenario n =
@@ -70,65 +59,17 @@ outputs_more scenario n s k j e p q =
     let here : j ≡ length (outputs_after scenario (run scenario n)) = subst (λ (u : State). j ≡ length (outputs_after scenario u)) e q in
     rw (count_more scenario n, p, here) refl
 
--- the lines of n steps, and those of the next
-pub lines_after : (scenario : Scenario) (n : ℕ) (s : State) (a b c : List ℕ) → s ≡ run scenario n
-    → b ≡ a ++ channel_lines (outs scenario n) → c ≡ b ++ channel_lines (outputs_after scenario s)
-    → c ≡ a ++ channel_lines (outs scenario (n + 1))
-lines_after scenario n s a b c e p q =
-    let next_lines : c ≡ b ++ channel_lines (outputs_after scenario (run scenario n)) = subst
-    (λ (t : State). c ≡ b ++ channel_lines (outputs_after scenario t)) e q in
-    rw (lines_more scenario n) (append-then a b c _ _ p next_lines)
+-- the lines of a run with that of the step that follows a state
+pub text_after : (scenario : Scenario) (n : ℕ) (s : State) → s ≡ run scenario n
+    → run_text scenario (n + 1) ≡ run_text scenario n ++ channel_lines (outputs_after scenario s)
+text_after scenario n s here = rw here (lines_more scenario n)
 
--- a run that ends in step n + 1
-pub breaks_off : (scenario : Scenario) (steps n : ℕ) (s : State) (a b c : List ℕ) → n < steps → s ≡ run scenario n
-    → b ≡ a ++ channel_lines (outs scenario n) → WritesBeginning b c (channel_lines (outputs_after scenario s))
-    → BreaksOff scenario steps a c
-breaks_off scenario steps n s a b c h e p r =
-    let here : WritesBeginning b c (channel_lines (outputs_after scenario (run scenario n))) = subst
-    (λ (u : State). WritesBeginning b c (channel_lines (outputs_after scenario u))) e r in
+pub counts_after : (scenario : Scenario) (n : ℕ) (s : State) (k j : ℕ) → s ≡ run scenario n → CountsLines scenario n k
+    → j ≡ k + length (outputs_after scenario s) → j ≤ k + 1 → CountsLines scenario (n + 1) j
+counts_after scenario n s k j here before is few =
     record {
-      made = n + 1;
-      within = omega (arith, h);
-      written = rw (lines_more scenario n) (beginning-after a b c _ _ p here);
-    }
-
--- a run that ends after step n, where its lines could not be handed on
-pub breaks_off_after : (scenario : Scenario) (steps n : ℕ) (a b c : List ℕ) → n ≤ steps → b ≡ a ++ channel_lines (outs scenario n) → c ≡ b
-    → BreaksOff scenario steps a c
-breaks_off_after scenario steps n a b c h p e =
-    record {
-      made = n;
-      within = h;
-      written =
-          record {
-            part = channel_lines (outs scenario n);
-            beginning = record { rest = []; whole = sym (append-nil (channel_lines (outs scenario n))) };
-            appended = e ∙ p;
-          };
-    }
-
--- where a run stands after n steps: its machine, what is written besides what was old, and how many lines that is
-pub record Stands (told : Bool) (scenario : Scenario) (n : ℕ) (machine : State) (old new : List ℕ) (lines : ℕ) : Type 0 where
-  pub state : machine ≡ run scenario n
-  pub written : told ≡ true → new ≡ old ++ channel_lines (outs scenario n)
-  pub outputs : lines ≡ length (outs scenario n)
-
-pub stands_at_start : (told : Bool) (scenario : Scenario) (s : State) (a : List ℕ) → s ≡ run scenario 0 → Stands told scenario 0 s a a 0
-stands_at_start told scenario s a e =
-    record { state = e; written = λ _. start_writes scenario a; outputs = rw (outs-zero scenario) refl }
-
-pub stands_after_step : (told : Bool) (scenario now : Scenario) (n : ℕ) (s t : State) (a b c : List ℕ) (k j : ℕ) → now ≡ scenario
-    → Stands told scenario n s a b k
-    → t ≡ (next now s).0 → (told ≡ true → c ≡ b ++ channel_lines (outputs_after now s)) → j ≡ k + length (outputs_after now s)
-    → Stands told scenario (n + 1) t a c j
-stands_after_step told scenario now n s t a b c k j same before e w q =
-    record {
-      state = state_more scenario n s t before.state (subst (λ (u : Scenario). t ≡ (next u s).0) same e);
-      written = λ is_told.
-          lines_after scenario n s a b c before.state (before.written is_told)
-          (subst (λ (u : Scenario). c ≡ b ++ channel_lines (outputs_after u s)) same (w is_told));
-      outputs = subst (λ (u : Scenario). j ≡ k + length (outputs_after u s)) same q
-          ∙ outputs_more scenario n s k (length (outputs_after scenario s)) before.state before.outputs refl;
+      all = is ∙ outputs_more scenario n s k (length (outputs_after scenario s)) here before.all refl;
+      few = omega (arith, few, before.few);
     }
 
 -- ## Many steps of which none but the last puts anything out
@@ -140,77 +81,48 @@ outs_at scenario n to h silent =
     subst (λ m. outs scenario m ≡ outs scenario (to - 1) ++ option_to_list (out scenario m)) last (outs-add-one scenario (to - 1))
     ∙ ap (λ (l : List Output). l ++ option_to_list (out scenario to)) (silent_outs scenario n (to - 1) (omega (arith, h)) silent)
 
--- before the last one a run stands as before the first, but for its machine
-pub stands_silent : (told : Bool) (scenario : Scenario) (n m : ℕ) (s : State) (a b : List ℕ) (k : ℕ) → n ≤ m → IsSilent scenario n m
-    → Stands told scenario n s a b k
-    → Stands told scenario m (run scenario m) a b k
-stands_silent told scenario n m s a b k h silent before =
-    let same = silent_outs scenario n m h silent in
-    record { state = refl; written = λ is_told. rw same (before.written is_told); outputs = rw same before.outputs }
+outs_to : (scenario : Scenario) (n to : ℕ) (put : Option Output) → n < to → IsSilent scenario n (to - 1) → put ≡ out scenario to
+    → outs scenario to ≡ outs scenario n ++ option_to_list put
+outs_to scenario n to put h silent e =
+    outs_at scenario n to h silent ∙ ap (λ (o : Option Output). outs scenario n ++ option_to_list o) (sym e)
 
-pub stands_after_steps : (told : Bool) (scenario now : Scenario) (n to : ℕ) (s t : State) (a b c : List ℕ) (k j : ℕ) (put : Option Output)
-    → now ≡ scenario → n < to
-    → Stands told scenario n s a b k → IsSilent now n (to - 1) → t ≡ run now to → put ≡ out now to
-    → (told ≡ true → c ≡ b ++ channel_lines (option_to_list put)) → j ≡ k + length (option_to_list put) → Stands told scenario to t a c j
-stands_after_steps told scenario now n to s t a b c k j put same h before silent e p w q =
-    let silent_here : IsSilent scenario n (to - 1) = subst (λ (u : Scenario). IsSilent u n (to - 1)) same silent in
-    let put_here : put ≡ out scenario to = subst (λ (u : Scenario). put ≡ out u to) same p in
-    let outs_here = outs_at scenario n to h silent_here ∙ ap (λ (o : Option Output). outs scenario n ++ option_to_list o) (sym put_here) in
-    let lines_here : channel_lines (outs scenario to)
-    ≡ channel_lines (outs scenario n) ++ channel_lines (option_to_list put) = ap channel_lines outs_here ∙ lines_of_both _ _ in
+pub text_to : (scenario : Scenario) (n to : ℕ) (put : Option Output) → n < to → IsSilent scenario n (to - 1) → put ≡ out scenario to
+    → run_text scenario to ≡ run_text scenario n ++ channel_lines (option_to_list put)
+text_to scenario n to put h silent e = ap channel_lines (outs_to scenario n to put h silent e) ∙ lines_of_both _ _
+
+pub counts_to : (scenario : Scenario) (n to : ℕ) (put : Option Output) (k j : ℕ) → n < to → IsSilent scenario n (to - 1)
+    → put ≡ out scenario to → CountsLines scenario n k → j ≡ k + length (option_to_list put) → j ≤ k + 1 → CountsLines scenario to j
+counts_to scenario n to put k j h silent e before is few =
     record {
-      state = subst (λ (u : Scenario). t ≡ run u to) same e;
-      written = λ is_told. rw lines_here (append-then a b c _ _ (before.written is_told) (w is_told));
-      outputs = q ∙ ap (λ (x : ℕ). x + length (option_to_list put)) before.outputs
-          ∙ sym (ap length outs_here ∙ length-append (outs scenario n) (option_to_list put));
+      all = is ∙ ap (λ (x : ℕ). x + length (option_to_list put)) before.all
+          ∙ sym (ap length (outs_to scenario n to put h silent e) ∙ length-append (outs scenario n) (option_to_list put));
+      few = omega (arith, few, h, before.few);
     }
 
--- where the line of what the last one puts out is not all written, a beginning of the lines of all of them stands
-pub stands_broken_at : (told : Bool) (scenario now : Scenario) (n to : ℕ) (s : State) (a b c : List ℕ) (k : ℕ) (put : Option Output)
-    → n < to → now ≡ scenario
-    → Stands told scenario n s a b k → IsSilent now n (to - 1) → put ≡ out now to → told ≡ true
-    → WritesBeginning b c (channel_lines (option_to_list put))
-    → WritesBeginning a c (channel_lines (outs scenario to))
-stands_broken_at told scenario now n to s a b c k put h same before silent p is_told r =
-    let silent_here : IsSilent scenario n (to - 1) = subst (λ (u : Scenario). IsSilent u n (to - 1)) same silent in
-    let put_here : put ≡ out scenario to = subst (λ (u : Scenario). put ≡ out u to) same p in
-    let outs_here = outs_at scenario n to h silent_here ∙ ap (λ (o : Option Output). outs scenario n ++ option_to_list o) (sym put_here) in
-    let lines_here : channel_lines (outs scenario to)
-    ≡ channel_lines (outs scenario n) ++ channel_lines (option_to_list put) = ap channel_lines outs_here ∙ lines_of_both _ _ in
-    rw lines_here (beginning-after a b c _ _ (before.written is_told) r)
+-- as long as nothing is put out no line is
+pub text_silent : (scenario : Scenario) (n m : ℕ) → n ≤ m → IsSilent scenario n m → run_text scenario m ≡ run_text scenario n
+text_silent scenario n m h silent = ap channel_lines (silent_outs scenario n m h silent)
 
-pub stands_breaks_off_at : (told : Bool) (scenario now : Scenario) (steps n to : ℕ) (s : State) (a b c : List ℕ) (k : ℕ)
-    (put : Option Output) → n < to → to ≤ steps → now ≡ scenario
-    → Stands told scenario n s a b k → IsSilent now n (to - 1) → put ≡ out now to → told ≡ true
-    → WritesBeginning b c (channel_lines (option_to_list put)) → BreaksOff scenario steps a c
-stands_breaks_off_at told scenario now steps n to s a b c k put h within same before silent p is_told r =
-    record { made = to; within = within; written = stands_broken_at told scenario now n to s a b c k put h same before silent p is_told r }
+pub counts_further : (scenario : Scenario) (n m k : ℕ) → n ≤ m → IsSilent scenario n m → CountsLines scenario n k → CountsLines scenario m k
+counts_further scenario n m k h silent before =
+    record { all = rw (silent_outs scenario n m h silent) before.all; few = omega (arith, h, before.few) }
 
-pub stands_breaks_off : (told : Bool) (scenario now : Scenario) (steps n : ℕ) (s : State) (a b c : List ℕ) (k : ℕ) → n < steps
-    → now ≡ scenario → Stands told scenario n s a b k
-    → told ≡ true → WritesBeginning b c (channel_lines (outputs_after now s)) → BreaksOff scenario steps a c
-stands_breaks_off told scenario now steps n s a b c k h same before is_told r =
-    breaks_off scenario steps n s a b c h before.state (before.written is_told)
-    (subst (λ (u : Scenario). WritesBeginning b c (channel_lines (outputs_after u s))) same r)
+-- the lines of a run end with that of the last step, where that puts something out
+pub text_last : (scenario : Scenario) (to : ℕ) (put : Option Output) → 0 < to → put ≡ out scenario to
+    → run_text scenario ((to - 1) + 1) ≡ run_text scenario (to - 1) ++ channel_lines (option_to_list put)
+text_last scenario to put h e =
+    let last : (to - 1) + 1 ≡ to = omega (arith, h) in
+    let here : put ≡ out scenario ((to - 1) + 1) = rw last e in
+    ap channel_lines (outs-add-one scenario (to - 1)) ∙ lines_of_both _ _
+    ∙ ap (λ (o : Option Output). run_text scenario (to - 1) ++ channel_lines (option_to_list o)) (sym here)
 
--- the lines of a run with one step more begin with those without it
-pub run_text_grows : (scenario : Scenario) (k : ℕ) → IsBeginning (run_text scenario k) (run_text scenario (k + 1))
-run_text_grows scenario k = rw (lines_more scenario k) (first_begins _ _)
+-- no step has no line
+pub counts_none : (scenario : Scenario) → CountsLines scenario 0 0
+counts_none scenario = record { all = rw (outs-zero scenario) refl; few = omega arith }
 
--- where a write of the step after n has failed, the lines of n steps stand
-pub stands_whole : (told : Bool) (scenario : Scenario) (n : ℕ) (s : State) (a b c text : List ℕ) (k : ℕ) → Stands told scenario n s a b k
-    → told ≡ true → WritesBeginning b c text
-    → IsBeginning (a ++ run_text scenario n) c
-stands_whole told scenario n s a b c text k before is_told r = record
-    { rest = r.part; whole = r.appended ∙ ap (λ (t : List ℕ). t ++ r.part) (before.written is_told) }
-
--- and a beginning of those with one step more
-pub stands_broken : (told : Bool) (scenario now : Scenario) (n : ℕ) (s : State) (a b c : List ℕ) (k : ℕ) → now ≡ scenario
-    → Stands told scenario n s a b k
-    → told ≡ true → WritesBeginning b c (channel_lines (outputs_after now s)) → WritesBeginning a c (run_text scenario (n + 1))
-stands_broken told scenario now n s a b c k same before is_told r =
-    let of_scenario : WritesBeginning b c (channel_lines (outputs_after scenario s)) = subst
-    (λ (u : Scenario). WritesBeginning b c (channel_lines (outputs_after u s))) same r in
-    let here : WritesBeginning b c (channel_lines (outputs_after scenario (run scenario n))) = subst
-    (λ (u : State). WritesBeginning b c (channel_lines (outputs_after scenario u))) before.state of_scenario in
-    rw (lines_more scenario n) (beginning-after a b c _ _ (before.written is_told) here)
+-- the lines of a run grow with its steps
+pub run_text_grows : (scenario : Scenario) → Grows (run_text scenario)
+run_text_grows scenario = record {
+  none = ap channel_lines (outs-zero scenario) ∙ lines_of_none;
+  more = λ n. rw (lines_more scenario n) (first_begins _ _);
+}

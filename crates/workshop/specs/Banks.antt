@@ -13,7 +13,7 @@ use Rattle.confirmed.specs.Confirmed.{assumed_lines, assumed_words}
 use Rattle.certain.specs.Accounts.{accounts}
 use Rattle.certain.specs.Comparison.{comparison}
 use Rattle.certain.specs.Places.{UncertainWords, uncertain_words}
-use Rattle.holes.specs.Holes.{GivesHoles, filled, program_as}
+use Rattle.holes.specs.Holes.{GivesHoles, around_holes, program_as}
 use Rattle.workshop.specs.declared.fault.WorkshopFault.{WorkshopFault}
 use Rattle.workshop.specs.declared.fault.WorkshopFault.TheVariants.{NoMemory}
 use Rattle.workshop.specs.declared.ropes.Compared.{Compared}
@@ -22,9 +22,9 @@ use Rattle.workshop.specs.Failures.{Writer}
 use Rattle.workshop.specs.Faults.{of_rope_fault, of_source_fault}
 use Rattle.workshop.specs.Ropes.{ReadsRope, Showing, WritesText}
 
--- where the words of a source and an image differ, where each hole has the image's word; and then the accounts of the banks
+-- where the words of a source and those of an image around the holes differ; and then the accounts of the banks
 abbrev pub banks_text : UncertainWords → Words → Words → Words → List ℕ
-banks_text uncertain words other image = comparison uncertain (filled words other image) image ++ accounts uncertain words other image
+banks_text uncertain words other around = comparison uncertain words around ++ accounts uncertain words other around
 
 -- a source under assumptions, with its holes
 abbrev pub GivesAssumed : List Wording → Bool → List ℕ → Result (Program × Words) Fault → Type 0
@@ -34,16 +34,21 @@ GivesAssumed wordings holes source result =
 
 -- what is written of the banks, and then what the image says of each wording that is assumed
 abbrev pub assumed_text : List Wording → List ℕ → Program → Words → Words → List ℕ
-assumed_text wordings source p other image =
-    banks_text (uncertain_words p.source p.rope) p.rope other image
-    ++ assumed_lines wordings (assumed_words wordings source p.source p.rope) (filled p.rope other image) image
+assumed_text wordings source p other around =
+    banks_text (uncertain_words p.source p.rope) p.rope other around
+    ++ assumed_lines wordings (assumed_words wordings source p.source p.rope) p.rope around
 
--- where memory is refused nothing is written; else all of it, and how many places differ is answered
+-- all of it, and how many places differ is answered
+abbrev pub WritesAround : List Wording → List ℕ → Program → Words → Words → Writer → Writer → Result ℕ WorkshopFault → Type 0
+WritesAround wordings source p other around before after result =
+    WritesText (assumed_text wordings source p other around) before after result
+    × IfOk result (λ count. count ≡ length (differing Filled p.rope around))
+
+-- where memory is refused nothing is written; else all of it, of an image, no hole of which is compared, or puts extracode in force
 abbrev pub WritesBanks : List Wording → List ℕ → Program → Words → Words → Writer → Writer → Result ℕ WorkshopFault → Type 0
 WritesBanks wordings source p other image before after result =
     ((result ≡ Err NoMemory) × (after ≡ before))
-    ⊎ (WritesText (assumed_text wordings source p other image) before after result
-    × IfOk result (λ count. count ≡ length (differing Filled (filled p.rope other image) image)))
+    ⊎ WritesAround wordings source p other (around_holes p.rope other image) before after result
 
 -- where the image was read all is written, and after a fault nothing
 abbrev pub BanksThen : List Wording → List ℕ → Program → Words → Result Words RopeFault → Writer → Writer → Result ℕ WorkshopFault → Type 0

@@ -2,7 +2,8 @@
 use Rattle.std.specs.Prelude.{◌≡◌, ℕ, nat_lt, if◌then◌else◌, List, [], length, Bool, Result, Ok, Err, IfOk}
 use Rattle.feed.specs.Feed.{most_bytes}
 use Rattle.json_text.specs.declared.notation.Notation.{Notation}
-use Rattle.yayul.specs.Survey.{told}
+use Rattle.symbols.specs.Values.{SymbolTable}
+use Rattle.yayul.specs.Survey.{known_symbols, told}
 use Rattle.yayul.specs.Program.{Program, program}
 use Rattle.yayul.specs.declared.faults.Fault.{Fault}
 use Rattle.yayul.specs.declared.language.Language.{Language}
@@ -25,20 +26,24 @@ abbrev pub doubts_in : Result Program Fault → List Warning
 doubts_in (Ok p) = doubted p.source p.rope
 doubts_in (Err fault) = []
 
--- all warnings of a source of a language, those of labels that no operand names where they are asked for
-abbrev pub cautions : Language → Bool → List ℕ → List Warning
-cautions Standard unused source = warnings Standard unused source
-cautions Flight unused source = joined (warnings Flight unused source) (doubts_in (program Flight source))
+-- all warnings of a source of a language, by the values of its symbols, those of labels that no operand names where they are asked for
+abbrev pub cautions : Language → Bool → SymbolTable → List ℕ → List Warning
+cautions Standard unused table source = warnings Standard unused table source
+cautions Flight unused table source = joined (warnings Flight unused table source) (doubts_in (program Flight source))
+
+-- those by the values that its lines without a fault give
+abbrev pub cautions_in : Language → Bool → List ℕ → List Warning
+cautions_in language unused source = cautions language unused (known_symbols language source) source
 
 -- how many faults and warnings are told of a source of a language, with labels that no operand names where that is asked for
 abbrev pub tally : Language → Bool → List ℕ → Tally
-tally language unused source = record { errors = length (told language source); warnings = length (cautions language unused source) }
+tally language unused source = record { errors = length (told language source); warnings = length (cautions_in language unused source) }
 
 -- the faults and the warnings of a source of a language and of this name in a notation; and how many there are
 abbrev pub reported : Notation → Language → List ℕ → Bool → List ℕ → Result (List ℕ × Tally) WorkshopFault
 reported notation language name unused source =
     if nat_lt most_bytes (length source) then Err TooLong else Ok
-    (report notation language name source (told language source) (cautions language unused source), tally language unused source)
+    (report notation language name source (told language source) (cautions_in language unused source), tally language unused source)
 
 -- the fault of a feed of this name in a notation, where it has one; and how many are told
 abbrev pub feed_reported : Notation → List ℕ → List ℕ → Result (List ℕ × ℕ) WorkshopFault

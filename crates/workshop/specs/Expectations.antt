@@ -9,7 +9,6 @@ use Rattle.yayul.specs.Program.{Program, Source as Lines}
 use Rattle.yayul.specs.Survey.{told}
 use Rattle.yayul.specs.declared.language.Language.TheVariants.{Standard}
 use Rattle.diagnostics.specs.Report.{report}
-use Rattle.diagnostics.specs.Warnings.{warnings}
 use Rattle.cpu.specs.State.{Scenario}
 use Rattle.notes.specs.RunNotes.{notes_text}
 use Rattle.expect.specs.Facts.{Facts, ask_for_check, ask_for_notes, ask_for_instructions}
@@ -26,7 +25,7 @@ use Rattle.workshop.specs.declared.expecting.Judged.{Judged}
 use Rattle.workshop.specs.declared.expecting.Judged.TheVariants.{Refused, Met}
 use Rattle.workshop.specs.declared.fault.WorkshopFault.{WorkshopFault}
 use Rattle.workshop.specs.declared.fault.WorkshopFault.TheVariants.{NoMemory}
-use Rattle.workshop.specs.Checks.{tally}
+use Rattle.workshop.specs.Checks.{cautions_in, tally}
 use Rattle.workshop.specs.Executed.{executed}
 use Rattle.workshop.specs.Failures.{Writer}
 use Rattle.workshop.specs.Inputs.{assembled}
@@ -62,7 +61,7 @@ noted claims symbols named scenario n = if ask_for_notes claims then notes_text 
 -- what `check` tells of a source of a name, and how many errors and warnings that are
 abbrev pub checked : List ℕ → List ℕ → List ℕ × Tally
 checked name source =
-    (report Text Standard name source (told Standard source) (warnings Standard false source), tally Standard false source)
+    (report Text Standard name source (told Standard source) (cautions_in Standard false source), tally Standard false source)
 
 -- the same where some claim asks for it
 abbrev pub checked_for : List Stated → List ℕ → List ℕ → List ℕ × Tally

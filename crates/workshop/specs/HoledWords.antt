@@ -1,6 +1,6 @@
 -- What the engine answers that shows the words of an image beside a source with holes, and what it has then written.
 use Rattle.std.specs.Prelude.{◌≡◌, ℕ, List, codes, Option, Result, Ok, Err}
-use Rattle.holes.specs.Holes.{GivesHoles, program_with}
+use Rattle.holes.specs.Holes.{GivesHoles, around_holes, program_with}
 use Rattle.holes.specs.HoledWords.{holed_lines}
 use Rattle.rope.specs.Places.{Words}
 use Rattle.rope.specs.declared.spelling.Version.{Version}
@@ -10,10 +10,11 @@ use Rattle.workshop.specs.declared.fault.WorkshopFault.{WorkshopFault}
 use Rattle.workshop.specs.Faults.{of_source_fault}
 use Rattle.workshop.specs.Ropes.{Showing, Shows}
 
--- the words of an image with the symbols of a program, whose holes are the places where other words differ
+-- the words of an image with the symbols of a program, whose holes are the places where other words differ; and
+-- no hole's word puts extracode in force
 abbrev pub ShowsWithHoles : Version → Option ℕ → Program → Words → Showing → Showing → Result (Unit {0}) WorkshopFault → Type 0
 ShowsWithHoles version bank p other before after result =
-    Shows version (λ image. holed_lines p.symbols p.rope other image bank) before after result
+    Shows version (λ image. holed_lines p.symbols p.rope other image (around_holes p.rope other image) bank) before after result
 
 -- where the source was assembled the image is read, and after a fault nothing of it, and nothing is written
 abbrev pub ShowsHoledThen : Version → Option ℕ → Result (Program × Words) Fault → Showing → Showing → Result (Unit {0}) WorkshopFault

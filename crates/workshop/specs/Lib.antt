@@ -34,3 +34,4 @@ pub mod NoteTries
 pub mod Progress
 pub mod NotedProgress
 pub mod CommandsEnd
+pub mod Stepping

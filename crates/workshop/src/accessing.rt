@@ -3,22 +3,20 @@
 ghost use Rattle.std.specs.Prelude.{◌≡◌, ◌-◌, ◌≤◌, ◌^◌, true};
 ghost use Rattle.std.specs.Option.{option_map};
 ghost use Rattle.access.specs.Tallies.{Counts};
-ghost use Rattle.workshop.specs.AccessRuns.{AddsUpIn, Counted, CountsAccesses, CountsRun, TellsCounted};
+ghost use Rattle.workshop.specs.AccessRuns.{Counted, CountsAccesses, CountsRun, TellsCounted};
 ghost use Rattle.workshop.specs.Failures.{reader, writer};
 ghost use Rattle.workshop.specs.Inputs.{scenario_of};
-ghost use Rattle.workshop.specs.Progress.{TellsAll};
 ghost use Rattle.workshop.specs.Runs.{running};
 
-use crate::engine::STEPS_BETWEEN_FLUSHES;
 use crate::fault::WorkshopFault;
 use crate::inputs::{Loaded, load};
 use crate::origin::Origin;
-use crate::progress::tell;
+use crate::stepper::{Stepper, count_all};
 use access::{Tally, View, view_asked, write_accesses};
 use cpu::{Machine, Processor};
 use std::alloc::Global;
 use trace::PlaceNames;
-use words::{Read, Write};
+use words::{Read, Write, WriteFailed};
 
 /// Reads a program and then a feed, makes some steps, and writes how often each cell was read and written at each
 /// level; or where a cell is asked for, by which places. Answers whether there is this cell; where there is none no
@@ -97,28 +95,32 @@ fn count<W: Write, T: Write>(
     ensures progress { TellsCounted steps (writer T.told T.written T.failures progress.old)
         (writer T.told T.written T.failures progress.new) result }
 {
-    make_steps(processor, tally, steps, progress);
+    count_all(tally, processor, steps, progress);
     write_accesses(tally, names, processor.rope(), out)?;
     Ok(true)
 }
 
-/// Makes some steps from the start, and counts what each reads and writes.
-fn make_steps<T: Write>(processor: &mut Processor, tally: &mut Tally, steps: u64, progress: &mut T)
-    requires few { steps ≤ 2 ^ 40 - 2 }
-    requires none { Counts tally.old.view processor.old.scenario 0 tally.old }
-    ensures scenario { processor.new.scenario ≡ processor.old.scenario }
-    ensures counts { Counts tally.old.view processor.old.scenario steps tally.new }
-    ensures adds_up { AddsUpIn tally.old.view processor.old.scenario steps }
-    ensures progress { TellsAll steps (writer T.told T.written T.failures progress.old)
-        (writer T.told T.written T.failures progress.new) }
-{
-    let mut machine = Machine::start();
-    let mut told = Ok(());
-    let mut done = 0;
-    while done < steps {
-        let stop = steps.min(done + STEPS_BETWEEN_FLUSHES);
-        tally.make_steps(processor, &mut machine, done, stop);
-        done = stop;
-        told = tell(told, done, progress);
+impl Stepper for Tally {
+    ghost use Rattle.std.specs.Prelude.{[]};
+    ghost use Rattle.access.specs.Tallies.{Counts};
+
+    type Kept = View;
+
+    ghost kept = { λ tally. tally.view };
+
+    ghost Stands = { λ view scenario n tally. Counts view scenario n tally };
+
+    ghost text = { λ _ _ _. [] };
+
+    fn go_on<W: Write>(
+        &mut self,
+        processor: &mut Processor,
+        machine: &mut Machine,
+        done: u64,
+        stop: u64,
+        _out: &mut W,
+    ) -> Result<u64, WriteFailed> {
+        self.make_steps(processor, machine, done, stop);
+        Ok(stop)
     }
 }

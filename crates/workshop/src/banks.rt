@@ -4,10 +4,8 @@ ghost use Rattle.std.specs.Prelude.{◌≡◌, ◌++◌, true, length, IfOk};
 ghost use Rattle.words.specs.Devices.{Writes, failures_after};
 ghost use Rattle.audit.specs.Differences.{differing};
 ghost use Rattle.audit.specs.declared.differences.Extent.TheVariants.{Filled};
-ghost use Rattle.certain.specs.Accounts.{accounts};
-ghost use Rattle.certain.specs.Comparison.{comparison};
 ghost use Rattle.confirmed.specs.Confirmed.{assumed_lines};
-ghost use Rattle.workshop.specs.Banks.{ComparesBanks, GivesAssumed, WritesBanks};
+ghost use Rattle.workshop.specs.Banks.{ComparesBanks, GivesAssumed, WritesBanks, banks_text};
 ghost use Rattle.workshop.specs.Failures.{reader, writer};
 ghost use Rattle.workshop.specs.Ropes.{showing};
 
@@ -16,7 +14,7 @@ use crate::ropes::Compared;
 use assumed::{Wording, source_assumed};
 use certain::{UncertainPlaces, write_accounts, write_comparison};
 use confirmed::{AssumedPlaces, write_assumed_lines};
-use holes::{assemble_as, filled};
+use holes::{assemble_as, put_around_holes};
 use rope::{Rope, Version};
 use std::alloc::Global;
 use words::{Read, Write, WriteFailed};
@@ -29,7 +27,7 @@ const NO_MEMORY: u8 = 2;
 /// refused; reads a rope image of a version to its end; and writes a line for each place that the source fills, and
 /// that is no hole, where the words differ, as `compare_only_engine` does, how many there are, which it answers, what
 /// the image says of uncertain words, an account of each bank, and then what the image says of each wording that is
-/// assumed.
+/// assumed. Behind a hole no extracode is in force, whatever word the image has there.
 ///
 /// The first fault of the source is answered, else that of the image, and then nothing is written. Which of them was
 /// read last stands in `last`.
@@ -84,60 +82,57 @@ fn compare_banks<W: Write>(
     words: &Rope,
     out: &mut W,
 ) -> Result<u32, WorkshopFault>
-    ensures { WritesBanks wordings.now source.now program other.now words.now (writer W.told W.written W.failures out.old)
-        (writer W.told W.written W.failures out.new) result }
+    ensures { WritesBanks wordings.now source.now program other.now words.now
+        (writer W.told W.written W.failures out.old) (writer W.told W.written W.failures out.new) result }
 {
     let (rope, rows) = program.split_rows();
-    let filled = filled(alloc, &rope, other, words)?;
+    let mut around = rope.copied(alloc)?;
+    put_around_holes(&mut around, other, words);
     let Some(uncertain) = UncertainPlaces::of(alloc, &rows, &rope) else {
         return Err(WorkshopFault::NoMemory);
     };
     let Some(places) = AssumedPlaces::of(alloc, wordings, source, &rows, &rope) else {
         return Err(WorkshopFault::NoMemory);
     };
-    Ok(write_assumed(
-        wordings, &places, &uncertain, &filled, &rope, other, words, out,
-    )?)
+    Ok(write_assumed(wordings, &places, &uncertain, &rope, other, &around, out)?)
 }
 
-/// Writes a comparison of some words with those of an image, the accounts of the banks of a source, and what the image
-/// says of each wording that is assumed.
+/// Writes a comparison of the words of a source with those of an image around its holes, the accounts of the banks, and
+/// what the image says of each wording that is assumed.
 fn write_assumed<W: Write>(
     wordings: &[Wording],
     places: &AssumedPlaces,
     uncertain: &UncertainPlaces,
-    filled: &Rope,
     rope: &Rope,
     other: &Rope,
-    words: &Rope,
+    around: &Rope,
     out: &mut W,
 ) -> Result<u32, WriteFailed>
     ensures written { W.told ≡ true → Writes (W.written out.old) (W.written out.new)
-        ((comparison uncertain.now filled.now words.now ++ accounts uncertain.now rope.now other.now words.now)
-        ++ assumed_lines wordings.now places.now filled.now words.now) result }
-    ensures count { IfOk result (λ count. count ≡ length (differing Filled filled.now words.now)) }
+        (banks_text uncertain.now rope.now other.now around.now
+        ++ assumed_lines wordings.now places.now rope.now around.now) result }
+    ensures count { IfOk result (λ count. count ≡ length (differing Filled rope.now around.now)) }
     ensures failures { W.failures out.new ≡ failures_after (W.failures out.old) result }
 {
-    let count = write_banks(uncertain, filled, rope, other, words, out)?;
-    write_assumed_lines(wordings, places, filled, words, out)?;
+    let count = write_banks(uncertain, rope, other, around, out)?;
+    write_assumed_lines(wordings, places, rope, around, out)?;
     Ok(count)
 }
 
-/// Writes a comparison of some words with those of an image, and the accounts of the banks of a source.
+/// Writes a comparison of the words of a source with those of an image around its holes, and the accounts of the banks.
 fn write_banks<W: Write>(
     uncertain: &UncertainPlaces,
-    filled: &Rope,
     rope: &Rope,
     other: &Rope,
-    words: &Rope,
+    around: &Rope,
     out: &mut W,
 ) -> Result<u32, WriteFailed>
     ensures written { W.told ≡ true → Writes (W.written out.old) (W.written out.new)
-        (comparison uncertain.now filled.now words.now ++ accounts uncertain.now rope.now other.now words.now) result }
-    ensures count { IfOk result (λ count. count ≡ length (differing Filled filled.now words.now)) }
+        (banks_text uncertain.now rope.now other.now around.now) result }
+    ensures count { IfOk result (λ count. count ≡ length (differing Filled rope.now around.now)) }
     ensures failures { W.failures out.new ≡ failures_after (W.failures out.old) result }
 {
-    let count = write_comparison(uncertain, filled, words, out)?;
-    write_accounts(uncertain, rope, other, words, out)?;
+    let count = write_comparison(uncertain, rope, around, out)?;
+    write_accounts(uncertain, rope, other, around, out)?;
     Ok(count)
 }

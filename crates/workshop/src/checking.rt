@@ -18,7 +18,7 @@ use diagnostics::{Warning, counts, feed_report, joined, refused_file, report, wa
 use json_text::Notation;
 use std::alloc::{AllocError, Global};
 use words::{MOST_BYTES, Read, Write, read_text, write_all};
-use yayul::{Finding, Language, Program, assemble, findings};
+use yayul::{Language, Program, SourceFindings, Symbols, assemble, findings};
 
 /// How many faults and warnings were told.
 #[derive(Clone, Copy, PartialEq, Eq, Debug, Drop)]
@@ -143,8 +143,8 @@ fn read_report<S: Read>(
         (result_map_both (λ r. (r.0.items, r.1)) (λ fault. fault) result) }
 {
     let source = read_text(alloc, source, MOST_BYTES)?;
-    let findings = findings(alloc, language, &source)?;
-    match told_of(alloc, notation, language, name, unused, &source, &findings) {
+    let found = findings(alloc, language, &source)?;
+    match told_of(alloc, notation, language, name, unused, &source, &found) {
         Ok(told) => Ok(told),
         Err(_) => Err(WorkshopFault::NoMemory),
     }
@@ -158,32 +158,44 @@ pub(crate) fn told_of(
     name: &[u8],
     unused: bool,
     source: &[u8],
-    findings: &[Finding],
+    found: &SourceFindings,
 ) -> Result<(Vec<u8>, Tally), AllocError>
-    ensures text { IfOk result (λ r. r.0.items
-        ≡ report notation language name.now source.now findings.now (cautions language unused source.now)) }
-    ensures count { IfOk result (λ r. r.1 ≡ record
-        { errors = length findings.now; warnings = length (cautions language unused source.now) }) }
+    ensures text { IfOk result (λ r. r.0.items ≡ report notation language name.now source.now found.now.faults.items
+        (cautions language unused found.now.symbols source.now)) }
+    ensures count { IfOk result (λ r. r.1 ≡ record {
+      errors = length found.now.faults.items;
+      warnings = length (cautions language unused found.now.symbols source.now);
+    }) }
 {
-    let warnings = cautions(alloc, language, unused, source)?;
-    let text = report(alloc, notation, language, name, source, findings, &warnings)?;
+    let warnings = cautions(alloc, language, unused, &found.symbols, source)?;
+    let text = report(
+        alloc,
+        notation,
+        language,
+        name,
+        source,
+        &found.faults,
+        &warnings,
+    )?;
     let tally = Tally {
-        errors: findings.len(),
+        errors: found.faults.len(),
         warnings: warnings.len(),
     };
     Ok((text, tally))
 }
 
-// All warnings of a source of a language, those of labels that no operand names where they are asked for.
+// All warnings of a source of a language, by the values of its symbols, those of labels that no operand names where
+// they are asked for.
 fn cautions(
     alloc: Global,
     language: Language,
     unused: bool,
+    symbols: &Symbols,
     source: &[u8],
 ) -> Result<Vec<Warning>, AllocError>
-    ensures { IfOk result (λ found. found.items ≡ cautions language unused source.now) }
+    ensures { IfOk result (λ found. found.items ≡ cautions language unused symbols.now source.now) }
 {
-    let warnings = warnings(alloc, language, source, unused)?;
+    let warnings = warnings(alloc, language, source, symbols, unused)?;
     match language {
         Language::Standard => Ok(warnings),
         Language::Flight => {

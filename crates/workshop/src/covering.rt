@@ -3,20 +3,18 @@
 ghost use Rattle.std.specs.Prelude.{◌≡◌, IfOk, Some, ◌-◌, ◌≤◌, ◌^◌, true};
 ghost use Rattle.words.specs.Devices.{Writes, failures_after};
 ghost use Rattle.cover.specs.CoverText.{cover_text, profile_text, total_of};
-ghost use Rattle.cover.specs.Tallies.{AllAddUp, Counts, ShownAddUp, figures_at};
-ghost use Rattle.cpu.specs.Run.{run};
+ghost use Rattle.cover.specs.Tallies.{figures_at};
 ghost use Rattle.workshop.specs.Covers.{Covers, CoversRun, ReadsImaged, ReadsSubject, names_shown, subject_of};
 ghost use Rattle.workshop.specs.Failures.{reader, writer};
 ghost use Rattle.workshop.specs.Inputs.{assembled};
 ghost use Rattle.workshop.specs.Loading.{Reads, ReadsText};
-ghost use Rattle.workshop.specs.Progress.{TellsAll, TellsProfile};
+ghost use Rattle.workshop.specs.Progress.{TellsProfile};
 ghost use Rattle.workshop.specs.Runs.{running};
 
-use crate::engine::STEPS_BETWEEN_FLUSHES;
 use crate::fault::WorkshopFault;
 use crate::inputs::{read_feed, read_program};
 use crate::origin::Origin;
-use crate::progress::tell;
+use crate::stepper::{Stepper, count_all};
 use cover::{Figures, Shown, Tally, write_image_profile, write_source_profile};
 use cpu::{Machine, Processor};
 use json_text::Notation;
@@ -145,7 +143,7 @@ fn cover<W: Write, T: Write>(
     let Ok(mut tally) = Tally::new(alloc) else {
         return Err(WorkshopFault::NoMemory);
     };
-    let cycles = make_steps(processor, &mut tally, steps, progress);
+    let cycles = count_all(&mut tally, processor, steps, progress);
     let total = Figures {
         count: steps,
         cycles,
@@ -175,31 +173,27 @@ fn write_profile<W: Write>(
     }
 }
 
-/// Makes some steps from the start, counts each, and answers their cycles.
-fn make_steps<T: Write>(
-    processor: &mut Processor,
-    tally: &mut Tally,
-    steps: u64,
-    progress: &mut T,
-) -> u64
-    requires few { steps ≤ 2 ^ 40 - 2 }
-    requires none { Counts processor.old.scenario 0 tally.old }
-    ensures scenario { processor.new.scenario ≡ processor.old.scenario }
-    ensures counts { Counts processor.old.scenario steps tally.new }
-    ensures cycles { result ≡ (run processor.old.scenario steps).cycles }
-    ensures adds_up { AllAddUp processor.old.scenario steps }
-    ensures shown_add_up { ShownAddUp processor.old.scenario steps }
-    ensures progress { TellsAll steps (writer T.told T.written T.failures progress.old)
-        (writer T.told T.written T.failures progress.new) }
-{
-    let mut machine = Machine::start();
-    let mut told = Ok(());
-    let mut done = 0;
-    while done < steps {
-        let stop = steps.min(done + STEPS_BETWEEN_FLUSHES);
-        tally.make_steps(processor, &mut machine, done, stop);
-        done = stop;
-        told = tell(told, done, progress);
+impl Stepper for Tally {
+    ghost use Rattle.std.specs.Prelude.{[]};
+    ghost use Rattle.cover.specs.Tallies.{Counts};
+
+    type Kept = ();
+
+    ghost kept = { λ _. tt };
+
+    ghost Stands = { λ _ scenario n tally. Counts scenario n tally };
+
+    ghost text = { λ _ _ _. [] };
+
+    fn go_on<W: Write>(
+        &mut self,
+        processor: &mut Processor,
+        machine: &mut Machine,
+        done: u64,
+        stop: u64,
+        _out: &mut W,
+    ) -> Result<u64, WriteFailed> {
+        self.make_steps(processor, machine, done, stop);
+        Ok(stop)
     }
-    machine.cycles()
 }

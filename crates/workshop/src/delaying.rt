@@ -1,24 +1,21 @@
 //! The engine that tells how long the interrupts of a run waited.
 
 ghost use Rattle.std.specs.Prelude.{◌≡◌, ◌-◌, ◌≤◌, ◌^◌, true};
-ghost use Rattle.delays.specs.Spans.{CyclesAddUp};
-ghost use Rattle.delays.specs.Tallies.{Measures};
 ghost use Rattle.workshop.specs.DelayRuns.{DelaysRun, TellsDelays};
 ghost use Rattle.workshop.specs.Failures.{reader, writer};
 ghost use Rattle.workshop.specs.Inputs.{scenario_of};
-ghost use Rattle.workshop.specs.Progress.{TellsAll, TellsProfile};
+ghost use Rattle.workshop.specs.Progress.{TellsProfile};
 ghost use Rattle.workshop.specs.Runs.{running};
 
-use crate::engine::STEPS_BETWEEN_FLUSHES;
 use crate::fault::WorkshopFault;
 use crate::inputs::{Loaded, load};
 use crate::origin::Origin;
-use crate::progress::tell;
+use crate::stepper::{Stepper, count_all};
 use cpu::{Machine, Processor};
 use delays::{Delays, write_delays};
 use std::alloc::Global;
 use trace::PlaceNames;
-use words::{Read, Write};
+use words::{Read, Write, WriteFailed};
 
 /// Reads a program and then a feed, makes some steps, and writes how long each interrupt waited, and for how long none
 /// could come.
@@ -70,28 +67,32 @@ fn delays<W: Write, T: Write>(
         return Err(WorkshopFault::NoMemory);
     };
     let mut processor = Processor::new(loaded.rope, loaded.feed);
-    make_steps(&mut processor, &mut kept, steps, progress);
+    count_all(&mut kept, &mut processor, steps, progress);
     write_delays(&kept, &names, processor.rope(), out)?;
     Ok(())
 }
 
-/// Makes some steps from the start, and keeps what waits and spans they end.
-fn make_steps<T: Write>(processor: &mut Processor, kept: &mut Delays, steps: u64, progress: &mut T)
-    requires few { steps ≤ 2 ^ 40 - 2 }
-    requires none { Measures processor.old.scenario 0 kept.old }
-    ensures scenario { processor.new.scenario ≡ processor.old.scenario }
-    ensures measures { Measures processor.old.scenario steps kept.new }
-    ensures adds_up { CyclesAddUp processor.old.scenario steps }
-    ensures progress { TellsAll steps (writer T.told T.written T.failures progress.old)
-        (writer T.told T.written T.failures progress.new) }
-{
-    let mut machine = Machine::start();
-    let mut told = Ok(());
-    let mut done = 0;
-    while done < steps {
-        let stop = steps.min(done + STEPS_BETWEEN_FLUSHES);
-        kept.make_steps(processor, &mut machine, done, stop);
-        done = stop;
-        told = tell(told, done, progress);
+impl Stepper for Delays {
+    ghost use Rattle.std.specs.Prelude.{[]};
+    ghost use Rattle.delays.specs.Tallies.{Measures};
+
+    type Kept = ();
+
+    ghost kept = { λ _. tt };
+
+    ghost Stands = { λ _ scenario n delays. Measures scenario n delays };
+
+    ghost text = { λ _ _ _. [] };
+
+    fn go_on<W: Write>(
+        &mut self,
+        processor: &mut Processor,
+        machine: &mut Machine,
+        done: u64,
+        stop: u64,
+        _out: &mut W,
+    ) -> Result<u64, WriteFailed> {
+        self.make_steps(processor, machine, done, stop);
+        Ok(stop)
     }
 }

@@ -7,16 +7,18 @@ ghost use Rattle.words.specs.Devices.{Writes, failures_after};
 ghost use Rattle.cpu.specs.ChannelLines.{channel_line, channel_lines};
 ghost use Rattle.workshop.specs.Failures.{reader, writer};
 ghost use Rattle.workshop.specs.Progress.{TellsLoaded, TellsWritten, loaded_text, run_text, telling};
-ghost use Rattle.workshop.specs.Runs.{Runs, Makes, outputs_after, running};
+ghost use Rattle.workshop.specs.Runs.{Runs, Makes, outputs_after, running, summary_of};
 ghost use Rattle.workshop.specs.Loading.{program_and_feed};
 ghost use Rattle.cpu.specs.Next.{next};
+ghost use Rattle.cpu.specs.Run.{outs, run};
 ghost use Rattle.yayul.specs.declared.language.Language.TheVariants.{Standard};
-ghost use Rattle.cpu.specs.State.{FitsRun};
+ghost use Rattle.cpu.specs.State.{FitsRun, Scenario};
 
 use crate::fault::WorkshopFault;
 use crate::inputs::load;
 use crate::origin::Origin;
-use crate::progress::{Unheard, tell};
+use crate::progress::Unheard;
+use crate::stepper::{Stepper, run_all};
 use cpu::{Machine, Output, Processor, write_channel_line};
 use rope::Version;
 use space::{Chan, Eras};
@@ -35,6 +37,21 @@ pub struct Summary {
     pub outputs: u64,
     /// Z at the end, where the next word is fetched unless one waits.
     pub z: u16,
+}
+
+impl Summary {
+    /// What a run of some steps has come to, by the machine after them and how many lines were written.
+    pub(crate) fn of_run(steps: u64, machine: &Machine, outputs: u64) -> Summary
+        ensures { (scenario : Scenario) → machine.now ≡ run scenario steps → outputs ≡ length (outs scenario steps)
+            → result ≡ summary_of scenario steps }
+    {
+        Summary {
+            steps,
+            cycles: machine.cycles(),
+            outputs,
+            z: machine.reg(Eras::Z).to_u16(),
+        }
+    }
 }
 
 /// The most steps of a run.
@@ -172,25 +189,41 @@ pub(crate) fn run<W: Write, T: Write>(
         result }
 {
     let mut machine = Machine::start();
-    let mut outputs = 0;
-    let mut told = Ok(());
-    let mut done = 0;
-    while done < steps {
-        let stop = steps.min(done + STEPS_BETWEEN_FLUSHES);
-        while done < stop {
-            let (to, put) = processor.run_on(&mut machine, done, stop);
-            write_put(put, &mut outputs, out)?;
-            done = to;
-        }
-        hand_on(out)?;
-        told = tell(told, done, progress);
+    let mut written = OutputLines { count: 0 };
+    run_all(&mut written, processor, &mut machine, steps, out, progress)?;
+    Ok(Summary::of_run(steps, &machine, written.count))
+}
+
+/// How many lines of what steps put out were written.
+#[derive(Drop)]
+struct OutputLines {
+    count: u64,
+}
+
+impl Stepper for OutputLines {
+    ghost use Rattle.workshop.specs.Progress.{run_text};
+    ghost use Rattle.workshop.specs.Stepping.{CountsLines};
+
+    type Kept = ();
+
+    ghost kept = { λ _. tt };
+
+    ghost Stands = { λ _ scenario n written. CountsLines scenario n written.count };
+
+    ghost text = { λ _ scenario. run_text scenario };
+
+    fn go_on<W: Write>(
+        &mut self,
+        processor: &mut Processor,
+        machine: &mut Machine,
+        done: u64,
+        stop: u64,
+        out: &mut W,
+    ) -> Result<u64, WriteFailed> {
+        let (to, put) = processor.run_on(machine, done, stop);
+        write_put(put, &mut self.count, out)?;
+        Ok(to)
     }
-    Ok(Summary {
-        steps,
-        cycles: machine.cycles(),
-        outputs,
-        z: machine.reg(Eras::Z).to_u16(),
-    })
 }
 
 /// Hands on the lines that a writer holds back.

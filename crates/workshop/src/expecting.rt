@@ -219,7 +219,7 @@ fn notes_of(
         ≡ notes_text Notation.Text names.now named processor.old.scenario steps) }
 {
     let mut notes = Buffer::new(alloc);
-    let Ok(mut notebook) = Notebook::new(alloc, named) else {
+    let Ok(notebook) = Notebook::new(alloc, named) else {
         return Err(WorkshopFault::NoMemory);
     };
     let (mut out, mut progress) = (Unheard, Unheard);
@@ -227,7 +227,7 @@ fn notes_of(
         Notation::Text,
         processor,
         names,
-        &mut notebook,
+        notebook,
         steps,
         &mut out,
         &mut progress,
@@ -262,7 +262,7 @@ fn checked_for(
 fn checked(alloc: Global, name: &[u8], source: &[u8]) -> Result<(Vec<u8>, Tally), WorkshopFault>
     ensures { IfOk result (λ r. (r.0.items, r.1) ≡ checked name.now source.now) }
 {
-    let findings = findings(alloc, Language::Standard, source)?;
+    let found = findings(alloc, Language::Standard, source)?;
     match told_of(
         alloc,
         Notation::Text,
@@ -270,7 +270,7 @@ fn checked(alloc: Global, name: &[u8], source: &[u8]) -> Result<(Vec<u8>, Tally)
         name,
         false,
         source,
-        &findings,
+        &found,
     ) {
         Ok(told) => Ok(told),
         Err(_) => Err(WorkshopFault::NoMemory),

@@ -33,6 +33,7 @@ mod reaching;
 mod refused;
 mod ropes;
 mod run_reaching;
+mod stepper;
 mod tracing;
 mod trying;
 mod trying_notes;

@@ -13,19 +13,18 @@ ghost use Rattle.workshop.specs.Runs.{Makes, summary_of};
 ghost use Rattle.cpu.specs.Run.{run};
 ghost use Rattle.cpu.specs.State.{Scenario, start};
 
-use crate::engine::{STEPS_BETWEEN_FLUSHES, Summary, hand_on, step_and_write};
+use crate::engine::{Summary, step_and_write};
 use crate::fault::WorkshopFault;
 use crate::inputs::{read_feed, read_program};
 use crate::origin::Origin;
-use crate::progress::tell;
+use crate::stepper::{Stepper, run_all};
 use cpu::{Machine, Processor};
 use json_text::Notation;
 use notes::{Notebook, write_notes};
 use rope::{Rope, Version};
-use space::Eras;
 use std::alloc::Global;
 use trace::PlaceNames;
-use words::{Read, Write};
+use words::{Read, Write, WriteFailed};
 use yayul::{Language, NamedPlaces, Symbols};
 
 /// The words of a program, its symbols, and the places that its words name.
@@ -87,7 +86,7 @@ pub fn run_with_notes<P: Read, F: Read, W: Write, T: Write, N: Write>(
     let Ok(names) = PlaceNames::new(alloc, code.symbols) else {
         return Err(WorkshopFault::NoMemory);
     };
-    let Ok(mut notebook) = Notebook::new(alloc, code.named) else {
+    let Ok(notebook) = Notebook::new(alloc, code.named) else {
         return Err(WorkshopFault::NoMemory);
     };
     let mut processor = Processor::new(code.rope, feed);
@@ -95,7 +94,7 @@ pub fn run_with_notes<P: Read, F: Read, W: Write, T: Write, N: Write>(
         notation,
         &mut processor,
         &names,
-        &mut notebook,
+        notebook,
         steps,
         out,
         progress,
@@ -165,15 +164,15 @@ pub(crate) fn run_then_note<W: Write, T: Write, N: Write>(
     notation: Notation,
     processor: &mut Processor,
     names: &PlaceNames,
-    notebook: &mut Notebook,
+    notebook: Notebook,
     steps: u64,
     out: &mut W,
     progress: &mut T,
     notes: &mut N,
 ) -> Result<Summary, WorkshopFault>
     requires few { steps ≤ 2 ^ 40 - 2 }
-    requires none { (scenario : Scenario) → Counted notebook.old.named scenario 0 notebook.old }
-    ensures ends { EndsNoted (notes_text notation names.now notebook.old.named processor.old.scenario steps)
+    requires none { (scenario : Scenario) → Counted notebook.named scenario 0 notebook }
+    ensures ends { EndsNoted (notes_text notation names.now notebook.named processor.old.scenario steps)
         processor.old.scenario steps
         (record {
           out = writer W.told W.written W.failures out.old;
@@ -193,30 +192,40 @@ pub(crate) fn run_then_note<W: Write, T: Write, N: Write>(
     ensures meter { processor.new.meter ≤ processor.old.meter + 2 * steps }
 {
     let mut machine = Machine::start();
-    let summary = run_noting(processor, &mut machine, notebook, steps, out, progress)?;
-    write_notes(notation, notebook, names, processor, &machine, steps, notes)?;
+    let mut noting = Noting { notebook, lines: 0 };
+    let summary = run_noting(&mut noting, processor, &mut machine, steps, out, progress)?;
+    write_notes(
+        notation,
+        &mut noting.notebook,
+        names,
+        processor,
+        &machine,
+        steps,
+        notes,
+    )?;
     Ok(summary)
 }
 
 /// Makes some steps from the start, notes what happens in each, and writes the lines of what they put out, as a run
 /// without notes does.
 fn run_noting<W: Write, T: Write>(
+    noting: &mut Noting,
     processor: &mut Processor,
     machine: &mut Machine,
-    notebook: &mut Notebook,
     steps: u64,
     out: &mut W,
     progress: &mut T,
 ) -> Result<Summary, WorkshopFault>
     requires few { steps ≤ 2 ^ 40 - 2 }
-    requires none { (scenario : Scenario) → Counted notebook.old.named scenario 0 notebook.old }
+    requires none { (scenario : Scenario) → Counted noting.old.notebook.named scenario 0 noting.old.notebook }
+    requires lines { noting.old.lines ≡ 0 }
     requires start { machine.old ≡ start }
     ensures makes { Makes processor.old.scenario steps
         (writer W.told W.written W.failures out.old) (writer W.told W.written W.failures out.new) result }
     ensures scenario { processor.new.scenario ≡ processor.old.scenario }
     ensures end { OnOk result (machine.new ≡ run processor.old.scenario steps) }
-    ensures named { OnOk result (notebook.new.named ≡ notebook.old.named) }
-    ensures counted { OnOk result (Counted notebook.new.named processor.old.scenario steps notebook.new) }
+    ensures named { OnOk result (noting.new.notebook.named ≡ noting.old.notebook.named) }
+    ensures counted { OnOk result (Counted noting.new.notebook.named processor.old.scenario steps noting.new.notebook) }
     ensures summary { IfOk result (λ summary. summary ≡ summary_of processor.old.scenario steps) }
     ensures handed_on { W.told ≡ true → 0 < steps → OnOk result (W.handed_on out.new ≡ W.written out.new) }
     ensures progress { TellsWritten (run_text processor.old.scenario) steps
@@ -225,23 +234,47 @@ fn run_noting<W: Write, T: Write>(
         result }
     ensures meter { processor.new.meter ≤ processor.old.meter + steps }
 {
-    let mut outputs = 0;
-    let mut told = Ok(());
-    let mut done = 0;
-    while done < steps {
-        let stop = steps.min(done + STEPS_BETWEEN_FLUSHES);
-        while done < stop {
-            notebook.note(processor, machine);
-            step_and_write(processor, machine, &mut outputs, out)?;
-            done = notebook.note_plain_steps(processor, machine, done + 1, stop);
-        }
-        hand_on(out)?;
-        told = tell(told, done, progress);
+    run_all(noting, processor, machine, steps, out, progress)?;
+    Ok(Summary::of_run(steps, machine, noting.lines))
+}
+
+/// What is noted of a run's steps, and how many lines of what they put out were written.
+#[derive(Drop)]
+struct Noting {
+    notebook: Notebook,
+    lines: u64,
+}
+
+impl Stepper for Noting {
+    ghost use Rattle.std.specs.Prelude.{true};
+    ghost use Rattle.notes.specs.Counted.{Counted};
+    ghost use Rattle.workshop.specs.Progress.{run_text};
+    ghost use Rattle.workshop.specs.Stepping.{CountsLines};
+
+    type Kept = NamedPlaces;
+
+    ghost metered = { true };
+
+    ghost kept = { λ noting. noting.notebook.named };
+
+    ghost Stands = { λ named scenario n noting. CountsLines scenario n noting.lines
+        × Counted named scenario n noting.notebook };
+
+    ghost text = { λ _ scenario. run_text scenario };
+
+    fn go_on<W: Write>(
+        &mut self,
+        processor: &mut Processor,
+        machine: &mut Machine,
+        done: u64,
+        stop: u64,
+        out: &mut W,
+    ) -> Result<u64, WriteFailed> {
+        self.notebook.note(processor, machine);
+        step_and_write(processor, machine, &mut self.lines, out)?;
+        let to = self
+            .notebook
+            .note_plain_steps(processor, machine, done + 1, stop);
+        Ok(to)
     }
-    Ok(Summary {
-        steps,
-        cycles: machine.cycles(),
-        outputs,
-        z: machine.reg(Eras::Z).to_u16(),
-    })
 }

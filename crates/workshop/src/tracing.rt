@@ -12,11 +12,10 @@ ghost use Rattle.workshop.specs.Traces.{Traces};
 ghost use Rattle.workshop.specs.Loading.{program_and_feed};
 ghost use Rattle.workshop.specs.Runs.{running};
 
-use crate::engine::{STEPS_BETWEEN_FLUSHES, hand_on};
 use crate::fault::WorkshopFault;
 use crate::inputs::load;
 use crate::origin::Origin;
-use crate::progress::tell;
+use crate::stepper::{Stepper, run_all};
 use cpu::{Machine, Processor};
 use say::{LineForm, tell_step};
 use std::alloc::Global;
@@ -63,66 +62,87 @@ pub fn trace_program<P: Read, F: Read, W: Write, T: Write>(
         return Err(WorkshopFault::NoMemory);
     };
     let mut processor = Processor::new(loaded.rope, loaded.feed);
-    trace(form, &names, &mut processor, first, steps, out, progress)
+    let mut tracing = Tracing { form, names, first };
+    trace(&mut tracing, &mut processor, steps, out, progress)
 }
 
-/// Makes some steps from the start, and writes the lines of those from a first one on. Lines are handed on while it
-/// goes.
+/// Makes some steps from the start, and writes the lines of those from a first one on.
 fn trace<W: Write, T: Write>(
-    form: LineForm,
-    names: &PlaceNames,
+    tracing: &mut Tracing,
     processor: &mut Processor,
-    first: u64,
     steps: u64,
     out: &mut W,
     progress: &mut T,
 ) -> Result<(), WorkshopFault>
     requires { steps ≤ 2 ^ 40 - 2 }
-    ensures writes { WritesText (told_lines form names.now processor.old.scenario first steps)
+    ensures writes { WritesText
+        (told_lines tracing.old.form tracing.old.names processor.old.scenario tracing.old.first steps)
         (writer W.told W.written W.failures out.old) (writer W.told W.written W.failures out.new) result }
     ensures handed_on { W.told ≡ true → 0 < steps → OnOk result (W.handed_on out.new ≡ W.written out.new) }
-    ensures progress { TellsWritten (told_lines form names.now processor.old.scenario first) steps
+    ensures progress { TellsWritten
+        (told_lines tracing.old.form tracing.old.names processor.old.scenario tracing.old.first) steps
         (telling (writer W.told W.written W.failures out.old) (writer T.told T.written T.failures progress.old))
         (telling (writer W.told W.written W.failures out.new) (writer T.told T.written T.failures progress.new))
         result }
 {
     let mut machine = Machine::start();
-    let mut told = Ok(());
-    let mut done = 0;
-    while done < steps {
-        let stop = steps.min(done + STEPS_BETWEEN_FLUSHES);
-        while done < stop {
-            step_and_trace(form, names, processor, &mut machine, first, done + 1, out)?;
-            done += 1;
-        }
-        hand_on(out)?;
-        told = tell(told, done, progress);
-    }
+    run_all(tracing, processor, &mut machine, steps, out, progress)?;
     Ok(())
 }
 
-/// Makes a step, and writes its line where lines are written from there on.
-fn step_and_trace<W: Write>(
+/// Writes the lines of steps from a first one on, in a form.
+#[derive(Drop)]
+struct Tracing {
     form: LineForm,
-    names: &PlaceNames,
-    processor: &mut Processor,
-    machine: &mut Machine,
+    names: PlaceNames,
     first: u64,
-    number: u64,
-    out: &mut W,
-) -> Result<(), WriteFailed>
-    requires cycles { machine.old.cycles ≤ 2 ^ 62 }
-    requires fits { FitsRun processor.old.scenario machine.old }
-    ensures scenario { processor.new.scenario ≡ processor.old.scenario }
-    ensures state { machine.new ≡ (next processor.old.scenario machine.old).0 }
-    ensures written { W.told ≡ true →
-        Writes (W.written out.old) (W.written out.new)
-        (told_from form names.now processor.old.scenario first number machine.old) result }
-    ensures failures { W.failures out.new ≡ failures_after (W.failures out.old) result }
-{
-    if number < first {
-        processor.step(machine);
-        return Ok(());
+}
+
+impl Tracing {
+    /// Makes a step, and writes its line where lines are written from there on.
+    fn step_and_trace<W: Write>(
+        &self,
+        processor: &mut Processor,
+        machine: &mut Machine,
+        number: u64,
+        out: &mut W,
+    ) -> Result<(), WriteFailed>
+        requires cycles { machine.old.cycles ≤ 2 ^ 62 }
+        requires fits { FitsRun processor.old.scenario machine.old }
+        ensures scenario { processor.new.scenario ≡ processor.old.scenario }
+        ensures state { machine.new ≡ (next processor.old.scenario machine.old).0 }
+        ensures written { W.told ≡ true → Writes (W.written out.old) (W.written out.new)
+            (told_from self.now.form self.now.names processor.old.scenario self.now.first number machine.old) result }
+        ensures failures { W.failures out.new ≡ failures_after (W.failures out.old) result }
+    {
+        if number < self.first {
+            processor.step(machine);
+            return Ok(());
+        }
+        tell_step(self.form, &self.names, processor, machine, number, out)
     }
-    tell_step(form, names, processor, machine, number, out)
+}
+
+impl Stepper for Tracing {
+    ghost use Rattle.say.specs.Said.{told_lines};
+
+    type Kept = Tracing;
+
+    ghost kept = { λ tracing. tracing };
+
+    ghost Stands = { λ _ _ _ _. Unit {0} };
+
+    ghost text = { λ tracing scenario. told_lines tracing.form tracing.names scenario tracing.first };
+
+    fn go_on<W: Write>(
+        &mut self,
+        processor: &mut Processor,
+        machine: &mut Machine,
+        done: u64,
+        stop: u64,
+        out: &mut W,
+    ) -> Result<u64, WriteFailed> {
+        self.step_and_trace(processor, machine, done + 1, out)?;
+        Ok(done + 1)
+    }
 }

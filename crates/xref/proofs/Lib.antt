@@ -1,2 +1,1 @@
 pub mod MentionRows
-pub mod Parts

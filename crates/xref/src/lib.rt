@@ -6,5 +6,5 @@ mod table;
 mod use_of;
 
 pub use mention::{Mention, mentions};
-pub use table::{use_column, write_cross_reference};
+pub use table::{write_cross_reference, write_use};
 pub use use_of::Use;

@@ -82,8 +82,10 @@ fn write_row<W: Write>(mention: &Mention<'_>, out: &mut W) -> Result<(), WriteFa
     write_use(mention.name, mention.used, out)
 }
 
-// Writes a name, and what a line does with it.
-fn write_use<W: Write>(name: &[u8], used: Use, out: &mut W) -> Result<(), WriteFailed>
+/// Writes a name, and what a line does with it.
+///
+/// After a failure a beginning of it was written.
+pub fn write_use<W: Write>(name: &[u8], used: Use, out: &mut W) -> Result<(), WriteFailed>
     ensures written { W.told ≡ true → Writes (W.written out.old) (W.written out.new)
         (name.now ++ use_column name.now used) result }
     ensures failures { W.failures out.new ≡ failures_after (W.failures out.old) result }

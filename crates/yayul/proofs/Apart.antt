@@ -8,8 +8,7 @@ use Rattle.std.specs.List.{list_any}
 use Rattle.agc_text.specs.Lines.{lines}
 use Rattle.yayul.specs.Layout.{Request, start, width, stands_at, layout_after}
 use Rattle.yayul.specs.Inside.Sound.{AreApart, meets}
-use Rattle.yayul.specs.Language.{Language, Addressed, BankWord, Complemented, Constant, Constants, Content, FarAddress, FarComplement}
-use Rattle.yayul.specs.Language.{Plain}
+use Rattle.yayul.specs.Language.{Language, Constant, Content}
 use Rattle.yayul.specs.Laws.{ShareNoPlace, WordsShareNoPlace}
 use Rattle.yayul.proofs.LineRequests.{ordered}
 use Rattle.yayul.proofs.TakenPlaces.{meets_not}
@@ -40,13 +39,7 @@ meets_before before (x ∷ xs) (suc j) r apart e =
 
 pub few_words : (content : Content) → width content ≤ 2
 few_words (Constant number) = omega arith
-few_words (Plain i) = omega arith
-few_words (Addressed i operand) = omega arith
-few_words (FarAddress operand) = omega arith
-few_words (Constants pair) = omega arith
-few_words (Complemented i operand) = omega arith
-few_words (FarComplement operand) = omega arith
-few_words (BankWord operand) = omega arith
+few_words content = omega arith
 
 -- a word of a request stands at its first place, or at the next
 first_or_next : (bank offset : ℕ) (r : Request) → stands_at bank offset r ≡ true

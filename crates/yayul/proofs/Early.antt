@@ -1,39 +1,40 @@
 -- A symbol of which is told that its value is needed too early has none from a line above.
 use Rattle.std.proofs.Common.{◌≡◌, ℕ, zero, suc, ◌+◌, ◌-◌, ◌<◌, ◌≤◌, ◌==◌, Bool, true, false, ◌&&◌, ◌||◌, not, cond, length, List, [], ◌∷◌}
 use Rattle.std.proofs.Common.{◌++◌, take, Option, Some, None, is_some, Result, Ok, Err, refl, ap, sym, subst, ◌∙◌, arith}
-use Rattle.std.specs.Prelude.{All, nat_le, ok_or, option_and_then, slice_get, unwrap_or, if◌then◌else◌}
+use Rattle.std.specs.Prelude.{nat_le, ok_or, option_and_then, slice_get, unwrap_or, if◌then◌else◌}
 use Rattle.std.specs.List.{list_all, list_any}
 use Rattle.std.specs.Option.{option_map_or}
 use Rattle.std.specs.Result.{result_err}
 use Rattle.std.proofs.lemmas.Bool.{and_parts, eq-eqb}
-use Rattle.std.proofs.lemmas.List.Elements.{All-nil, All-append}
 use Rattle.agc_text.specs.Tables.{value_in}
 use Rattle.yayul.specs.Flight.{is_flight}
 use Rattle.yayul.specs.Operators.{is_bank}
 use Rattle.yayul.specs.Later.{Table, promise_kind, waiting_kind}
-use Rattle.yayul.specs.Layout.{Layout, asked, asked_here, bank_target, defined, early_value, equals, erased_to, fault_if, fault_number}
-use Rattle.yayul.specs.Layout.{is_erasable, is_later, is_malformed, is_missing, is_taken, is_twice, is_undefined, lacks_room, location_at}
+use Rattle.yayul.specs.Layout.{Layout, asked_here, bank_target, defined, early_value, equals, erased_to, fault_if, fault_number}
+use Rattle.yayul.specs.Layout.{is_erasable, is_later, is_missing, is_taken, is_undefined, lacks_room, location_at}
 use Rattle.yayul.specs.Layout.{erasable_number, erasable_place, moved_value, promised, standing, statement_effect, statement_on, term_value}
-use Rattle.yayul.specs.Layout.{text_faults, value_here, valued, width, word_place}
+use Rattle.yayul.specs.Layout.{text_faults, value_here, valued, width}
 use Rattle.yayul.specs.Laws.{EarlyIsSure, IsNotAbove, NamesNoneAbove, before_line, is_waiting, label_on, said_on, symbol_in, symbol_of}
 use Rattle.yayul.specs.Laws.{text_of_line}
 use Rattle.yayul.specs.Mended.{lacks_form, lacks_operand}
-use Rattle.yayul.specs.Survey.{Survey, done_line, doubt, finding, follows, form_kinds, is_done, is_kept, is_of_label, is_one_of, kinds_on}
+use Rattle.yayul.specs.Survey.{Survey, done_line, doubt, finding, follows, form_kinds, is_done, is_kept, is_of_label, is_one_of}
 use Rattle.yayul.specs.Survey.{known_after, label_passed, laid, layout_kinds, line_kinds, looked_at, names_one, operand_of, operation_on}
 use Rattle.yayul.specs.Survey.{passed_line, passed_lines, place_of_words, rests_on_known, said_passed, settled_survey, some_stands}
-use Rattle.yayul.specs.Survey.{stands_in, taken_by, told, told_line, told_lines, unmarked, vain_kind, waits_in_vain, with_known, word_kinds}
+use Rattle.yayul.specs.Survey.{stands_in, taken_by, told, unmarked, vain_kind, waits_in_vain, with_known, word_kinds}
 use Rattle.yayul.specs.Words.{content_words, extracode_fault, extracode_of}
-use Rattle.yayul.specs.Language.{BadBank, BadLabel, BadOperand, Bank, BankFull, BankRange, CodeInErasable, Content, Ebank, Equals, Erase}
+use Rattle.yayul.specs.Language.{BadBank, BadOperand, Bank, BankFull, BankRange, CodeInErasable, Content, Ebank, Equals, Erase}
 use Rattle.yayul.specs.Language.{FaultKind, Fixed, Gives, Is, Label, Language, Location, Malformed, Missing, Named, NoForm, Nothing, Num}
-use Rattle.yayul.specs.Language.{Numeral, Operand, Operation, OutOfRange, PlaceTaken, Setloc, Term, TooLarge, TwiceDefined, Unknown}
+use Rattle.yayul.specs.Language.{Numeral, Operand, Operation, OutOfRange, PlaceTaken, Setloc, Term, TooLarge, Unknown}
 use Rattle.yayul.specs.Language.{UnknownOperator, UsedTooEarly, Value}
 use Rattle.yayul.specs.declared.doubt.Known.{Known}
 use Rattle.yayul.specs.declared.finding.Finding.{Finding}
-use Rattle.yayul.proofs.KindsAs.{AreAs, FailsAs, IsApart, both_as, choice_as, content_as, erasable_as, err_as, extracode_as, form_as, if_as}
+use Rattle.yayul.proofs.Asked.{asked_stays}
+use Rattle.yayul.proofs.KindsAs.{AreAs, bare_as, five_as, label_as, valued_as, FailsAs, IsApart, choice_as, content_as, erasable_as, err_as}
+use Rattle.yayul.proofs.KindsAs.{extracode_as, form_as, if_as}
 use Rattle.yayul.proofs.KindsAs.{location_as, moved_value_as, none_apart, ok_or_as, stands_as, text_as, then_as}
 use Rattle.yayul.proofs.NoLabel.{KeepsAll, LacksValue, followed_keeps, known_keeps, line_keeps, names_symbol, no_kinds, noted_stands}
 use Rattle.yayul.proofs.NoLabel.{or_true, own_kind, stands_last}
-use Rattle.yayul.proofs.Sure.{line_after, line_said, lines_after, next_at, not_false, told_all}
+use Rattle.yayul.proofs.Sure.{lines_told, line_said, not_false}
 use Rattle.yayul.proofs.TakenPlaces.{or-parts}
 
 -- ## Lines whose operand is no symbol without a value
@@ -92,56 +93,37 @@ erased_other (Location.Fixed bank n) NoForm = refl
 erased_other (Location.Fixed bank n) TooLarge = refl
 erased_other (Location.Fixed bank n) (Is count) = refl
 
--- the faults of a label, and others
-label_other : (s : Layout) (label : Label) (cs : List (Option FaultKind)) → AreAs IsOther (standing cs)
-    → AreAs IsOther (standing (fault_if (is_malformed label) BadLabel ∷ fault_if (is_twice s label) TwiceDefined ∷ cs))
-label_other s label cs are =
-    if_as IsOther (is_malformed label) BadLabel (fault_if (is_twice s label) TwiceDefined ∷ cs) refl
-    (if_as IsOther (is_twice s label) TwiceDefined cs refl are)
-
-bare_other : {A : Type 0} (label : Label) (r : Result A FaultKind) → FailsAs IsOther r
-    → AreAs IsOther (standing (fault_if (not (is_missing label)) BadLabel ∷ result_err r ∷ []))
-bare_other label r fails = if_as IsOther (not (is_missing label)) BadLabel (result_err r ∷ []) refl
-    (stands_as IsOther (result_err r) [] (err_as IsOther r fails) tt)
-
-valued_other : (s : Layout) (label : Label) (value : Result Value FaultKind) → FailsAs IsOther value
-    → AreAs IsOther (valued s label value).faults
-valued_other s label value fails =
-    if_as IsOther (is_missing label || is_malformed label) BadLabel (fault_if (is_twice s label) TwiceDefined ∷ result_err value ∷ []) refl
-    (if_as IsOther (is_twice s label) TwiceDefined (result_err value ∷ []) refl
-    (stands_as IsOther (result_err value) [] (err_as IsOther value fails) tt))
-
 equals_other : (line : ℕ) (s : Layout) (label : Label) (operand : Option Operand)
     → option_map_or (λ o. is_undefined s.symbols o.term) operand false ≡ false → AreAs IsOther (equals line s label operand).faults
-equals_other line s label None none = valued_other s label (Err BadOperand) refl
+equals_other line s label None none = valued_as IsOther refl refl s label (Err BadOperand) refl
 equals_other line s label (Some operand) none = by_test (is_later s operand)
   where
     by_test : (b : Bool) → AreAs IsOther (if b then promised line s label operand else valued s label (early_value s (Some operand))).faults
-    by_test true = valued_other s label (Ok (Num 0)) tt
-    by_test false = valued_other s label (early_value s (Some operand)) (early_other s (Some operand) none)
+    by_test true = valued_as IsOther refl refl s label (Ok (Num 0)) tt
+    by_test false = valued_as IsOther refl refl s label (early_value s (Some operand)) (early_other s (Some operand) none)
 
 statement_other : (line : ℕ) (s : Layout) (label : Label) (operation : Operation) → lacks s.symbols operation ≡ false
     → AreAs IsOther (statement_effect line s label operation).faults
 statement_other line s label Nothing none =
-    label_other s label (fault_if (not (is_missing label) && lacks_room 1 s.location) BankFull ∷ [])
+    label_as IsOther refl refl s label (fault_if (not (is_missing label) && lacks_room 1 s.location) BankFull ∷ [])
     (if_as IsOther (not (is_missing label) && lacks_room 1 s.location) BankFull [] refl tt)
-statement_other line s label Unknown none = label_other s label (Some UnknownOperator ∷ []) (refl, tt)
-statement_other line s label (Setloc operand) none = bare_other label _
+statement_other line s label Unknown none = label_as IsOther refl refl s label (Some UnknownOperator ∷ []) (refl, tt)
+statement_other line s label (Setloc operand) none = bare_as IsOther refl label _
     (then_as IsOther location_at (early_value s operand) (early_other s operand none) (location_as IsOther refl refl))
-statement_other line s label (Bank taken number) none = bare_other label _ (bank_other s taken number)
+statement_other line s label (Bank taken number) none = bare_as IsOther refl label _ (bank_other s taken number)
 statement_other line s label (Erase count) none =
-    label_other s label (fault_if (not (is_missing label) && lacks_room 1 s.location) BankFull ∷ result_err (erased_to s.location count)
+    label_as IsOther refl refl s label (fault_if (not (is_missing label) && lacks_room 1 s.location) BankFull ∷ result_err (erased_to s.location count)
     ∷ [])
     (if_as IsOther (not (is_missing label) && lacks_room 1 s.location) BankFull (result_err (erased_to s.location count) ∷ []) refl
     (stands_as IsOther (result_err (erased_to s.location count)) []
     (err_as IsOther (erased_to s.location count) (erased_other s.location count)) tt))
 statement_other line s label (Equals operand) none = equals_other line s label operand none
 statement_other line s label (Ebank operand) none =
-    bare_other label _ (then_as IsOther erasable_place (early_value s operand) (early_other s operand none)
+    bare_as IsOther refl label _ (then_as IsOther erasable_place (early_value s operand) (early_other s operand none)
     (λ v. then_as IsOther erasable_number (location_at v) (location_as IsOther refl refl v) (erasable_as IsOther refl refl)))
-statement_other line s label (Gives None) none = label_other s label (Some BadOperand ∷ []) (refl, tt)
+statement_other line s label (Gives None) none = label_as IsOther refl refl s label (Some BadOperand ∷ []) (refl, tt)
 statement_other line s label (Gives (Some content)) none =
-    label_other s label (fault_if (lacks_room (width content) s.location) BankFull ∷ fault_if (is_taken s (width content)) PlaceTaken
+    label_as IsOther refl refl s label (fault_if (lacks_room (width content) s.location) BankFull ∷ fault_if (is_taken s (width content)) PlaceTaken
     ∷ fault_if (is_erasable s.location) CodeInErasable ∷ [])
     (if_as IsOther (lacks_room (width content) s.location) BankFull
     (fault_if (is_taken s (width content)) PlaceTaken ∷ fault_if (is_erasable s.location) CodeInErasable ∷ []) refl
@@ -182,14 +164,6 @@ vain_none whole s label operation none =
     by_test false = waiting_none whole.layout.symbols s.layout label operation none
 
 word_other : (table : Table) (s : Layout) (formless : Bool) (operation : Operation) → AreAs IsOther (word_kinds table s formless operation)
-word_other table s formless Nothing = tt
-word_other table s formless Unknown = tt
-word_other table s formless (Setloc operand) = tt
-word_other table s formless (Bank taken number) = tt
-word_other table s formless (Erase count) = tt
-word_other table s formless (Equals operand) = tt
-word_other table s formless (Ebank operand) = tt
-word_other table s formless (Gives None) = tt
 word_other table s true (Gives (Some content)) = extracode_as IsOther (extracode_of content) s.extracode refl refl
 word_other table s false (Gives (Some content)) =
     let words : Result (List ℕ) FaultKind = content_words table (Fixed (place_of_words s.location).0 (place_of_words s.location).1)
@@ -197,6 +171,7 @@ word_other table s false (Gives (Some content)) =
     stands_as IsOther (result_err words) (extracode_fault (extracode_of content) s.extracode ∷ [])
     (err_as IsOther words (content_as IsOther refl refl refl table _ s.extracode s.eb content))
     (extracode_as IsOther (extracode_of content) s.extracode refl refl)
+word_other table s formless _ = tt
 
 vain_other : (c : Option FaultKind) → c ≡ None → AreAs IsOther (standing (c ∷ []))
 vain_other c none = subst (λ (d : Option FaultKind). AreAs IsOther (standing (d ∷ []))) (sym none) tt
@@ -208,16 +183,11 @@ line_other whole line s text none =
     let label : Label = (statement_on s.layout text).label in
     let operation : Operation = operation_on s.layout text in
     let formless : Bool = lacks_form (statement_on s.layout text).operation in
-    let of_text : List FaultKind = text_faults s.layout.language line text in
-    let of_layout : List FaultKind = layout_kinds line s.layout label operation in
-    let of_vain : List FaultKind = standing (vain_kind whole s label operation ∷ []) in
-    both_as IsOther (of_text ++ form_kinds formless ++ of_layout ++ of_vain) (word_kinds whole.layout.symbols s.layout formless operation)
-    (both_as IsOther (of_text ++ form_kinds formless ++ of_layout) of_vain
-    (both_as IsOther (of_text ++ form_kinds formless) of_layout
-    (both_as IsOther of_text (form_kinds formless) (text_as IsOther s.layout.language line text refl refl refl)
-    (form_as IsOther formless refl))
-    (statement_other line s.layout label operation none))
-    (vain_other (vain_kind whole s label operation) (vain_none whole s label operation none)))
+    five_as IsOther (text_faults s.layout.language line text) (form_kinds formless) (layout_kinds line s.layout label operation)
+    (standing (vain_kind whole s label operation ∷ [])) (word_kinds whole.layout.symbols s.layout formless operation)
+    (text_as IsOther s.layout.language line text refl refl refl) (form_as IsOther formless refl)
+    (statement_other line s.layout label operation none)
+    (vain_other (vain_kind whole s label operation) (vain_none whole s label operation none))
     (word_other whole.layout.symbols s.layout formless operation)
 
 line_early : (whole : Survey) (line : ℕ) (s : Survey) (text : List ℕ) → is_one_of (line_kinds whole line s text) UsedTooEarly ≡ true
@@ -245,14 +215,7 @@ has_keeps name s t keeps is = by_cases (stands_in s.layout.symbols name) (stands
 
 module _ (name : List ℕ) (line : ℕ) (s : Layout) where
   asked_has : (content : Content) (t : Layout) → stands_in t.symbols name ≡ true → stands_in (asked_here line t content).symbols name ≡ true
-  asked_has content t is = by_place (word_place t.location)
-    where
-      by_place : (place : Option (ℕ × ℕ))
-          → stands_in (option_map_or (λ p. asked t (record
-          { line = line; bank = p.0; offset = p.1; content = content; extracode = t.extracode; eb = t.eb })) place t).symbols name
-          ≡ true
-      by_place None = is
-      by_place (Some p) = is
+  asked_has content t is = asked_stays (λ (u : Layout). stands_in u.symbols name ≡ true) line t content is (λ r. is)
 
   valued_has : (value : Result Value FaultKind) → (valued s (Named name) value).faults ≡ []
       → stands_in (valued s (Named name) value).after.symbols name ≡ true
@@ -412,20 +375,8 @@ module _ (language : Language) (source : List ℕ) where
         early is) in
         early_named parts.0 (not_false (follows (doubt whole s text operation) UsedTooEarly) parts.1)
 
-  lines_early : (texts done : List (List ℕ)) (line : ℕ) → looked_at language source ≡ done ++ texts → line ≡ length done + 1
-      → All IsSo (told_lines whole line (passed_lines 1 (unmarked language) done) texts)
-  lines_early [] done line all at = All-nil IsSo
-  lines_early (text ∷ texts) done line all at =
-      let s : Survey = passed_lines 1 (unmarked language) done in
-      All-append IsSo (told_line whole line s text) (told_lines whole (line + 1) (passed_line line s text) texts)
-      (told_all IsSo (finding s.layout.language line text (taken_by s.layout (operation_on s.layout text)))
-      (λ kind. is_one_of (line_kinds whole line s text) kind && not (follows (doubt whole s text (operation_on s.layout text)) kind))
-      (kinds_on s.layout.language text)
-      (each_early done texts text line all at))
-      (subst (λ (t : Survey). All IsSo (told_lines whole (line + 1) t texts)) (line_after language source done texts text line all at)
-      (lines_early texts (done ++ text ∷ []) (line + 1) (lines_after language source done texts text line all at)
-      (next_at language source done texts text line all at)))
-
 pub early_is_sure : (language : Language) (source : List ℕ) → EarlyIsSure language source
 unfolding told
-early_is_sure language source = lines_early language source (looked_at language source) [] 1 refl refl
+early_is_sure language source =
+    lines_told language source (whole language source) (IsSo language source) (each_early language source) (looked_at language source) [] 1
+    refl refl

@@ -13,7 +13,7 @@ use Rattle.std.proofs.lemmas.List.Folds.{find_at}
 use Rattle.agc_text.specs.Bytes.{line_length, is_text_byte}
 use Rattle.yayul.specs.Flight.{measured, most_lines}
 use Rattle.yayul.specs.Later.{Table, first_fault, promise_fault, promise_kind, waiting_kind}
-use Rattle.yayul.specs.Layout.{Promise, LineEffect, equals, gives, is_later, is_taken, is_erasable, lacks_room, width, promised, valued}
+use Rattle.yayul.specs.Layout.{Promise, LineEffect, equals, gives, is_later, is_erasable, lacks_room, width, promised, valued}
 use Rattle.yayul.specs.Layout.{statement_on, Request, Layout, value_here, early_value, defined, asked, asked_here, fault_if, fault_number}
 use Rattle.yayul.specs.Layout.{standing, on_line, is_malformed, is_twice, word_place, statement_effect, text_faults, line_effect}
 use Rattle.yayul.specs.Layout.{line_faults, layout_after, layout_faults}
@@ -22,12 +22,13 @@ use Rattle.yayul.specs.Survey.{Survey, operation_on, rests_on_known, is_done, lo
 use Rattle.yayul.specs.Survey.{wrong_byte, laid, with_known, said_passed, layout_kinds, passed_line, passed_lines, word_kinds}
 use Rattle.yayul.specs.Survey.{content_kinds}
 use Rattle.yayul.specs.Words.{content_words, request_words, request_faults, word_faults}
-use Rattle.yayul.specs.Language.{Language, Addressed, BadLabel, BadOperand, Bank, BankFull, BankWord, CodeInErasable, Complemented}
-use Rattle.yayul.specs.Language.{Constant, Constants, Content, Ebank, Equals, Erase, FarAddress, FarComplement, Fault, FaultKind, Gives}
-use Rattle.yayul.specs.Language.{Label, LongLine, Malformed, Missing, Named, NotAscii, Nothing, Operand, Operation, PlaceTaken, Plain}
+use Rattle.yayul.specs.Language.{Language, BadLabel, BadOperand, Bank}
+use Rattle.yayul.specs.Language.{Constant, Content, Ebank, Equals, Erase, Fault, FaultKind, Gives}
+use Rattle.yayul.specs.Language.{Label, LongLine, Malformed, Missing, Named, NotAscii, Nothing, Operand, Operation}
 use Rattle.yayul.specs.Language.{Setloc, Location, TooManyLines, TwiceDefined, Unknown, UnknownOperator, Value}
 use Rattle.yayul.specs.declared.doubt.Known.{Known}
-use Rattle.yayul.proofs.LineRequests.{defined_keeps, free_place, none_stands, no_others, head_faults}
+use Rattle.yayul.proofs.Asked.{asked_stays}
+use Rattle.yayul.proofs.LineRequests.{defined_keeps, free_place, room_for, none_stands, no_others, head_faults}
 use Rattle.yayul.proofs.Equalled.{by_later, promise_requests}
 
 -- ## Lines without a fault
@@ -92,13 +93,7 @@ still_known line s label (Gives (Some content)) e = refl
 
 location_stays : (operation : Operation) → location_known true true operation ≡ true
 location_stays Nothing = refl
-location_stays Unknown = refl
-location_stays (Setloc operand) = refl
-location_stays (Bank taken number) = refl
-location_stays (Erase count) = refl
-location_stays (Equals operand) = refl
-location_stays (Ebank operand) = refl
-location_stays (Gives content) = refl
+location_stays operation = refl
 
 rests_on_all : (alone : Bool) (operation : Operation)
     → rests_on_known (record { location = true; banks = true; extracode = true; wrong = None }) alone operation ≡ true
@@ -191,27 +186,11 @@ asked_words table line s content bank offset here =
 -- a faultless line that gives words has a place for them
 given_place : (line : ℕ) (s : Layout) (label : Label) (content : Content) → (gives line s label content).faults ≡ []
     → (bank : ℕ) × (offset : ℕ) × (word_place s.location ≡ Some (bank, offset))
-given_place line s label content e = by_location s.location (free_place line s label content e).0 fixed
+given_place line s label content e = by_location s.location (free_place line s label content e).0 (room_for line s label content e).1.1
   where
-    fixed : is_erasable s.location ≡ false
-    fixed =
-        let last : List (Option FaultKind) = fault_if (is_erasable s.location) CodeInErasable ∷ [] in
-        let taken : List (Option FaultKind) = fault_if (is_taken s (width content)) PlaceTaken ∷ last in
-        let full : List (Option FaultKind) = fault_if (lacks_room (width content) s.location) BankFull ∷ taken in
-        let a = none_stands (is_malformed label) BadLabel (fault_if (is_twice s label) TwiceDefined ∷ full) e in
-        let b = none_stands (is_twice s label) TwiceDefined full a.1 in
-        let c = none_stands (lacks_room (width content) s.location) BankFull taken b.1 in
-        (none_stands (is_erasable s.location) CodeInErasable [] (none_stands (is_taken s (width content)) PlaceTaken last c.1).1).0
-
     some_width : (c : Content) → 1 ≤ width c
     some_width (Constant number) = omega arith
-    some_width (Plain i) = omega arith
-    some_width (Addressed i operand) = omega arith
-    some_width (FarAddress operand) = omega arith
-    some_width (Constants pair) = omega arith
-    some_width (Complemented i operand) = omega arith
-    some_width (FarComplement operand) = omega arith
-    some_width (BankWord operand) = omega arith
+    some_width content = omega arith
 
     by_location : (here : Location) → lacks_room (width content) here ≡ false → is_erasable here ≡ false
         → (bank : ℕ) × (offset : ℕ) × (word_place here ≡ Some (bank, offset))
@@ -366,18 +345,8 @@ statement_first table line s label operation = by_operation operation
     valued_same (Ok value) = labelled label value
     valued_same (Err kind) = refl
 
-    asked_same : (content : Content) (t : Layout) (place : Option (ℕ × ℕ))
-        → (option_map_or (λ p. asked t (record {
-          line = line;
-          bank = p.0;
-          offset = p.1;
-          content = content;
-          extracode = t.extracode;
-          eb
-              = t.eb;
-        })) place t).promises ≡ t.promises
-    asked_same content t None = refl
-    asked_same content t (Some p) = refl
+    asked_same : (content : Content) (t : Layout) → (asked_here line t content).promises ≡ t.promises
+    asked_same content t = asked_stays (λ (u : Layout). u.promises ≡ t.promises) line t content refl (λ r. refl)
 
     by_operation : (o : Operation) → first_fault table (statement_effect line s label o).after.promises
         ≡ option_or (first_fault table s.promises) (line_fault table line s label o)
@@ -391,7 +360,7 @@ statement_first table line s label operation = by_operation operation
     by_operation (Ebank operand) = same s.promises refl
     by_operation (Gives None) = same s.promises refl
     by_operation (Gives (Some content)) = same _ (asked_same content (defined s label (value_here s.location))
-        (word_place (defined s label (value_here s.location)).location) ∙ labelled label (value_here s.location))
+        ∙ labelled label (value_here s.location))
 
 line_first : (table : Table) (line : ℕ) (s : Layout) (text : List ℕ)
     → first_fault table (line_effect line s text).after.promises

@@ -14,11 +14,12 @@ use Rattle.yayul.specs.Forms.{greatest_number}
 use Rattle.yayul.specs.Operators.{bits_under, field_size}
 use Rattle.yayul.specs.Later.{Table}
 use Rattle.yayul.specs.Layout.{and_then, erasable_number, fault_if, fault_number, location_at, location_of, moved, moved_value, standing}
-use Rattle.yayul.specs.Layout.{term_value, text_faults, value_of}
+use Rattle.yayul.specs.Layout.{Layout, is_malformed, is_missing, is_twice, term_value, text_faults, value_of, valued}
 use Rattle.yayul.specs.Survey.{form_kinds, is_one_of}
 use Rattle.yayul.specs.Words.{accepted, address_below, address_of, addressed_word, bank_word, channel_in, complete_address, content_words}
 use Rattle.yayul.specs.Words.{extracode_fault, far_address, field_of, fixed_offset, fixed_place, low_place}
-use Rattle.yayul.specs.Language.{Address, Addressed, AddressedCode, BadOperand, BankWord, Channel, Complemented, Constant, Constants}
+use Rattle.yayul.specs.Language.{Address, Addressed, AddressedCode, BadLabel, BadOperand, BankWord, Label, TwiceDefined, Channel}
+use Rattle.yayul.specs.Language.{Complemented, Constant, Constants}
 use Rattle.yayul.specs.Language.{Content, Either, Erasable, ErasablePlace, Extracode, FarAddress, FarComplement, FaultKind, Fixed}
 use Rattle.yayul.specs.Language.{FixedAddress, FixedPlace, Language, Location, LongLine, Minus, NeedsExtend, No, NotAscii, NotExtracode}
 use Rattle.yayul.specs.Language.{Num, Operand, OutOfRange, Pair, Plain, Plus, Shift, Takes, Term, TooManyLines, Undefined, Value}
@@ -51,9 +52,31 @@ module _ (P : FaultKind → Type 0) where
   err_as (Ok x) fails = tt
   err_as (Err k) fails = fails
 
+  -- the faults of a label, and others
+  pub label_as : P BadLabel → P TwiceDefined → (s : Layout) (label : Label) (cs : List (Option FaultKind)) → AreAs P (standing cs)
+      → AreAs P (standing (fault_if (is_malformed label) BadLabel ∷ fault_if (is_twice s label) TwiceDefined ∷ cs))
+  label_as bad twice s label cs are = if_as (is_malformed label) BadLabel (fault_if (is_twice s label) TwiceDefined ∷ cs) bad
+      (if_as (is_twice s label) TwiceDefined cs twice are)
+
+  pub bare_as : {A : Type 0} → P BadLabel → (label : Label) (r : Result A FaultKind) → FailsAs P r
+      → AreAs P (standing (fault_if (not (is_missing label)) BadLabel ∷ result_err r ∷ []))
+  bare_as bad label r fails = if_as (not (is_missing label)) BadLabel (result_err r ∷ []) bad
+      (stands_as (result_err r) [] (err_as r fails) tt)
+
+  pub valued_as : P BadLabel → P TwiceDefined → (s : Layout) (label : Label) (value : Result Value FaultKind) → FailsAs P value
+      → AreAs P (valued s label value).faults
+  valued_as bad twice s label value fails =
+      if_as (is_missing label || is_malformed label) BadLabel (fault_if (is_twice s label) TwiceDefined ∷ result_err value ∷ []) bad
+      (if_as (is_twice s label) TwiceDefined (result_err value ∷ []) twice
+      (stands_as (result_err value) [] (err_as value fails) tt))
+
   pub both_as : (ks others : List FaultKind) → AreAs P ks → AreAs P others → AreAs P (ks ++ others)
   both_as [] others are others_are = others_are
   both_as (k ∷ ks) others are others_are = (are.0, both_as ks others are.1 others_are)
+
+  pub five_as : (a b c d e : List FaultKind) → AreAs P a → AreAs P b → AreAs P c → AreAs P d → AreAs P e → AreAs P (a ++ b ++ c ++ d ++ e)
+  five_as a b c d e one two three four five = both_as (a ++ b ++ c ++ d) e
+      (both_as (a ++ b ++ c) d (both_as (a ++ b) c (both_as a b one two) three) four) five
 
   pub then_as : {A B : Type 0} (f : A → Result B FaultKind) (r : Result A FaultKind) → FailsAs P r → ((x : A) → FailsAs P (f x))
       → FailsAs P (and_then f r)

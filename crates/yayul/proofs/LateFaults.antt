@@ -179,12 +179,6 @@ statement_late line s label (Gives (Some content)) =
 
 -- so is what is wrong with a name that waits
 pub waiting_late : (table : Table) (s : Layout) (label : Label) (operation : Operation) → IsLateIf (waiting_kind table s label operation)
-waiting_late table s label Nothing = tt
-waiting_late table s label Unknown = tt
-waiting_late table s label (Setloc operand) = tt
-waiting_late table s label (Bank taken number) = tt
-waiting_late table s label (Erase count) = tt
-waiting_late table s label (Equals None) = tt
 waiting_late table s Missing (Equals (Some operand)) = tt
 waiting_late table s Malformed (Equals (Some operand)) = tt
 waiting_late table s (Named name) (Equals (Some operand)) = by_test (is_later s operand)
@@ -200,8 +194,7 @@ waiting_late table s (Named name) (Equals (Some operand)) = by_test (is_later s 
     by_test : (b : Bool) → IsLateIf (if b then promise_kind table name operand else None)
     by_test true = promise_late
     by_test false = tt
-waiting_late table s label (Ebank operand) = tt
-waiting_late table s label (Gives content) = tt
+waiting_late table s label _ = tt
 
 -- the least of some faults, where others have greater numbers
 late : (k : FaultKind) → is_of_fields k ≡ true → 12 < fault_number k

@@ -14,8 +14,8 @@ use Rattle.agc_text.specs.Tables.{same_name, value_in}
 use Rattle.yayul.specs.Flight.{most_lines}
 use Rattle.yayul.specs.Later.{Table, awaited, first_fault, promise_kind, waiting_kind, with_values}
 use Rattle.yayul.specs.Layout.{and_then, equals, is_later, is_taken, is_erasable, lacks_room, width, promised, valued, statement_on, Layout}
-use Rattle.yayul.specs.Layout.{value_here, early_value, defined, asked, fault_if, fault_number, standing, start, on_line, is_malformed}
-use Rattle.yayul.specs.Layout.{is_twice, word_place, statement_effect, text_faults, line_effect, line_faults, layout_after, layout_faults}
+use Rattle.yayul.specs.Layout.{value_here, early_value, defined, asked_here, fault_if, fault_number, standing, start, on_line, is_malformed}
+use Rattle.yayul.specs.Layout.{is_twice, statement_effect, text_faults, line_effect, line_faults, layout_after, layout_faults}
 use Rattle.yayul.specs.Laws.{is_of, TellsOf, FindingsAgree}
 use Rattle.yayul.specs.Program.{Program, least, completed, finished, program, unless_fault}
 use Rattle.yayul.specs.Mended.{given_by, lacks_form, mended}
@@ -25,12 +25,13 @@ use Rattle.yayul.specs.Survey.{kinds_on, is_one_of, finding, taken_by, told_of, 
 use Rattle.yayul.specs.Survey.{word_kinds, said_kinds, told_line, told_lines, looked_at, told}
 use Rattle.yayul.specs.Words.{word_faults}
 use Rattle.yayul.specs.Inside.Answers.{lesser_kind, least_kind}
-use Rattle.yayul.specs.Language.{Language, BadBank, BadLabel, BadOperand, Bank, BankFull, CodeInErasable, Content, Ebank, Equals, Erase}
+use Rattle.yayul.specs.Language.{Language, BadLabel, BadOperand, Bank, BankFull, CodeInErasable, Content, Ebank, Equals, Erase}
 use Rattle.yayul.specs.Language.{Fault, FaultKind, Gives, Label, LongLine, Malformed, Missing, Named, NeedsExtend, NoMemory, NotAscii}
-use Rattle.yayul.specs.Language.{NotExtracode, Nothing, Operand, Operation, OutOfRange, PlaceTaken, Setloc, Term, TooManyLines}
-use Rattle.yayul.specs.Language.{TwiceDefined, Undefined, Unknown, UnknownOperator, UsedTooEarly, Value, WrongKindOfAddress}
+use Rattle.yayul.specs.Language.{NotExtracode, Nothing, Operand, Operation, PlaceTaken, Setloc, Term, TooManyLines}
+use Rattle.yayul.specs.Language.{TwiceDefined, Undefined, Unknown, UsedTooEarly, Value}
 use Rattle.yayul.specs.declared.doubt.Doubt.{Doubt}
 use Rattle.yayul.specs.declared.finding.Finding.{Finding}
+use Rattle.yayul.proofs.Asked.{asked_stays}
 use Rattle.yayul.proofs.LineRequests.{head_faults}
 use Rattle.yayul.proofs.LateFaults.{AreLate, IsLateIf, is_of_fields, statement_late, waiting_late}
 use Rattle.yayul.proofs.Least.{none_least}
@@ -170,18 +171,8 @@ kept_stand table line s label operation all none = by_operation operation none
     valued_same l (Ok value) = labelled l value
     valued_same l (Err kind) = refl
 
-    asked_same : (content : Content) (t : Layout) (place : Option (ℕ × ℕ))
-        → (option_map_or (λ p. asked t (record {
-          line = line;
-          bank = p.0;
-          offset = p.1;
-          content = content;
-          extracode = t.extracode;
-          eb
-              = t.eb;
-        })) place t).promised ≡ t.promised
-    asked_same content t None = refl
-    asked_same content t (Some p) = refl
+    asked_same : (content : Content) (t : Layout) → (asked_here line t content).promised ≡ t.promised
+    asked_same content t = asked_stays (λ (u : Layout). u.promised ≡ t.promised) line t content refl (λ r. refl)
 
     one_more : (name : List ℕ) → is_some (value_in table name) ≡ true → AllStand (s.promised ++ (name, Value.Num 0) ∷ []) table
     one_more name stands n e =
@@ -214,8 +205,7 @@ kept_stand table line s label operation all none = by_operation operation none
     by_operation (Ebank operand) e = all
     by_operation (Gives None) e = all
     by_operation (Gives (Some content)) e = same _
-        (asked_same content (defined s label (value_here s.location)) (word_place (defined s label (value_here s.location)).location)
-        ∙ labelled label (value_here s.location))
+        (asked_same content (defined s label (value_here s.location)) ∙ labelled label (value_here s.location))
 
 line_stand : (table : Table) (line : ℕ) (s : Layout) (text : List ℕ) → AllStand s.promised table
     → waiting_kind table s (statement_on s text).label (statement_on s text).operation ≡ None
@@ -241,44 +231,18 @@ lines_stand table (text ∷ texts) line s all none =
 -- where all is known, and no symbol is lost, nothing follows
 none_follows : (kind : FaultKind) → follows (doubt_here false false) kind ≡ false
 none_follows BadLabel = refl
-none_follows TwiceDefined = refl
-none_follows NotAscii = refl
-none_follows TooManyLines = refl
-none_follows UnknownOperator = refl
-none_follows BankFull = refl
-none_follows PlaceTaken = refl
-none_follows CodeInErasable = refl
-none_follows NeedsExtend = refl
-none_follows NotExtracode = refl
-none_follows BadOperand = refl
-none_follows Undefined = refl
-none_follows UsedTooEarly = refl
-none_follows BadBank = refl
-none_follows WrongKindOfAddress = refl
-none_follows OutOfRange = refl
-none_follows LongLine = refl
-none_follows NoMemory = refl
+none_follows kind = refl
 
 -- where a symbol may be lost nothing follows but that it is not defined
 fields_follow : (symbol : Bool) (kind : FaultKind) → is_of_fields kind ≡ true → follows (doubt_here false symbol) kind ≡ false
-fields_follow symbol BadLabel e = refl
-fields_follow symbol TwiceDefined e = refl
 fields_follow symbol NotAscii e = absurd (cc)
 fields_follow symbol TooManyLines e = absurd (cc)
-fields_follow symbol UnknownOperator e = refl
-fields_follow symbol BankFull e = refl
-fields_follow symbol PlaceTaken e = refl
-fields_follow symbol CodeInErasable e = refl
 fields_follow symbol NeedsExtend e = absurd (cc)
 fields_follow symbol NotExtracode e = absurd (cc)
-fields_follow symbol BadOperand e = refl
 fields_follow symbol Undefined e = absurd (cc)
-fields_follow symbol UsedTooEarly e = refl
-fields_follow symbol BadBank e = refl
-fields_follow symbol WrongKindOfAddress e = refl
-fields_follow symbol OutOfRange e = refl
 fields_follow symbol LongLine e = absurd (cc)
 fields_follow symbol NoMemory e = absurd (cc)
+fields_follow symbol kind e = refl
 
 -- ## Where no line has a fault of its own
 -- the faults of a faultless line are those of a name that waits and of its words

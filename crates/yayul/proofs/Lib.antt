@@ -1,12 +1,14 @@
 mod ByLength
 mod Codes
 mod Columns
+pub mod NumberColumn
 mod Fields
 mod Rows
 mod FlightRows
 mod ListingRows
 mod PlaceRows
 mod Least
+mod Asked
 mod LeastOfSet
 mod Labels
 mod LateFaults
@@ -25,6 +27,7 @@ mod Names
 mod NamedRows
 mod Nearest
 mod Apart
+mod Arguments
 mod Equalled
 mod NameOnce
 mod WordsWhileWaiting

@@ -48,17 +48,22 @@ pub none_stands : (b : Bool) (kind : FaultKind) (cs : List (Option FaultKind)) �
 none_stands true kind cs e = absurd (let bad : kind ∷ standing cs ≡ [] = e in cc)
 none_stands false kind cs e = (refl, e)
 
--- a faultless line that gives words has room for them, where none stands
-pub free_place : (line : ℕ) (s : Layout) (label : Label) (content : Content) → (gives line s label content).faults ≡ []
-    → (lacks_room (width content) s.location ≡ false) × (is_taken s (width content) ≡ false)
-free_place line s label content e =
+-- a faultless line that gives words has room for them, where none stands, in fixed memory
+pub room_for : (line : ℕ) (s : Layout) (label : Label) (content : Content) → (gives line s label content).faults ≡ []
+    → (lacks_room (width content) s.location ≡ false) × ((is_taken s (width content) ≡ false) × (is_erasable s.location ≡ false))
+room_for line s label content e =
     let last : List (Option FaultKind) = fault_if (is_erasable s.location) CodeInErasable ∷ [] in
     let taken : List (Option FaultKind) = fault_if (is_taken s (width content)) PlaceTaken ∷ last in
     let full : List (Option FaultKind) = fault_if (lacks_room (width content) s.location) BankFull ∷ taken in
     let a = none_stands (is_malformed label) BadLabel (fault_if (is_twice s label) TwiceDefined ∷ full) e in
     let b = none_stands (is_twice s label) TwiceDefined full a.1 in
     let c = none_stands (lacks_room (width content) s.location) BankFull taken b.1 in
-    (c.0, (none_stands (is_taken s (width content)) PlaceTaken last c.1).0)
+    let d = none_stands (is_taken s (width content)) PlaceTaken last c.1 in
+    (c.0, (d.0, (none_stands (is_erasable s.location) CodeInErasable [] d.1).0))
+
+pub free_place : (line : ℕ) (s : Layout) (label : Label) (content : Content) → (gives line s label content).faults ≡ []
+    → (lacks_room (width content) s.location ≡ false) × (is_taken s (width content) ≡ false)
+free_place line s label content e = let room = room_for line s label content e in (room.0, room.1.0)
 
 -- where the location has room for so many words, its bank has
 pub room_left : (l : Location) (count bank offset : ℕ) → word_place l ≡ Some (bank, offset) → lacks_room count l ≡ false

@@ -3,11 +3,10 @@ use Rattle.std.proofs.Common.{◌≡◌, ◌≢◌, ℕ, ◌+◌, Bool, true, fa
 use Rattle.std.proofs.Common.{Result, Ok, Err, refl, inl, inr, ap, sym, ◌∙◌, append_assoc, arith}
 use Rattle.std.proofs.lemmas.List.{map-append}
 use Rattle.std.specs.List.{list_all}
-use Rattle.std.specs.Option.{option_map_or}
 use Rattle.std.specs.Result.{result_unwrap_or}
 use Rattle.std.proofs.lemmas.Bool.{eq-eqb}
 use Rattle.yayul.specs.Flight.{measured, most_lines}
-use Rattle.yayul.specs.Layout.{LineEffect, and_then, defined, asked, value_here, word_place, statement_on, on_line, standing, fault_if}
+use Rattle.yayul.specs.Layout.{LineEffect, and_then, defined, value_here, statement_on, on_line, standing, fault_if}
 use Rattle.yayul.specs.Layout.{Layout, text_faults, statement_effect, line_faults, line_effect, layout_after, layout_faults}
 use Rattle.yayul.specs.Program.{least}
 use Rattle.yayul.specs.Listing.{Shown, shown}
@@ -15,13 +14,14 @@ use Rattle.yayul.specs.Inside.Representation.{shown_by_mark, lines_show}
 use Rattle.yayul.specs.Inside.Answers.{layout_of, with_requests, Tells, TellsOn, least_kind, LeadsOn, LineLeadsOn}
 use Rattle.yayul.specs.declared.faults.FaultKind.TheVariants.{NoMemory, NotAscii, LongLine, TooManyLines}
 use Rattle.yayul.specs.declared.faults.Fault.{Fault}
-use Rattle.yayul.specs.Language.{Bank, Content, Ebank, Equals, Erase, Gives, Label, Malformed, Missing, Named, Nothing, Operation, Setloc}
+use Rattle.yayul.specs.Language.{Bank, Ebank, Equals, Erase, Gives, Label, Malformed, Missing, Named, Nothing, Operation, Setloc}
 use Rattle.yayul.specs.Language.{Statement, Unknown, Value}
 use Rattle.agc_text.specs.Bytes.{line_length, is_text_byte}
 use Rattle.yayul.specs.declared.faults.FaultKind.{FaultKind}
 use Rattle.yayul.specs.declared.layout.Layout.{Layout as Held}
 use Rattle.yayul.specs.declared.layout.Placing.{Placing}
 use Rattle.yayul.specs.declared.mark.Mark.{Mark}
+use Rattle.yayul.proofs.Asked.{asked_stays}
 use Rattle.yayul.proofs.Equalled.{by_later, promise_language}
 use Rattle.yayul.proofs.Least.{told, StandFrom, StandFrom-append, StandFrom-later, StandFrom-on_line, least_here, none_least}
 use Rattle.yayul.proofs.LateFaults.{least-before_late, statement_late, text_early}
@@ -110,19 +110,6 @@ label_language s Missing value = refl
 label_language s Malformed value = refl
 label_language s (Named name) value = refl
 
-asked_language : (line : ℕ) (s : Layout) (content : Content) (place : Option (ℕ × ℕ))
-    → (option_map_or (λ p. asked s (record {
-      line = line;
-      bank = p.0;
-      offset = p.1;
-      content = content;
-      extracode = s.extracode;
-      eb
-          = s.eb;
-    })) place s).language ≡ s.language
-asked_language line s content None = refl
-asked_language line s content (Some p) = refl
-
 equals_language : (s : Layout) (label : Label) (value : Result Value FaultKind)
     → (result_unwrap_or (and_then (λ v. Ok (defined s label v)) value) s).language ≡ s.language
 equals_language s label (Ok v) = label_language s label v
@@ -141,8 +128,8 @@ statement_language line s label (Equals operand) =
 statement_language line s label (Ebank operand) = refl
 statement_language line s label (Gives None) = refl
 statement_language line s label (Gives (Some content)) =
-    asked_language line (defined s label (value_here s.location)) content (word_place (defined s label (value_here s.location)).location)
-    ∙ label_language s label (value_here s.location)
+    let same = label_language s label (value_here s.location) in
+    asked_stays (λ (t : Layout). t.language ≡ s.language) line (defined s label (value_here s.location)) content same (λ r. same)
 
 -- a line leaves the language as it is
 pub same_language : (line : ℕ) (s : Layout) (text : List ℕ) → (line_effect line s text).after.language ≡ s.language

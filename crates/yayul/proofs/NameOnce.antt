@@ -5,18 +5,18 @@ use Rattle.std.proofs.lemmas.Bool.{cases_Bool}
 use Rattle.std.proofs.lemmas.Cmp.{nat_list_eq_equiv}
 use Rattle.std.proofs.lemmas.List.Quantifiers.{all_pairs_push}
 use Rattle.std.specs.Prelude.{IfOk}
-use Rattle.std.specs.Option.{option_map_or}
 use Rattle.std.specs.Result.{result_err, result_unwrap_or}
 use Rattle.agc_text.specs.Lines.{lines}
 use Rattle.agc_text.specs.Tables.{same_name, value_in}
 use Rattle.yayul.specs.Later.{first_fault, with_values}
 use Rattle.yayul.specs.Layout.{LineEffect, valued, statement_on, Layout, and_then, value_here, defined, asked, asked_here, fault_if}
-use Rattle.yayul.specs.Layout.{standing, start, width, lacks_room, is_taken, is_malformed, is_missing, is_twice, is_erasable, word_place}
+use Rattle.yayul.specs.Layout.{standing, start, width, lacks_room, is_taken, is_malformed, is_missing, is_twice, is_erasable}
 use Rattle.yayul.specs.Layout.{erased_to, statement_effect, text_faults, line_effect, line_faults, layout_after, layout_faults}
 use Rattle.yayul.specs.Program.{Program, least, completed, finished, program, unless_fault}
 use Rattle.yayul.specs.Language.{BadLabel, BankFull, Bank, CodeInErasable, Content, Ebank, Equals, Erase, Fault, FaultKind, Gives, Label}
 use Rattle.yayul.specs.Language.{Language, Malformed, Missing, Named, Nothing, Operation, PlaceTaken, Setloc, TwiceDefined, Unknown, Value}
 use Rattle.yayul.specs.Laws.{NamesStandOnce, StandOnce}
+use Rattle.yayul.proofs.Asked.{asked_stays}
 use Rattle.yayul.proofs.LineRequests.{none_stands, no_others, head_faults}
 use Rattle.yayul.proofs.Equalled.{by_later, promise_symbols, settled_holds}
 use Rattle.yayul.proofs.TakenPlaces.{or-parts}
@@ -62,20 +62,7 @@ new_label s label others e =
 
 -- words asked for leave the symbols as they are
 asked_keeps : (line : ℕ) (s : Layout) (content : Content) → (asked_here line s content).symbols ≡ s.symbols
-asked_keeps line s content = by_place (word_place s.location)
-  where
-    by_place : (place : Option (ℕ × ℕ))
-        → (option_map_or (λ p. asked s (record {
-          line = line;
-          bank = p.0;
-          offset = p.1;
-          content = content;
-          extracode = s.extracode;
-          eb
-              = s.eb;
-        })) place s).symbols ≡ s.symbols
-    by_place None = refl
-    by_place (Some p) = refl
+asked_keeps line s content = asked_stays (λ (t : Layout). t.symbols ≡ s.symbols) line s content refl (λ r. refl)
 
 equals_once : (s : Layout) (label : Label) (value : Result Value FaultKind) → StandOnce s.symbols → is_twice s label ≡ false
     → StandOnce (result_unwrap_or (and_then (λ v. Ok (defined s label v)) value) s).symbols

@@ -1,13 +1,12 @@
 -- A symbol of which is told that no line defines it is the label of no line.
 use Rattle.std.proofs.Common.{◌≡◌, ℕ, zero, suc, ◌+◌, ◌-◌, ◌%◌, ◌<◌, ◌==◌, map, Bool, true, false, ◌&&◌, ◌||◌, not, cond, length, List, []}
 use Rattle.std.proofs.Common.{◌∷◌, ◌++◌, take, Option, Some, None, is_some, Result, Ok, Err, refl, ap, sym, subst, ◌∙◌, arith}
-use Rattle.std.specs.Prelude.{All, nat_le, nat_lt, slice_get, unwrap_or, ok_or, option_and_then}
+use Rattle.std.specs.Prelude.{nat_le, nat_lt, slice_get, unwrap_or, ok_or, option_and_then}
 use Rattle.std.specs.List.{list_any, list_all}
 use Rattle.std.specs.Option.{option_map_or}
 use Rattle.std.specs.Result.{result_err}
 use Rattle.std.proofs.lemmas.Bool.{and_parts, eq-eqb}
 use Rattle.std.proofs.lemmas.Cmp.{nat_list_eq_equiv}
-use Rattle.std.proofs.lemmas.List.Elements.{All-nil, All-append}
 use Rattle.std.proofs.lemmas.List.Folds.{list_any-append}
 use Rattle.std.proofs.lemmas.Option.{same_Some}
 use Rattle.agc_text.specs.Bytes.{is_text_byte, line_length}
@@ -16,15 +15,15 @@ use Rattle.words.specs.Numbers.{neg}
 use Rattle.yayul.specs.Flight.{measured, most_lines}
 use Rattle.yayul.specs.Operators.{bits_under, field_size}
 use Rattle.yayul.specs.Later.{Table, waiting_kind}
-use Rattle.yayul.specs.Layout.{LineEffect, Layout, and_then, asked, asked_here, defined, erasable_number, fault_if, fault_number}
+use Rattle.yayul.specs.Layout.{LineEffect, Layout, and_then, asked_here, defined, erasable_number, fault_if, fault_number}
 use Rattle.yayul.specs.Layout.{is_malformed, is_twice, location_at, moved_value, standing, statement_effect, statement_on, term_value}
-use Rattle.yayul.specs.Layout.{text_faults, value_here, value_of, valued, promised, with_promise, word_place}
+use Rattle.yayul.specs.Layout.{text_faults, value_here, value_of, valued, promised, with_promise}
 use Rattle.yayul.specs.Laws.{IsNoLabel, NamesNoLabel, UndefinedIsSure, symbol_in, symbol_of}
 use Rattle.yayul.specs.Mended.{lacks_form, lacks_operand}
 use Rattle.yayul.specs.Survey.{Survey, done_line, doubt, follows, form_kinds, is_among, is_bare, is_done, is_kept, is_of_label, is_one_of}
-use Rattle.yayul.specs.Survey.{finding, kept_label, kinds_on, known_after, label_passed, laid, layout_kinds, line_kinds, looked_at}
+use Rattle.yayul.specs.Survey.{finding, kept_label, known_after, label_passed, laid, layout_kinds, line_kinds, looked_at}
 use Rattle.yayul.specs.Survey.{names_one, noted, nowhere, operand_of, operation_on, passed_line, passed_lines, passed_over, place_of_words}
-use Rattle.yayul.specs.Survey.{rests_on_known, said_passed, settled_survey, some_stands, stands_in, taken_by, told, told_line, told_lines}
+use Rattle.yayul.specs.Survey.{rests_on_known, said_passed, settled_survey, some_stands, stands_in, taken_by, told}
 use Rattle.yayul.specs.Survey.{unmarked, vain_kind, waits_in_vain, with_known, word_kinds}
 use Rattle.yayul.specs.Words.{accepted, address_below, address_of, addressed_word, bank_word, channel_in, complete_address, content_words}
 use Rattle.yayul.specs.Words.{extracode_fault, extracode_of, far_address, field_of, fixed_offset, fixed_place, low_place}
@@ -35,11 +34,12 @@ use Rattle.yayul.specs.Language.{Named, No, NotAscii, Nothing, Num, Operand, Ope
 use Rattle.yayul.specs.Language.{TooManyLines, TwiceDefined, BadLabel, Undefined, Unknown, UnknownOperator, Value, WrongKindOfAddress, Yes}
 use Rattle.yayul.specs.declared.doubt.Known.{Known}
 use Rattle.yayul.specs.declared.finding.Finding.{Finding}
+use Rattle.yayul.proofs.Asked.{asked_stays}
 use Rattle.yayul.proofs.Equalled.{by_later, settled_holds}
 use Rattle.yayul.proofs.LateFaults.{AreLate, FailsLate, IsLateIf, choice_late, erasable_late, is_of_fields, location_late, moved_value_late}
 use Rattle.yayul.proofs.LateFaults.{ok_or_late, statement_late, then_late, waiting_late}
 use Rattle.yayul.proofs.LineRequests.{none_stands}
-use Rattle.yayul.proofs.Sure.{line_after, line_said, lines_after, next_at, not_false, told_all}
+use Rattle.yayul.proofs.Sure.{lines_told, line_said, not_false}
 use Rattle.yayul.proofs.TakenPlaces.{or-parts}
 
 -- ## Names in tables
@@ -135,20 +135,8 @@ module _ (name : List ℕ) where
   valued_keeps s label (Err kind) = same s
 
   asked_keeps : (line : ℕ) (s : Layout) (content : Content) → Keeps name s (asked_here line s content)
-  asked_keeps line s content = by_place (word_place s.location)
-    where
-      by_place : (place : Option (ℕ × ℕ)) → Keeps name s
-          (option_map_or (λ p. asked s (record {
-            line = line;
-            bank = p.0;
-            offset = p.1;
-            content = content;
-            extracode = s.extracode;
-            eb
-                = s.eb;
-          })) place s)
-      by_place None = same s
-      by_place (Some p) = record { symbols = λ is. is; promised = λ is. is }
+  asked_keeps line s content = asked_stays (Keeps name s) line s content (same s)
+      (λ r. record { symbols = λ is. is; promised = λ is. is })
 
   statement_keeps : (line : ℕ) (s : Layout) (label : Label) (operation : Operation)
       → Keeps name s (statement_effect line s label operation).after
@@ -243,12 +231,7 @@ module _ (name : List ℕ) (line : ℕ) (s : Layout) where
   own_kind kind e = standing_one kind (none_stands (is_twice s (Named name)) TwiceDefined (Some kind ∷ []) e).1
 
   asked_given : (content : Content) (t : Layout) → stands_in t.symbols name ≡ true → Given (asked_here line t content)
-  asked_given content t is = by_place (word_place t.location)
-    where
-      by_place : (place : Option (ℕ × ℕ)) → Given (option_map_or
-          (λ p. asked t (record { line = line; bank = p.0; offset = p.1; content = content; extracode = t.extracode; eb = t.eb })) place t)
-      by_place None = by_symbol t is
-      by_place (Some p) = ap (λ b. b || stands_in t.promised name) is
+  asked_given content t is = asked_stays Given line t content (by_symbol t is) (λ r. ap (λ b. b || stands_in t.promised name) is)
 
   valued_given : (value : Result Value FaultKind) → (valued s (Named name) value).faults ≡ [] → Given (valued s (Named name) value).after
   valued_given (Ok value) e = by_symbol (defined s (Named name) value) (stands_last s.symbols name value)
@@ -665,20 +648,8 @@ module _ (language : Language) (source : List ℕ) where
         undefined is) in
         undefined_named parts.0 (not_false (follows (doubt whole s text operation) Undefined) parts.1)
 
-  lines_no_label : (texts done : List (List ℕ)) (line : ℕ) → looked_at language source ≡ done ++ texts → line ≡ length done + 1
-      → All IsSo (told_lines whole line (passed_lines 1 (unmarked language) done) texts)
-  lines_no_label [] done line all at = All-nil IsSo
-  lines_no_label (text ∷ texts) done line all at =
-      let s : Survey = passed_lines 1 (unmarked language) done in
-      All-append IsSo (told_line whole line s text) (told_lines whole (line + 1) (passed_line line s text) texts)
-      (told_all IsSo (finding s.layout.language line text (taken_by s.layout (operation_on s.layout text)))
-      (λ kind. is_one_of (line_kinds whole line s text) kind && not (follows (doubt whole s text (operation_on s.layout text)) kind))
-      (kinds_on s.layout.language text)
-      (each_named done texts text line all at))
-      (subst (λ (t : Survey). All IsSo (told_lines whole (line + 1) t texts)) (line_after language source done texts text line all at)
-      (lines_no_label texts (done ++ text ∷ []) (line + 1) (lines_after language source done texts text line all at)
-      (next_at language source done texts text line all at)))
-
 pub undefined_is_sure : (language : Language) (source : List ℕ) → UndefinedIsSure language source
 unfolding told
-undefined_is_sure language source = lines_no_label language source (looked_at language source) [] 1 refl refl
+undefined_is_sure language source =
+    lines_told language source (whole language source) (IsSo language source) (each_named language source) (looked_at language source) [] 1
+    refl refl

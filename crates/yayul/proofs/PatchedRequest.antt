@@ -13,8 +13,8 @@ use Rattle.rope.proofs.PlaceLaws.{with_word-again, with_word-swap, with_words-ap
 use Rattle.yayul.specs.Layout.{Request, width, stands_at}
 use Rattle.yayul.specs.Words.{request_words, request_faults}
 use Rattle.yayul.specs.Program.{placed, placed_from, least}
-use Rattle.yayul.specs.Language.{Addressed, BankWord, Complemented, Constant, Constants, Content, FarAddress, FarComplement, Fault}
-use Rattle.yayul.specs.Language.{FaultKind, Plain, Value}
+use Rattle.yayul.specs.Language.{Constant, Content, Fault}
+use Rattle.yayul.specs.Language.{FaultKind, Value}
 use Rattle.yayul.specs.Inside.Answers.{least_kind}
 use Rattle.yayul.specs.Inside.Sound.{AreApart, AreFrom, AreRising, AreWithin}
 use Rattle.yayul.specs.Inside.Waiting.{is_waiting, standing_words, standing_rope, standing_faults, lesser_on, Holds}
@@ -284,13 +284,7 @@ module _ (table : List (List ℕ × Value)) where
 
   some_word : (content : Content) → 1 ≤ width content
   some_word (Constant number) = omega arith
-  some_word (Plain i) = omega arith
-  some_word (Addressed i operand) = omega arith
-  some_word (FarAddress operand) = omega arith
-  some_word (Constants pair) = omega arith
-  some_word (Complemented i operand) = omega arith
-  some_word (FarComplement operand) = omega arith
-  some_word (BankWord operand) = omega arith
+  some_word content = omega arith
 
   stands-middle : (front back : List Request) (r : Request) (bank offset : ℕ) → stands_at bank offset r ≡ true
       → list_any (stands_at bank offset) (front ++ r ∷ back) ≡ true

@@ -187,17 +187,10 @@ module _ (P : ℕ → Type 0) (s : Layout) (all : All (λ (r : Request). P r.lin
   at_second false = tt
 
   taken_all : (operation : Operation) → IfSome (taken_by s operation) P
-  taken_all Nothing = tt
-  taken_all Unknown = tt
-  taken_all (Setloc operand) = tt
-  taken_all (Bank taken number) = tt
-  taken_all (Erase count) = tt
-  taken_all (Equals operand) = tt
-  taken_all (Ebank operand) = tt
-  taken_all (Gives None) = tt
   taken_all (Gives (Some content)) = either (line_at s s.location)
       (if nat_lt 1 (width content) then line_at s (after_words 1 s.location) else None) (at_location s.location)
       (at_second (nat_lt 1 (width content)))
+  taken_all _ = tt
 
 named_all : (P : ℕ → Type 0) (taken : Option ℕ) (kind : FaultKind) → IfSome taken P → IfSome (named_line taken kind) P
 named_all P taken PlaceTaken is = is
@@ -328,3 +321,26 @@ findings_are_sure language source =
     lines_sure language source (settled_survey (passed_lines 1 (unmarked language) (looked_at language source))) (looked_at language source)
     [] 1 refl refl
     (All-nil (λ (r : Request). (r.line < 1) × ((before_line language source r.line).known.location ≡ true)))
+
+-- what holds of each kind that a line tells holds of all that is told of the lines
+pub lines_told : (language : Language) (source : List ℕ) (whole : Survey) (P : Finding → Type 0)
+    → ((done texts : List (List ℕ)) (text : List ℕ) (line : ℕ) → looked_at language source ≡ done ++ text ∷ texts → line ≡ length done + 1
+    → (kind : FaultKind)
+    → (is_one_of (line_kinds whole line (passed_lines 1 (unmarked language) done) text) kind
+    && not (follows (doubt whole (passed_lines 1 (unmarked language) done) text
+    (operation_on (passed_lines 1 (unmarked language) done).layout text)) kind)) ≡ true
+    → P (finding (passed_lines 1 (unmarked language) done).layout.language line text
+    (taken_by (passed_lines 1 (unmarked language) done).layout (operation_on (passed_lines 1 (unmarked language) done).layout text)) kind))
+    → (texts done : List (List ℕ)) (line : ℕ) → looked_at language source ≡ done ++ texts → line ≡ length done + 1
+    → All P (told_lines whole line (passed_lines 1 (unmarked language) done) texts)
+lines_told language source whole P each [] done line all at = All-nil P
+lines_told language source whole P each (text ∷ texts) done line all at =
+    let s : Survey = passed_lines 1 (unmarked language) done in
+    All-append P (told_line whole line s text) (told_lines whole (line + 1) (passed_line line s text) texts)
+    (told_all P (finding s.layout.language line text (taken_by s.layout (operation_on s.layout text)))
+    (λ kind. is_one_of (line_kinds whole line s text) kind && not (follows (doubt whole s text (operation_on s.layout text)) kind))
+    (kinds_on s.layout.language text)
+    (each done texts text line all at))
+    (subst (λ (t : Survey). All P (told_lines whole (line + 1) t texts)) (line_after language source done texts text line all at)
+    (lines_told language source whole P each texts (done ++ text ∷ []) (line + 1)
+    (lines_after language source done texts text line all at) (next_at language source done texts text line all at)))

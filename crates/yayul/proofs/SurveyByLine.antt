@@ -7,8 +7,8 @@ use Rattle.std.specs.List.{list_all}
 use Rattle.agc_text.specs.Bytes.{is_text_byte}
 use Rattle.yayul.specs.declared.layout.Placing.{Placing}
 use Rattle.yayul.specs.Layout.{statement_on, Layout, standing, statement_effect, text_faults}
-use Rattle.yayul.specs.Language.{Bank, Ebank, Equals, Erase, FaultKind, Gives, Label, Malformed, Missing, Named, Nothing, Operation, Setloc}
-use Rattle.yayul.specs.Language.{Unknown, Value}
+use Rattle.yayul.specs.Language.{Equals, FaultKind, Gives, Label, Named, Operation}
+use Rattle.yayul.specs.Language.{Value}
 use Rattle.yayul.specs.Later.{settled, waiting_kind}
 use Rattle.yayul.specs.Mended.{lacks_form, lacks_operand}
 use Rattle.yayul.specs.Survey.{settled_survey, Survey, noted, nowhere, operation_on, counts_from_here, is_bare, is_done, is_kept}
@@ -41,29 +41,13 @@ on_ok (Err e) f p = tt
 -- the requests before a line do not count for its word faults
 bare_words : (table : List (List ℕ × Value)) (s : Layout) (formless : Bool) (operation : Operation)
     → word_kinds table (with_requests [] s) formless operation ≡ word_kinds table s formless operation
-bare_words table s formless Nothing = refl
-bare_words table s formless Unknown = refl
-bare_words table s formless (Setloc operand) = refl
-bare_words table s formless (Bank taken number) = refl
-bare_words table s formless (Erase count) = refl
-bare_words table s formless (Equals operand) = refl
-bare_words table s formless (Ebank operand) = refl
-bare_words table s formless (Gives None) = refl
 bare_words table s formless (Gives (Some content)) = refl
+bare_words table s formless _ = refl
 
 bare_waiting : (table : List (List ℕ × Value)) (s : Layout) (label : Label) (operation : Operation)
     → waiting_kind table (with_requests [] s) label operation ≡ waiting_kind table s label operation
-bare_waiting table s label Nothing = refl
-bare_waiting table s label Unknown = refl
-bare_waiting table s label (Setloc operand) = refl
-bare_waiting table s label (Bank taken number) = refl
-bare_waiting table s label (Erase count) = refl
-bare_waiting table s label (Equals None) = refl
-bare_waiting table s Missing (Equals (Some operand)) = refl
-bare_waiting table s Malformed (Equals (Some operand)) = refl
 bare_waiting table s (Named name) (Equals (Some operand)) = refl
-bare_waiting table s label (Ebank operand) = refl
-bare_waiting table s label (Gives content) = refl
+bare_waiting table s _ _ = refl
 
 -- ## What is told of a line
 -- what a line says where a layout is held, it says where one stands that agrees with it

@@ -3,7 +3,6 @@ use Rattle.std.proofs.Common.{◌≡◌, ℕ, suc, ◌+◌, ◌==◌, map, Bool,
 use Rattle.std.proofs.Common.{Some, None, is_some, Result, Ok, Err, refl, ap, sym, subst, ◌∙◌, arith, append-nil}
 use Rattle.std.specs.Prelude.{All, ok_or, if◌then◌else◌}
 use Rattle.std.specs.List.{list_all, list_any}
-use Rattle.std.specs.Option.{option_map_or}
 use Rattle.std.specs.Result.{result_err, result_unwrap_or}
 use Rattle.std.proofs.lemmas.Bool.{and_parts}
 use Rattle.std.proofs.lemmas.Bool.Decides.{nat_tests}
@@ -13,10 +12,10 @@ use Rattle.std.proofs.lemmas.Option.{same_Some}
 use Rattle.agc_text.specs.Tables.{same_name, value_in}
 use Rattle.words.specs.Numbers.{neg}
 use Rattle.yayul.specs.Later.{Table, awaited, four_rounds, kept, promise_kind, round, settled, waiting_kind, with_value}
-use Rattle.yayul.specs.Layout.{LineEffect, Layout, Promise, and_then, asked, asked_here, defined, early_value, erasable_place, fault_if}
-use Rattle.yayul.specs.Layout.{fault_number, is_erasable, is_later, is_malformed, is_missing, is_taken, is_twice, lacks_room, location_at}
+use Rattle.yayul.specs.Layout.{LineEffect, Layout, Promise, and_then, asked_here, defined, early_value, erasable_place, fault_if}
+use Rattle.yayul.specs.Layout.{fault_number, is_erasable, is_later, is_taken, lacks_room, location_at}
 use Rattle.yayul.specs.Layout.{moved_value, promised, standing, statement_effect, statement_on, term_value, text_faults, value_here}
-use Rattle.yayul.specs.Layout.{value_of, valued, width, with_promise, word_place}
+use Rattle.yayul.specs.Layout.{value_of, valued, width, with_promise}
 use Rattle.yayul.specs.Laws.{IsGiven, ValueIsSure, is_of_value, said_on, symbol_in, symbol_of}
 use Rattle.yayul.specs.Mended.{lacks_form, lacks_operand}
 use Rattle.yayul.specs.Survey.{Survey, doubt, finding, follows, form_kinds, is_bare, is_done, is_kept, is_of_label, is_one_of, kept_label}
@@ -25,14 +24,16 @@ use Rattle.yayul.specs.Survey.{operation_on, passed_line, passed_lines, passed_o
 use Rattle.yayul.specs.Survey.{settled_survey, some_stands, stands_in, taken_by, told, told_line, told_lines, unmarked, vain_kind}
 use Rattle.yayul.specs.Survey.{waits_in_vain, with_known, word_kinds}
 use Rattle.yayul.specs.Words.{addressed_word, bank_word, content_words, extracode_fault, extracode_of, far_address, fixed_place, low_place}
-use Rattle.yayul.specs.Language.{Addressed, BadLabel, Bank, BankFull, BankWord, CodeInErasable, Complemented, Constant, Constants, Content}
+use Rattle.yayul.specs.Language.{Addressed, Bank, BankFull, BankWord, CodeInErasable, Complemented, Constant, Constants, Content}
 use Rattle.yayul.specs.Language.{Ebank, Equals, Erase, FarAddress, FarComplement, FaultKind, Fixed, Gives, Label, Language, Malformed}
-use Rattle.yayul.specs.Language.{Missing, Named, Nothing, Num, Operand, Operation, PlaceTaken, Plain, Setloc, Term, TwiceDefined, Undefined}
+use Rattle.yayul.specs.Language.{Missing, Named, Nothing, Num, Operand, Operation, PlaceTaken, Plain, Setloc, Term, Undefined}
 use Rattle.yayul.specs.Language.{Unknown, UsedTooEarly, Value}
 use Rattle.yayul.specs.declared.doubt.Known.{Known}
 use Rattle.yayul.specs.declared.finding.Finding.{Finding}
 use Rattle.yayul.proofs.Equalled.{by_later}
-use Rattle.yayul.proofs.KindsAs.{AreAs, FailsAs, IsAsIf, both_as, err_as, extracode_as, form_as, if_as, stands_as, text_as}
+use Rattle.yayul.proofs.Asked.{asked_stays}
+use Rattle.yayul.proofs.KindsAs.{AreAs, bare_as, five_as, label_as, valued_as, FailsAs, IsAsIf, err_as, extracode_as, form_as, if_as}
+use Rattle.yayul.proofs.KindsAs.{stands_as, text_as}
 use Rattle.yayul.proofs.NoLabel.{no_kinds}
 use Rattle.yayul.proofs.Sure.{line_after, line_before, line_said, line_text, lines_after, next_at, not_false, told_all}
 
@@ -70,20 +71,7 @@ module _ (P : List ℕ → Type 0) where
   valued_given s label (Err kind) new given = given
 
   asked_given : (line : ℕ) (s : Layout) (content : Content) → AreGiven P s → AreGiven P (asked_here line s content)
-  asked_given line s content given = by_place (word_place s.location)
-    where
-      by_place : (place : Option (ℕ × ℕ)) → AreGiven P
-          (option_map_or (λ p. asked s (record {
-            line = line;
-            bank = p.0;
-            offset = p.1;
-            content = content;
-            extracode = s.extracode;
-            eb
-                = s.eb;
-          })) place s)
-      by_place None = given
-      by_place (Some p) = given
+  asked_given line s content given = asked_stays (AreGiven P) line s content given (λ r. given)
 
   statement_given : (line : ℕ) (s : Layout) (label : Label) (operation : Operation) → IsNew P label → AreGiven P s
       → AreGiven P (statement_effect line s label operation).after
@@ -253,24 +241,6 @@ value_missing : (missing : FaultKind) (table : Table) (here : Value) (operand : 
 value_missing missing table here operand name is none = ap (and_then (moved_value operand.shift))
     (term_missing missing table here operand.term name is none)
 
-label_plain : (s : Layout) (label : Label) (cs : List (Option FaultKind)) → AreAs IsPlain (standing cs)
-    → AreAs IsPlain (standing (fault_if (is_malformed label) BadLabel ∷ fault_if (is_twice s label) TwiceDefined ∷ cs))
-label_plain s label cs are =
-    if_as IsPlain (is_malformed label) BadLabel (fault_if (is_twice s label) TwiceDefined ∷ cs) refl
-    (if_as IsPlain (is_twice s label) TwiceDefined cs refl are)
-
-bare_plain : {A : Type 0} (label : Label) (r : Result A FaultKind) → FailsAs IsPlain r
-    → AreAs IsPlain (standing (fault_if (not (is_missing label)) BadLabel ∷ result_err r ∷ []))
-bare_plain label r fails = if_as IsPlain (not (is_missing label)) BadLabel (result_err r ∷ []) refl
-    (stands_as IsPlain (result_err r) [] (err_as IsPlain r fails) tt)
-
-valued_plain : (s : Layout) (label : Label) (value : Result Value FaultKind) → FailsAs IsPlain value
-    → AreAs IsPlain (valued s label value).faults
-valued_plain s label value fails =
-    if_as IsPlain (is_missing label || is_malformed label) BadLabel (fault_if (is_twice s label) TwiceDefined ∷ result_err value ∷ []) refl
-    (if_as IsPlain (is_twice s label) TwiceDefined (result_err value ∷ []) refl
-    (stands_as IsPlain (result_err value) [] (err_as IsPlain value fails) tt))
-
 -- the operand of a line is this symbol, which a table lacks
 module _ (name : List ℕ) where
   nothing_named : {A : Type 0} → None ≡ Some name → A
@@ -285,7 +255,7 @@ module _ (name : List ℕ) where
   statement_plain line s label (Setloc (Some operand)) is none =
       let missing : early_value s (Some operand) ≡ Err UsedTooEarly = value_missing UsedTooEarly s.symbols (value_here s.location) operand
       name is none in
-      bare_plain label (and_then location_at (early_value s (Some operand)))
+      bare_as IsPlain refl label (and_then location_at (early_value s (Some operand)))
       (subst (λ (v : Result Value FaultKind). FailsAs IsPlain (and_then location_at v)) (sym missing) refl)
   statement_plain line s label (Bank taken number) is none = nothing_named is
   statement_plain line s label (Erase count) is none = nothing_named is
@@ -294,20 +264,20 @@ module _ (name : List ℕ) where
     where
       by_test : (b : Bool) → AreAs IsPlain (if b then promised line s label operand else valued s label
           (early_value s (Some operand))).faults
-      by_test true = valued_plain s label (Ok (Num 0)) tt
+      by_test true = valued_as IsPlain refl refl s label (Ok (Num 0)) tt
       by_test false =
           let missing : early_value s (Some operand) ≡ Err UsedTooEarly = value_missing UsedTooEarly s.symbols (value_here s.location)
           operand name is none in
-          valued_plain s label (early_value s (Some operand)) (subst (λ (v : Result Value FaultKind). FailsAs IsPlain v) (sym missing) refl)
+          valued_as IsPlain refl refl s label (early_value s (Some operand)) (subst (λ (v : Result Value FaultKind). FailsAs IsPlain v) (sym missing) refl)
   statement_plain line s label (Ebank None) is none = nothing_named is
   statement_plain line s label (Ebank (Some operand)) is none =
       let missing : early_value s (Some operand) ≡ Err UsedTooEarly = value_missing UsedTooEarly s.symbols (value_here s.location) operand
       name is none in
-      bare_plain label (and_then erasable_place (early_value s (Some operand)))
+      bare_as IsPlain refl label (and_then erasable_place (early_value s (Some operand)))
       (subst (λ (v : Result Value FaultKind). FailsAs IsPlain (and_then erasable_place v)) (sym missing) refl)
   statement_plain line s label (Gives None) is none = nothing_named is
   statement_plain line s label (Gives (Some content)) is none =
-      label_plain s label (fault_if (lacks_room (width content) s.location) BankFull ∷ fault_if (is_taken s (width content)) PlaceTaken
+      label_as IsPlain refl refl s label (fault_if (lacks_room (width content) s.location) BankFull ∷ fault_if (is_taken s (width content)) PlaceTaken
       ∷ fault_if (is_erasable s.location) CodeInErasable ∷ [])
       (if_as IsPlain (lacks_room (width content) s.location) BankFull
       (fault_if (is_taken s (width content)) PlaceTaken ∷ fault_if (is_erasable s.location) CodeInErasable ∷ []) refl
@@ -316,12 +286,6 @@ module _ (name : List ℕ) where
 
   waiting_plain : (table : Table) (s : Layout) (label : Label) (operation : Operation) → symbol_of operation ≡ Some name
       → stands_in table name ≡ false → IsAsIf IsPlain (waiting_kind table s label operation)
-  waiting_plain table s label Nothing is none = tt
-  waiting_plain table s label Unknown is none = tt
-  waiting_plain table s label (Setloc operand) is none = tt
-  waiting_plain table s label (Bank taken number) is none = tt
-  waiting_plain table s label (Erase count) is none = tt
-  waiting_plain table s label (Equals None) is none = tt
   waiting_plain table s Missing (Equals (Some operand)) is none = tt
   waiting_plain table s Malformed (Equals (Some operand)) is none = tt
   waiting_plain table s (Named other) (Equals (Some operand)) is none = by_test (is_later s operand)
@@ -331,8 +295,7 @@ module _ (name : List ℕ) where
           subst (λ (v : Result Value FaultKind). IsAsIf IsPlain (result_err (and_then (λ w. ok_or (value_in table other) UsedTooEarly) v)))
           (sym (value_missing UsedTooEarly table (Fixed 2 0) operand name is none)) refl
       by_test false = tt
-  waiting_plain table s label (Ebank operand) is none = tt
-  waiting_plain table s label (Gives content) is none = tt
+  waiting_plain table s label _ is none = tt
 
   vain_plain : (whole s : Survey) (label : Label) (operation : Operation) → symbol_of operation ≡ Some name
       → stands_in whole.layout.symbols name ≡ false → IsAsIf IsPlain (vain_kind whole s label operation)
@@ -371,14 +334,6 @@ module _ (name : List ℕ) where
 
   word_plain : (table : Table) (s : Layout) (formless : Bool) (operation : Operation) → symbol_of operation ≡ Some name
       → stands_in table name ≡ false → AreAs IsPlain (word_kinds table s formless operation)
-  word_plain table s formless Nothing is none = tt
-  word_plain table s formless Unknown is none = tt
-  word_plain table s formless (Setloc operand) is none = tt
-  word_plain table s formless (Bank taken number) is none = tt
-  word_plain table s formless (Erase count) is none = tt
-  word_plain table s formless (Equals operand) is none = tt
-  word_plain table s formless (Ebank operand) is none = tt
-  word_plain table s formless (Gives None) is none = tt
   word_plain table s true (Gives (Some content)) is none = extracode_as IsPlain (extracode_of content) s.extracode refl refl
   word_plain table s false (Gives (Some content)) is none =
       let here : Value = Fixed (place_of_words s.location).0 (place_of_words s.location).1 in
@@ -386,6 +341,7 @@ module _ (name : List ℕ) where
       stands_as IsPlain (result_err words) (extracode_fault (extracode_of content) s.extracode ∷ [])
       (err_as IsPlain words (content_plain table here s.extracode s.eb content is none))
       (extracode_as IsPlain (extracode_of content) s.extracode refl refl)
+  word_plain table s formless _ is none = tt
 
   line_plain : (whole : Survey) (line : ℕ) (s : Survey) (text : List ℕ) → symbol_of (operation_on s.layout text) ≡ Some name
       → stands_in s.layout.symbols name ≡ false → stands_in whole.layout.symbols name ≡ false → AreAs IsPlain (line_kinds whole line s text)
@@ -393,16 +349,11 @@ module _ (name : List ℕ) where
       let label : Label = (statement_on s.layout text).label in
       let operation : Operation = operation_on s.layout text in
       let formless : Bool = lacks_form (statement_on s.layout text).operation in
-      let of_text : List FaultKind = text_faults s.layout.language line text in
-      let of_layout : List FaultKind = layout_kinds line s.layout label operation in
-      let of_vain : List FaultKind = standing (vain_kind whole s label operation ∷ []) in
-      both_as IsPlain (of_text ++ form_kinds formless ++ of_layout ++ of_vain) (word_kinds whole.layout.symbols s.layout formless operation)
-      (both_as IsPlain (of_text ++ form_kinds formless ++ of_layout) of_vain
-      (both_as IsPlain (of_text ++ form_kinds formless) of_layout
-      (both_as IsPlain of_text (form_kinds formless) (text_as IsPlain s.layout.language line text refl refl refl)
-      (form_as IsPlain formless refl))
-      (statement_plain line s.layout label operation is none))
-      (stands_as IsPlain (vain_kind whole s label operation) [] (vain_plain whole s label operation is whole_none) tt))
+      five_as IsPlain (text_faults s.layout.language line text) (form_kinds formless) (layout_kinds line s.layout label operation)
+      (standing (vain_kind whole s label operation ∷ [])) (word_kinds whole.layout.symbols s.layout formless operation)
+      (text_as IsPlain s.layout.language line text refl refl refl) (form_as IsPlain formless refl)
+      (statement_plain line s.layout label operation is none)
+      (stands_as IsPlain (vain_kind whole s label operation) [] (vain_plain whole s label operation is whole_none) tt)
       (word_plain whole.layout.symbols s.layout formless operation is whole_none)
 
 -- ## The lines of a source

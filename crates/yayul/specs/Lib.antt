@@ -15,6 +15,7 @@ pub mod Readings
 pub mod Told
 pub mod Listing
 pub mod ListingObjects
+pub mod PlaceMargin
 pub mod PlaceRows
 pub mod Named
 pub mod Laws

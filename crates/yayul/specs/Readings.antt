@@ -1,12 +1,16 @@
--- A line of a source, read once: its fields, and what its operator is.
-use Rattle.std.specs.Prelude.{ℕ, ◌+◌, ◌-◌, Bool, List, length, nat_lt, Option, option_and_then}
+-- A line of a source, read once: its fields, what its operator is, and what its operand stands for.
+use Rattle.std.specs.Prelude.{ℕ, ◌+◌, ◌-◌, Bool, List, [], ◌∷◌, length, nat_lt, Option, None, Some, option_and_then, if◌then◌else◌}
 use Rattle.std.specs.Option.{option_map}
+use Rattle.std.specs.Result.{result_ok}
 use Rattle.agc_text.specs.Fields.{Piece, fields, label_of, others_of}
 use Rattle.agc_text.specs.Views.{piece}
-use Rattle.yayul.specs.Flight.{uncounted}
-use Rattle.yayul.specs.Language.{Flight, Language, Standard}
+use Rattle.symbols.specs.Values.{SymbolTable}
+use Rattle.yayul.specs.Flight.{address_in, uncounted}
+use Rattle.yayul.specs.Forms.{operand_in}
+use Rattle.yayul.specs.Language.{Fixed, Flight, Language, Operand, Standard, Undefined, Value}
+use Rattle.yayul.specs.Layout.{value_of}
 use Rattle.yayul.specs.Roles.{role_of}
-use Rattle.yayul.specs.Survey.{field_at}
+use Rattle.yayul.specs.Survey.{field_at, is_here}
 use Rattle.yayul.specs.declared.reading.Reading.{Reading}
 use Rattle.yayul.specs.declared.role.Role.{Role}
 
@@ -69,3 +73,27 @@ parts_in r = record {
   more = r.more;
   role = r.role;
 }
+
+-- ## What an operand stands for
+-- the text of a field, where it stands, and those after it
+abbrev pub texts_from : Option Piece → List (List ℕ) → List (List ℕ)
+texts_from None rest = []
+texts_from (Some p) rest = p.text ∷ rest
+
+-- the fields after the operator, with an empty one for all that follow the offset
+abbrev pub arguments : Parts → List (List ℕ)
+arguments parts = texts_from parts.operand (texts_from parts.offset (if parts.more then [] ∷ [] else []))
+
+-- the operand of a line, which in a flight program may be a number that names a place
+abbrev pub operand_for : Language → Parts → Option Operand
+operand_for Standard parts = operand_in (arguments parts)
+operand_for Flight parts = address_in (arguments parts)
+
+-- the value of an operand by some symbols: none where its symbol has none, where it leads past its bounds, and where it counts from its
+-- line
+abbrev pub value_by : SymbolTable → Operand → Option Value
+value_by table operand = if is_here operand.term then None else result_ok (value_of Undefined table (Fixed 2 0) operand)
+
+-- what the operand of a line stands for by the symbols of a source, where it has a value
+abbrev pub operand_value : Language → SymbolTable → Parts → Option Value
+operand_value language table parts = option_and_then (value_by table) (operand_for language parts)

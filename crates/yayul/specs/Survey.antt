@@ -443,3 +443,9 @@ looked_at language source = take (most_lines language + 1) (lines source)
 unfoldable pub told : Language → List ℕ → List Finding
 told language source = told_lines (settled_survey (passed_lines 1 (unmarked language) (looked_at language source))) 1 (unmarked language)
     (looked_at language source)
+
+-- ## Symbols
+-- the symbols of a source and their values, those that waited among them: of lines without a fault, and of places that are known
+unfoldable pub known_symbols : Language → List ℕ → List (List ℕ × Value)
+known_symbols language source =
+    (settled_survey (passed_lines 1 (unmarked language) (looked_at language source))).layout.symbols

@@ -185,7 +185,8 @@ impl Operand {
         }
     }
 
-    fn is_here(&self) -> bool
+    // Whether it counts from its own line.
+    pub(crate) fn is_here(&self) -> bool
         ensures { result ≡ is_here self.now.term }
     {
         matches!(self.term, Term::Here)

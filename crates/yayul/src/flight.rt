@@ -136,7 +136,8 @@ fn signed_name_of(text: &[u8]) -> Option<Name>
     }
 }
 
-fn is_signed_name(text: &[u8]) -> bool
+// Whether a text is a name that begins with a sign.
+pub fn is_signed_name(text: &[u8]) -> bool
     ensures { result ≡ is_signed_name text.now }
 {
     begins_with_sign(text)
@@ -297,7 +298,7 @@ fn standard_operation_of(operator: Operator, line: &Line<'_>) -> Operation
 }
 
 // The operand, which may be a number that names a place.
-fn address_in(line: &Line<'_>) -> Option<Operand>
+pub(crate) fn address_in(line: &Line<'_>) -> Option<Operand>
     ensures { result ≡ address_in (arguments_of line.now) }
 {
     match flight_operand_in(line) {

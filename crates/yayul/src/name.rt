@@ -18,7 +18,8 @@ pub(crate) fn name_of(text: &[u8]) -> Option<Name>
     }
 }
 
-fn is_name(text: &[u8]) -> bool
+// Whether a text has the form of a name.
+pub fn is_name(text: &[u8]) -> bool
     ensures { result ≡ is_name text.now }
 {
     !text.is_empty()

@@ -46,7 +46,7 @@ pub fn is_digits(text: &[u8]) -> bool
 }
 
 // Whether a text begins with `+` or `-`.
-pub(crate) fn begins_with_sign(text: &[u8]) -> bool
+pub fn begins_with_sign(text: &[u8]) -> bool
     ensures { result ≡ first_is is_sign text.now }
 {
     match text.first() {
@@ -55,7 +55,8 @@ pub(crate) fn begins_with_sign(text: &[u8]) -> bool
     }
 }
 
-fn number_value(text: &[u8]) -> Option<Number>
+// The value of a number: digits in octal, or digits and a `D` in decimal.
+pub fn number_value(text: &[u8]) -> Option<Number>
     ensures { result ≡ option_map sized (number_value text.now) }
 {
     if is_marked_decimal(text) {

@@ -6,12 +6,17 @@ ghost use Rattle.agc_text.specs.Views.{piece, end_of};
 ghost use Rattle.yayul.specs.Flight.{uncounted};
 ghost use Rattle.yayul.specs.Language.{Flight, Standard};
 ghost use Rattle.yayul.specs.Readings.{later_field, later_parts, parts_for, parts_in, parts_of, role_in};
+ghost use Rattle.yayul.specs.Readings.{operand_for, operand_value, value_by};
 
-use crate::flight::uncounted;
-use crate::language::Language;
+use crate::faults::FaultKind;
+use crate::flight::{address_in, uncounted};
+use crate::language::{Language, Location, Operand};
 use crate::operator::role_of;
 use crate::role::Role;
+use crate::statement::operand_in;
+use crate::values::value_of;
 use agc_text::{Field, Line};
+use symbols::{FixedBank, Symbols, Value};
 
 /// A line of a source: its fields, and what its operator is.
 #[derive(Clone, Copy)]
@@ -28,6 +33,45 @@ pub struct Reading<'a> {
     pub more: bool,
     /// What the operator is, where the language has it.
     pub role: Option<Role>,
+}
+
+impl Reading<'_> {
+    /// What the operand stands for by the symbols of a source. It has no value where its symbol has none, where it
+    /// leads past its bounds, and where it counts from its line.
+    pub fn operand_value(&self, language: Language, symbols: &Symbols) -> Option<Value>
+        ensures { result ≡ operand_value language symbols.now (parts_in self.now) }
+    {
+        let operand = self.operand_for(language)?;
+        value_by(symbols, &operand)
+    }
+
+    // The operand, which in a flight program may be a number that names a place.
+    fn operand_for(&self, language: Language) -> Option<Operand>
+        ensures { result ≡ operand_for language (parts_in self.now) }
+    {
+        let line = Line {
+            label: self.label,
+            operator: self.operator,
+            operand: self.operand,
+            offset: self.offset,
+            more: self.more,
+        };
+        match language {
+            Language::Standard => operand_in(&line),
+            Language::Flight => address_in(&line),
+        }
+    }
+}
+
+// The value of an operand that does not count from its line.
+fn value_by(symbols: &Symbols, operand: &Operand) -> Option<Value>
+    ensures { result ≡ value_by symbols.now operand.now }
+{
+    if operand.is_here() {
+        return None;
+    }
+    let nowhere = Location::Fixed(FixedBank::two(), 0);
+    value_of(FaultKind::Undefined, symbols, nowhere, operand).ok()
 }
 
 /// A line of a language: in that of flight programs its fields are those after a count.

@@ -13,7 +13,7 @@ ghost use Rattle.yayul.specs.Survey.{Survey as Surveyed, unmarked, noted, operat
 ghost use Rattle.yayul.specs.Survey.{names_one, waits_in_vain, label_lost, label_passed, kept_label, laid, passed_over};
 ghost use Rattle.yayul.specs.Survey.{done_line, with_known, some_stands, passed_line, passed_lines, settled_survey};
 ghost use Rattle.yayul.specs.Survey.{follows, named_line, finding, taken_by, told_of, told_line, told_lines, looked_at};
-ghost use Rattle.yayul.specs.Survey.{told};
+ghost use Rattle.yayul.specs.Survey.{known_symbols, told};
 ghost use Rattle.yayul.specs.Inside.Surveys.{Surveys, has_number, number_in, kinds_of, stands_beyond, doubt_of};
 ghost use Rattle.yayul.specs.Inside.Surveys.{vain_of};
 
@@ -300,15 +300,29 @@ fn is_of_label(condition: Option<FaultKind>) -> bool
     )
 }
 
-/// All faults of a source that do not follow from others, in the order of lines and columns.
-#[tactic(auto, unfolding(crate::specs::Survey::told))]
-pub fn findings(alloc: Global, language: Language, source: &[u8]) -> Result<Vec<Finding>, Fault>
-    ensures told { IfOk result (λ findings. findings.items ≡ told language source.now) }
+/// What is found in a source, whether it has faults or not.
+#[derive(Drop)]
+pub struct SourceFindings {
+    /// All faults that do not follow from others, in the order of lines and columns.
+    pub faults: Vec<Finding>,
+    /// The symbols of lines without a fault, with their values.
+    pub symbols: Symbols,
+}
+
+/// All faults of a source that do not follow from others, and the values of its symbols.
+#[tactic(auto, unfolding(crate::specs::Survey::told, crate::specs::Survey::known_symbols))]
+pub fn findings(alloc: Global, language: Language, source: &[u8]) -> Result<SourceFindings, Fault>
+    ensures told { IfOk result (λ found. found.faults.items ≡ told language source.now) }
+    ensures symbols { IfOk result (λ found. found.symbols ≡ known_symbols language source.now) }
     ensures err { IfErr result (λ fault. fault ≡ no_memory) }
 {
     let mut whole = passed_lines(alloc, language, source)?;
     whole.settle()?;
-    told_lines(alloc, language, source, &whole)
+    let faults = told_lines(alloc, language, source, &whole)?;
+    Ok(SourceFindings {
+        faults,
+        symbols: whole.layout.symbols,
+    })
 }
 
 // What stands after the lines of a source.

@@ -1,5 +1,6 @@
 -- What private functions find of a routine.
-use Rattle.std.specs.Prelude.{ℕ, ◌≡◌, Bool, false, not, ◌&&◌, None, ◌||◌, List, [], ◌∷◌, ◌++◌, All, if◌then◌else◌, is_some}
+use Rattle.std.specs.Prelude.{ℕ, ◌≡◌, Bool, false, not, ◌&&◌, None, ◌||◌, List, [], ◌∷◌, ◌++◌, All, if◌then◌else◌, is_some, true}
+use Rattle.std.specs.Prelude.{Option, Some}
 use Rattle.std.specs.List.{list_all, list_any, position}
 use Rattle.rope.specs.Places.{Words}
 use Rattle.bound.specs.declared.charge.Limit.{Limit}
@@ -73,6 +74,27 @@ abbrev pub IsExplored : Words → List ℕ → Site → Explored → Type 0
 IsExplored words kept r explored.Whole = Unit {0}
 IsExplored words kept r (explored.Calls p t) = CallsAt words kept r p t
 IsExplored words kept r (explored.Stops p why) = (limits : List Limit) → Fails words kept limits r p why
+
+-- a word leads on: it tells where, and where it calls a routine the bound of this is known; and so does each word of a routine
+abbrev pub leads_on : List Row → Turn → Bool
+leads_on known (Through t l) = is_some (number_at known t)
+leads_on known (Stop why) = false
+leads_on known _ = true
+
+abbrev pub AllLeadOn : Words → List ℕ → List Row → Site → Type 0
+AllLeadOn words kept known r = (p : Site) → Has words kept r p → leads_on known (turn words kept p) ≡ true
+
+-- what is found at a word that does not
+abbrev pub stop_at : Site → List Row → Turn → Option Explored
+stop_at p known (Through t l) = if is_some (number_at known t) then None else Some (explored.Calls p t)
+stop_at p known (Stop why) = Some (explored.Stops p why)
+stop_at p known _ = None
+
+-- where all words of a routine are found each leads on
+abbrev pub IsFoundWhole : Words → List ℕ → List Row → Site → Explored → Type 0
+IsFoundWhole words kept known r explored.Whole = AllLeadOn words kept known r
+IsFoundWhole words kept known r (explored.Calls p t) = Unit {0}
+IsFoundWhole words kept known r (explored.Stops p why) = Unit {0}
 
 -- a routine that is found to be called is none of those whose bounds are known
 abbrev pub IsNew : List Row → Explored → Type 0

@@ -1,7 +1,7 @@
 use Rattle.std.proofs.Common.{◌∙◌, ◌+◌, ap, arith}
 use Rattle.space.specs.declared.place.Linear.TheVariants.{Erasable}
 use Rattle.trace.specs.TraceLines.{symbol_at}
-use Rattle.access.proofs.Nearest.{nearest_passed}
+use Rattle.names.proofs.Nearest.{nearest_passed}
 use Rattle.access.proofs.cell.push_near.Goals as goal
 
 pub loop-distance-preserved : goal.loop-distance-preserved

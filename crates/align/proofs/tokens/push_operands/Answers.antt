@@ -7,18 +7,12 @@ use Rattle.align.proofs.Steps.{operand_next}
 use Rattle.align.proofs.tokens.push_operands.Goals as goal
 
 pub loop-number-init : goal.loop-number-init
-loop-number-init c = record {
-  extra = sym (extracode_first c.args.rope.now c.args.bank);
-  items = sym (append-nil _);
-}
+loop-number-init c = record { extra = sym (extracode_first c.args.rope.now c.args.bank); items = sym (append-nil _) }
 
 pub loop-number-preserved : goal.loop-number-preserved
 loop-number-preserved c = record {
-  extra =
-      extracode_next c.args.rope.now c.args.bank c.loop-number.number c.offset_of.result c.word-word.result c.loop-number.extra _
-      c.offset_of.ensures c.loop-number.invariant.extra c.word-word.ensures c.extracode_after-extra.ensures;
-  items =
-      items_more (operand_at c.args.rope.now c.args.bank) c.loop-number.number _ _ _ c.loop-number.invariant.items
+  extra = extracode_next _ _ _ _ _ _ _ c.offset_of.ensures c.loop-number.invariant.extra c.word-word.ensures c.extracode_after-extra.ensures;
+  items = items_more (operand_at c.args.rope.now c.args.bank) c.loop-number.number _ _ _ c.loop-number.invariant.items
       (rw (operand_next c.args.rope.now c.args.bank c.loop-number.number c.word-word.result c.loop-number.extra c.of_erasable.result
       (rw c.offset_of.ensures at c.word-word.ensures) c.loop-number.invariant.extra (rw c.named_address.ensures at c.of_erasable.ensures))
       at c.in_ok-push.ensures.items);

@@ -17,8 +17,8 @@ returns-in-Some-clause-attempt c =
 
 pub returns-then-not-all_hold-clause-attempt : goal.returns-then-not-all_hold-clause-attempt
 returns-then-not-all_hold-clause-attempt c =
-    many_cycles c.args.rope.now c.args.kept.now (map (λ charge. charge.limit) c.args.charges.now) c.args.routine.now
+    many_cycles c.args.rope.now c.args.kept.now (map (λ charge. charge.limit) c.args.charges.now) c.args.routine.now c.requires.whole
 
 pub returns-in_default-clause-attempt : goal.returns-in_default-clause-attempt
 returns-in_default-clause-attempt c =
-    many_cycles c.args.rope.now c.args.kept.now (map (λ charge. charge.limit) c.args.charges.now) c.args.routine.now
+    many_cycles c.args.rope.now c.args.kept.now (map (λ charge. charge.limit) c.args.charges.now) c.args.routine.now c.requires.whole

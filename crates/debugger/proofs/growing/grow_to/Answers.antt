@@ -36,7 +36,7 @@ returns-in-Err-StepLimit-clause-growth g c = λ _.
     let both = told.limit.0 (ap Err c.in-Err-StepLimit.field-0-is) in
     let same = told_nothing _ c.advance_by.new.stepper told.err.1 in
     rw (told.err.0, c.in-Err-StepLimit.out-in-Err-1-own.given.1 same.0, same.1)
-    (grows_limited g.K.Keeper.may_refuse s.scenario (g.B.Breaks.breakpoints c.args.breaks.now) c.args.more s.n
+    (grows_limited g.K.Keeper.may_refuse c.args.quiet s.scenario (g.B.Breaks.breakpoints c.args.breaks.now) c.args.more s.n
     (g.W.Write.written c.args.out.now) both.0 both.1)
 
 pub returns-in-Err-NoMemory-clause-growth : goal.returns-in-Err-NoMemory-clause-growth
@@ -46,5 +46,5 @@ returns-in-Err-NoMemory-clause-growth g c = λ _.
     let both = told.memory (ap Err c.in-Err-NoMemory.field-0-is) in
     let same = told_nothing _ c.advance_by.new.stepper told.err.1 in
     rw (told.err.0, c.in-Err-NoMemory.out-in-Err-1-own.given.1 same.0, same.1)
-    (grows_refused g.K.Keeper.may_refuse s.scenario (g.B.Breaks.breakpoints c.args.breaks.now) c.args.more s.n
+    (grows_refused g.K.Keeper.may_refuse c.args.quiet s.scenario (g.B.Breaks.breakpoints c.args.breaks.now) c.args.more s.n
     (g.W.Write.written c.args.out.now) both.0 both.1 both.2)

@@ -17,7 +17,7 @@ commands-init g c = record {
         taken-none _ _ _,
         rw c.new-desk.ensures.session (omega arith),
         λ wt. rw
-            (c.new-desk.ensures.session, c.requires, c.new-desk.ensures.position, c.new-desk.ensures.breakpoints) (answered-none _ _),
+            (c.new-desk.ensures.session, c.requires, c.new-desk.ensures.position, c.new-desk.ensures.breakpoints, c.new-desk.ensures.quiet) (answered-none _ _),
       );
 }
 

@@ -1,7 +1,7 @@
 use Rattle.std.proofs.Common.{◌∙◌, ◌+◌, ap, arith}
 use Rattle.trace.specs.TraceLines.{symbol_at}
 use Rattle.names.specs.NamedLines.{places_before}
-use Rattle.debugger.proofs.Standings.{nearest_passed}
+use Rattle.names.proofs.Nearest.{nearest_passed}
 use Rattle.debugger.proofs.standing.push_nearest.Goals as goal
 
 pub loop-distance-preserved : goal.loop-distance-preserved

@@ -1,5 +1,6 @@
 use Rattle.std.proofs.Common.{◌∙◌, arith, refl, sym}
-use Rattle.differ.proofs.Steps.{few_cycles, fits_after, run_zero, state_more}
+use Rattle.cpu.proofs.Turns.{few_cycles, fits_after, state_more}
+use Rattle.differ.proofs.Steps.{run_zero}
 use Rattle.differ.proofs.Writers.{none_wrote, wrote_more}
 use Rattle.differ.proofs.causes.last_writer.Goals as goal
 
@@ -13,12 +14,10 @@ loop-done-init c = record {
 }
 
 pub step_on-requires-clause-cycles : goal.step_on-requires-clause-cycles
-step_on-requires-clause-cycles c = few_cycles c.args.processor.now.scenario c.loop-done.done _ c.loop-done.invariant.machine
-    (omega (arith, c.loop-done-test.true, c.requires.few))
+step_on-requires-clause-cycles c = few_cycles _ _ _ c.loop-done.invariant.machine (omega (arith, c.loop-done-test.true, c.requires.few))
 
 pub step_on-requires-clause-fits : goal.step_on-requires-clause-fits
-step_on-requires-clause-fits c = fits_after c.args.processor.now.scenario _ c.loop-done.done _ c.loop-done.invariant.scenario
-    c.loop-done.invariant.machine
+step_on-requires-clause-fits c = fits_after _ _ _ _ c.loop-done.invariant.scenario c.loop-done.invariant.machine
 
 pub loop-done-preserved : goal.loop-done-preserved
 loop-done-preserved c =

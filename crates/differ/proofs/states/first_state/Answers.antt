@@ -1,7 +1,8 @@
-use Rattle.std.proofs.Common.{◌≡◌, ◌+◌, ◌-◌, ◌∙◌, None, refl, sym, ap, arith}
+use Rattle.std.proofs.Common.{◌-◌, ◌∙◌, refl, sym, ap, arith}
 use Rattle.differ.proofs.Kept.{none_at_start}
 use Rattle.differ.proofs.Parting.{apart_end, apart_here, apart_on, apart_start, none_after, step_told}
-use Rattle.differ.proofs.Steps.{few_cycles, fits_after, run_zero, state_more}
+use Rattle.cpu.proofs.Turns.{few_cycles, fits_after, state_more}
+use Rattle.differ.proofs.Steps.{run_zero}
 use Rattle.differ.proofs.states.first_state.Goals as goal
 
 pub loop-done-init : goal.loop-done-init
@@ -17,20 +18,17 @@ loop-done-init c = record {
 }
 
 pub step_both-requires-clause-cycles : goal.step_both-requires-clause-cycles
-step_both-requires-clause-cycles c = few_cycles c.args.one.now.scenario c.loop-done.done _ c.loop-done.invariant.here
-    (omega (arith, c.loop-done-test.true, c.requires.few))
+step_both-requires-clause-cycles c = few_cycles _ _ _ c.loop-done.invariant.here (omega (arith, c.loop-done-test.true, c.requires.few))
 
 pub step_both-requires-clause-other_cycles : goal.step_both-requires-clause-other_cycles
-step_both-requires-clause-other_cycles c = few_cycles c.args.other.now.scenario c.loop-done.done _ c.loop-done.invariant.there
+step_both-requires-clause-other_cycles c = few_cycles _ _ _ c.loop-done.invariant.there
     (omega (arith, c.loop-done-test.true, c.requires.few))
 
 pub step_both-requires-clause-fits : goal.step_both-requires-clause-fits
-step_both-requires-clause-fits c = fits_after c.args.one.now.scenario _ c.loop-done.done _ c.loop-done.invariant.scenario
-    c.loop-done.invariant.here
+step_both-requires-clause-fits c = fits_after _ _ _ _ c.loop-done.invariant.scenario c.loop-done.invariant.here
 
 pub step_both-requires-clause-other_fits : goal.step_both-requires-clause-other_fits
-step_both-requires-clause-other_fits c = fits_after c.args.other.now.scenario _ c.loop-done.done _ c.loop-done.invariant.other_scenario
-    c.loop-done.invariant.there
+step_both-requires-clause-other_fits c = fits_after _ _ _ _ c.loop-done.invariant.other_scenario c.loop-done.invariant.there
 
 pub returns-in-Some-clause-apart : goal.returns-in-Some-clause-apart
 returns-in-Some-clause-apart c =

@@ -1,4 +1,4 @@
-use Rattle.differ.proofs.Steps.{fits_after}
+use Rattle.cpu.proofs.Turns.{fits_after}
 use Rattle.differ.proofs.text.machine_after.Goals as goal
 
 pub returns-clause-fits : goal.returns-clause-fits

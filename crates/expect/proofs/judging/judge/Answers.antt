@@ -1,7 +1,8 @@
 use Rattle.std.proofs.Common.{◌≡◌, ◌∙◌, refl, sym, ap, arith}
 use Rattle.cpu.specs.Run.{run}
 use Rattle.cpu.proofs.RunLaws.{run-zero}
-use Rattle.expect.proofs.Watching.{few_cycles, few_watches, fits_after, put_back, state_more, watches_end, watches_more}
+use Rattle.cpu.proofs.Turns.{few_cycles, fits_after, state_more}
+use Rattle.expect.proofs.Watching.{few_watches, put_back, watches_end, watches_more}
 use Rattle.expect.proofs.judging.judge.Goals as goal
 
 pub loop-done-init : goal.loop-done-init
@@ -14,12 +15,10 @@ loop-done-init c = record {
 }
 
 pub step_and_note-requires-clause-cycles : goal.step_and_note-requires-clause-cycles
-step_and_note-requires-clause-cycles c = few_cycles c.args.processor.now.scenario c.loop-done.done _ c.loop-done.invariant.state
-    (omega (arith, c.loop-done-test.true, c.requires.few))
+step_and_note-requires-clause-cycles c = few_cycles _ _ _ c.loop-done.invariant.state (omega (arith, c.loop-done-test.true, c.requires.few))
 
 pub step_and_note-requires-clause-fits : goal.step_and_note-requires-clause-fits
-step_and_note-requires-clause-fits c = fits_after c.args.processor.now.scenario _ c.loop-done.done _ c.loop-done.invariant.scenario
-    c.loop-done.invariant.state
+step_and_note-requires-clause-fits c = fits_after _ _ _ _ c.loop-done.invariant.scenario c.loop-done.invariant.state
 
 pub step_and_note-requires-clause-few : goal.step_and_note-requires-clause-few
 step_and_note-requires-clause-few c =

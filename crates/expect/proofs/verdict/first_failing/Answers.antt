@@ -1,25 +1,22 @@
-use Rattle.std.proofs.Common.{◌≡◌, ◌∙◌, ◌+◌, ◌<◌, ◌∷◌, drop, length, sym, ap, arith}
-use Rattle.std.proofs.lemmas.List.{drop_all, drop_more}
+use Rattle.std.proofs.Common.{◌∙◌, ◌+◌, drop, sym, ap, arith}
+use Rattle.std.proofs.lemmas.List.{drop_all}
+use Rattle.words.proofs.Writing.{from_one}
 use Rattle.expect.specs.Verdicts.{first_failing}
 use Rattle.expect.proofs.Steps.{at_failed, past_failed}
 use Rattle.expect.proofs.verdict.first_failing.Goals as goal
 
 pub returns-then-is_some : goal.returns-then-is_some
 returns-then-is_some c =
-    let within : c.loop-watch.watch-index < length c.args.watches.now = omega arith in
     let more = drop (c.loop-watch.watch-index + 1) c.args.watches.now in
-    let split : drop c.loop-watch.watch-index c.args.watches.now ≡ c.watch-item.result ∷ more =
-    drop_more c.args.watches.now c.loop-watch.watch-index c.watch-item.result within ∙ ap (λ w. w ∷ more) (sym c.watch-item.is) in
+    let split = from_one c.args.watches.now c.loop-watch.watch-index c.watch-item.result (omega arith) c.watch-item.is in
     at_failed c.args.test c.watch-item.result more c.failed_of-failed.result c.failed_of-failed.ensures
     (sym c.is_some.ensures ∙ c.if-is_some.true)
     ∙ sym (c.loop-watch.invariant ∙ ap (first_failing c.args.test) split)
 
 pub loop-watch-preserved : goal.loop-watch-preserved
 loop-watch-preserved c =
-    let within : c.loop-watch.watch-index < length c.args.watches.now = omega arith in
     let more = drop (c.loop-watch.watch-index + 1) c.args.watches.now in
-    let split : drop c.loop-watch.watch-index c.args.watches.now ≡ c.watch-item.result ∷ more =
-    drop_more c.args.watches.now c.loop-watch.watch-index c.watch-item.result within ∙ ap (λ w. w ∷ more) (sym c.watch-item.is) in
+    let split = from_one c.args.watches.now c.loop-watch.watch-index c.watch-item.result (omega arith) c.watch-item.is in
     c.loop-watch.invariant ∙ ap (first_failing c.args.test) split
     ∙ past_failed c.args.test c.watch-item.result more c.failed_of-failed.result c.failed_of-failed.ensures
     (sym c.is_some.ensures ∙ c.if-is_some.false)

@@ -1,11 +1,7 @@
-use Rattle.std.proofs.Common.{ℕ, List, ◌++◌, ◌∙◌, ap, append_assoc}
 use Rattle.std.specs.Prelude.{codes, decimal}
+use Rattle.expect.proofs.Steps.{pushed_three}
 use Rattle.expect.proofs.verdict.push_errors.Goals as goal
 
 pub returns-clause-items : goal.returns-clause-items
-returns-clause-items c =
-    c.push_all-2.ensures.items
-    ∙ ap (λ (t : List ℕ). t ++ codes ", warnings ") (c.push_decimal.ensures.items
-    ∙ ap (λ (t : List ℕ). t ++ decimal c.args.errors) c.push_all.ensures.items)
-    ∙ append_assoc (c.args.text.now.items ++ codes "check: errors ") (decimal c.args.errors) (codes ", warnings ")
-    ∙ append_assoc c.args.text.now.items (codes "check: errors ") (decimal c.args.errors ++ codes ", warnings ")
+returns-clause-items c = pushed_three c.args.text.now.items (codes "check: errors ") (decimal c.args.errors) (codes ", warnings ") _ _ _
+    c.push_all.ensures.items c.push_decimal.ensures.items c.push_all-2.ensures.items

@@ -1,7 +1,7 @@
 use Rattle.std.proofs.Common.{◌∙◌, refl, ap}
 use Rattle.std.proofs.lemmas.Result.{err_from_is_err_and}
 use Rattle.expect.specs.Verdicts.{name_text}
-use Rattle.expect.proofs.Writing.{so_far_breaks, so_far_ends, so_far_more, so_far_start}
+use Rattle.words.proofs.Writing.{so_far_breaks, so_far_ends, so_far_more, so_far_start}
 use Rattle.expect.proofs.verdict.write_name.Goals as goal
 
 pub loop-field-init : goal.loop-field-init

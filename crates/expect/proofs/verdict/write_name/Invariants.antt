@@ -1,7 +1,7 @@
 use Rattle.std.proofs.Common.{◌≡◌, true, length}
 use Rattle.agc_text.specs.Fields.{runs, texts}
 use Rattle.expect.specs.Verdicts.{name_text}
-use Rattle.expect.proofs.Writing.{SoFar}
+use Rattle.words.proofs.Writing.{SoFar}
 use Rattle.expect.proofs.verdict.write_name.Given as goal
 
 abbrev pub invariant-loop-field : goal.invariant-loop-field

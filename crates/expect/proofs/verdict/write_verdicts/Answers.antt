@@ -3,7 +3,7 @@ use Rattle.std.proofs.lemmas.Result.{err_from_is_err_and}
 use Rattle.expect.specs.Facts.{facts_of}
 use Rattle.expect.specs.Verdicts.{verdicts}
 use Rattle.expect.proofs.Steps.{at_verdict, past_line}
-use Rattle.expect.proofs.Writing.{so_far_breaks, so_far_ends, so_far_more, so_far_same, so_far_start}
+use Rattle.words.proofs.Writing.{so_far_breaks, so_far_ends, so_far_more, so_far_same, so_far_start}
 use Rattle.expect.proofs.verdict.write_verdicts.Goals as goal
 
 pub loop-statement-init : goal.loop-statement-init

@@ -3,7 +3,7 @@ use Rattle.agc_text.specs.Lines.{lines}
 use Rattle.expect.specs.Statements.{statements}
 use Rattle.expect.specs.Facts.{facts_of}
 use Rattle.expect.specs.Verdicts.{verdicts}
-use Rattle.expect.proofs.Writing.{SoFar}
+use Rattle.words.proofs.Writing.{SoFar}
 use Rattle.expect.proofs.verdict.write_verdicts.Given as goal
 
 abbrev pub invariant-loop-statement : goal.invariant-loop-statement

@@ -1,6 +1,7 @@
-use Rattle.std.proofs.Common.{◌≡◌, ◌∙◌, ◌+◌, true, false, refl, sym, arith}
+use Rattle.std.proofs.Common.{◌∙◌, true, false, refl, sym, arith}
 use Rattle.cpu.proofs.RunLaws.{run-zero}
-use Rattle.holes.proofs.HoleTurns.{few_cycles, fits_after, found_at, none_first, none_found, none_more, state_more}
+use Rattle.cpu.proofs.Turns.{few_cycles, fits_after, state_more}
+use Rattle.holes.proofs.HoleTurns.{found_at, none_first, none_found, none_more}
 use Rattle.holes.proofs.run_to_hole.first_hole.Goals as goal
 
 pub loop-done-init : goal.loop-done-init

@@ -1,7 +1,8 @@
-use Rattle.std.proofs.Common.{◌≡◌, ◌∙◌, ◌+◌, true, false, refl, sym, arith}
+use Rattle.std.proofs.Common.{◌≡◌, ◌∙◌, true, false, refl, sym, arith}
 use Rattle.cpu.proofs.RunLaws.{run-zero}
-use Rattle.idle.proofs.Turns.{checkpoint_more, few_cycles, few_step, fits_after, idle_at, idles_is, never_idle, none_first, none_more}
-use Rattle.idle.proofs.Turns.{none_put, puts_more, state_more}
+use Rattle.cpu.proofs.Turns.{few_cycles, fits_after, state_more}
+use Rattle.idle.proofs.Turns.{checkpoint_more, few_step, idle_at, idles_is, none_first, none_more}
+use Rattle.idle.proofs.Turns.{none_put, puts_more}
 use Rattle.idle.proofs.until.steps_until_idle.Goals as goal
 
 pub loop-done-init : goal.loop-done-init
@@ -16,12 +17,11 @@ loop-done-init c = record {
 }
 
 pub step_and_count-outputs-requires-clause-cycles : goal.step_and_count-outputs-requires-clause-cycles
-step_and_count-outputs-requires-clause-cycles c = few_cycles c.args.processor.now.scenario c.loop-done.done _ c.loop-done.invariant.state
+step_and_count-outputs-requires-clause-cycles c = few_cycles _ _ _ c.loop-done.invariant.state
     (omega (arith, c.loop-done-test.true, c.requires))
 
 pub step_and_count-outputs-requires-clause-fits : goal.step_and_count-outputs-requires-clause-fits
-step_and_count-outputs-requires-clause-fits c =
-    fits_after c.args.processor.now.scenario _ c.loop-done.done _ c.loop-done.invariant.scenario c.loop-done.invariant.state
+step_and_count-outputs-requires-clause-fits c = fits_after _ _ _ _ c.loop-done.invariant.scenario c.loop-done.invariant.state
 
 pub returns-then-is_again-clause-steps : goal.returns-then-is_again-clause-steps
 returns-then-is_again-clause-steps c =

@@ -6,18 +6,12 @@ use Rattle.names.specs.Uses.{bank_mentions, mention_at}
 use Rattle.names.proofs.mention.push_bank.Goals as goal
 
 pub loop-number-init : goal.loop-number-init
-loop-number-init c = record {
-  extra = sym (extracode_first c.args.rope.now c.args.bank);
-  items = sym (append-nil _);
-}
+loop-number-init c = record { extra = sym (extracode_first c.args.rope.now c.args.bank); items = sym (append-nil _) }
 
 pub loop-number-preserved : goal.loop-number-preserved
 loop-number-preserved c = record {
-  extra =
-      extracode_next c.args.rope.now c.args.bank c.loop-number.number c.offset_of-offset.result c.word.result c.loop-number.extra _
-      c.offset_of-offset.ensures c.loop-number.invariant.extra c.word.ensures c.extracode_after-extra.ensures;
-  items =
-      items_more (mention_at c.args.rope.now c.args.bank) c.loop-number.number _ _ _ c.loop-number.invariant.items
+  extra = extracode_next _ _ _ _ _ _ _ c.offset_of-offset.ensures c.loop-number.invariant.extra c.word.ensures c.extracode_after-extra.ensures;
+  items = items_more (mention_at c.args.rope.now c.args.bank) c.loop-number.number _ _ _ c.loop-number.invariant.items
       (rw c.offset_of-offset.ensures at c.in_ok-push_mention.ensures);
 }
 

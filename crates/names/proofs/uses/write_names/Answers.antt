@@ -1,14 +1,14 @@
 use Rattle.std.proofs.Common.{◌∙◌, sym}
 use Rattle.std.proofs.lemmas.Result.{err_from_is_err_and}
-use Rattle.xref.proofs.Parts.{left_broken, left_less}
+use Rattle.words.proofs.Writing.{so_far_breaks, so_far_more}
 use Rattle.names.specs.Uses.{symbol_rows}
-use Rattle.names.proofs.UseSteps.{texts_from_entry}
+use Rattle.words.proofs.Writing.{texts_from_entry}
 use Rattle.names.proofs.uses.write_names.Goals as goal
 
 pub returns-in_err-write_name-clause-written : goal.returns-in_err-write_name-clause-written
 returns-in_err-write_name-clause-written g c = λ told.
     let p = err_from_is_err_and c.from_residual.result c.from_residual.ensures.1 in
-    rw p.1 (left_broken _ _ _ _ _ _ _ (c.loop-index.invariant.written told)
+    rw p.1 (so_far_breaks _ _ _ _ _ _ _ (c.loop-index.invariant.written told)
     (texts_from_entry (symbol_rows c.args.mentions.now) c.args.names.now c.loop-index.index (c.in-Some.symbol.0.now, c.in-Some.symbol.1)
     (sym c.in-Some.ensures.value))
     (rw c.place_of.ensures at (c.in_err-write_name.ensures.written told)))
@@ -16,7 +16,7 @@ returns-in_err-write_name-clause-written g c = λ told.
 pub loop-index-preserved : goal.loop-index-preserved
 loop-index-preserved g c = record {
   written = λ told.
-      left_less _ _ _ _ _ _ _ (c.loop-index.invariant.written told)
+      so_far_more _ _ _ _ _ _ _ (c.loop-index.invariant.written told)
       (texts_from_entry (symbol_rows c.args.mentions.now) c.args.names.now c.loop-index.index (c.in-Some.symbol.0.now, c.in-Some.symbol.1)
       (sym c.in-Some.ensures.value))
       (rw c.place_of.ensures at (c.in_ok-write_name.ensures.written told));

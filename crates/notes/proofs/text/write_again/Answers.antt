@@ -3,7 +3,7 @@ use Rattle.std.proofs.lemmas.Result.{err_from_is_err_and}
 use Rattle.words.proofs.Texts.{append-nothing}
 use Rattle.audit.proofs.PartTexts.{begins_parts, front_ends, writes_more}
 use Rattle.cpu.proofs.RunLaws.{run-zero}
-use Rattle.cover.proofs.Counting.{few_cycles, fits_after, state_more}
+use Rattle.cpu.proofs.Turns.{few_cycles, fits_after, state_more}
 use Rattle.notes.specs.Counted.{Left}
 use Rattle.notes.specs.RunNotes.{step_text}
 use Rattle.notes.proofs.Counting.{left_next, left_start, text_is, texts_up_to_last}
@@ -25,12 +25,10 @@ loop-done-init g c = record {
 }
 
 pub write_step-requires-clause-cycles : goal.write_step-requires-clause-cycles
-write_step-requires-clause-cycles g c = few_cycles c.args.processor.now.scenario c.loop-done.done _ c.loop-done.invariant.state
-    (omega (arith, c.loop-done.invariant.few))
+write_step-requires-clause-cycles g c = few_cycles _ _ _ c.loop-done.invariant.state (omega (arith, c.loop-done.invariant.few))
 
 pub write_step-requires-clause-fits : goal.write_step-requires-clause-fits
-write_step-requires-clause-fits g c = fits_after c.args.processor.now.scenario _ c.loop-done.done _ c.loop-done.invariant.scenario
-    c.loop-done.invariant.state
+write_step-requires-clause-fits g c = fits_after _ _ _ _ c.loop-done.invariant.scenario c.loop-done.invariant.state
 
 pub returns-in_err-write_step-clause-written : goal.returns-in_err-write_step-clause-written
 returns-in_err-write_step-clause-written g c = λ told.

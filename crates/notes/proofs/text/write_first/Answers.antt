@@ -1,21 +1,18 @@
-use Rattle.std.proofs.Common.{◌≡◌, ◌∙◌, ◌+◌, ◌-◌, sym, ap, arith, subst}
+use Rattle.std.proofs.Common.{◌≡◌, ◌∙◌, ◌+◌, ◌-◌, ap, arith, subst}
 use Rattle.cpu.specs.NextStep.{next_step}
 use Rattle.cpu.specs.Run.{run}
 use Rattle.cpu.specs.State.{Scenario, State}
 use Rattle.cover.specs.Tallies.{IsAccount, account_number}
-use Rattle.cover.proofs.Counting.{few_cycles, fits_after, state_more}
-use Rattle.notes.specs.declared.kind.Kind.{Kind}
+use Rattle.cpu.proofs.Turns.{few_cycles, fits_after, state_more}
 use Rattle.notes.specs.Counted.{counts_of, first_of, taken, told_listed, told_of}
 use Rattle.notes.specs.RunNotes.{here, text_after, where_of}
 use Rattle.notes.proofs.text.write_first.Goals as goal
 
 pub write_told-requires-clause-cycles : goal.write_told-requires-clause-cycles
-write_told-requires-clause-cycles g c = few_cycles c.args.processor.now.scenario (c.args.first.now.number - 1) _ c.run_to.ensures.stands
-    (omega (arith, c.requires.few, c.requires.order))
+write_told-requires-clause-cycles g c = few_cycles _ _ _ c.run_to.ensures.stands (omega (arith, c.requires.few, c.requires.order))
 
 pub write_told-requires-clause-fits : goal.write_told-requires-clause-fits
-write_told-requires-clause-fits g c = fits_after c.args.processor.now.scenario _ (c.args.first.now.number - 1) _ c.run_to.ensures.scenario
-    c.run_to.ensures.stands
+write_told-requires-clause-fits g c = fits_after _ _ _ _ c.run_to.ensures.scenario c.run_to.ensures.stands
 
 pub returns-clause-stands : goal.returns-clause-stands
 returns-clause-stands g c =

@@ -3,8 +3,7 @@ use Rattle.std.proofs.lemmas.Result.{err_from_is_err_and}
 use Rattle.words.specs.Devices.{one_more}
 use Rattle.cpu.specs.Next.{next}
 use Rattle.cpu.specs.State.{State, Scenario, Processing}
-use Rattle.cpu.proofs.RunLaws.{cycles-run, run-add-one}
-use Rattle.cpu.proofs.TakenLaws.{run-fits}
+use Rattle.cpu.proofs.Turns.{few_cycles, fits_after, state_more}
 use Rattle.replay.proofs.RetracedLemmas.{texts_none, texts_more, texts_part}
 use Rattle.replay.proofs.retracing.write_steps.Goals as goal
 
@@ -22,52 +21,39 @@ loop-at-init g c = record {
 }
 
 pub write_step-requires-clause-cycles : goal.write_step-requires-clause-cycles
-write_step-requires-clause-cycles g c =
-    let e = ap (λ (s : State). s.cycles) c.loop-at.invariant.machine in
-    omega (arith, e, cycles-run c.args.processor.now.scenario c.loop-at.at)
+write_step-requires-clause-cycles g c = few_cycles _ _ _ c.loop-at.invariant.machine (omega arith)
 
 pub write_step-requires-clause-fits : goal.write_step-requires-clause-fits
-write_step-requires-clause-fits g c = rw (c.loop-at.invariant.scenario, c.loop-at.invariant.machine)
-    (run-fits c.args.processor.now.scenario c.loop-at.at)
+write_step-requires-clause-fits g c = fits_after _ _ _ _ c.loop-at.invariant.scenario c.loop-at.invariant.machine
 
 pub loop-at-preserved : goal.loop-at-preserved
 loop-at-preserved g c =
-    let kept = c.loop-at.invariant in
-    let at = c.loop-at.at in
-    let p = c.args.processor.now.scenario in
-    let told = c.in_ok-write_step.ensures in
-    let meter = ap (λ (q : Processing). q.meter) told.processor in
+    let meter = ap (λ (q : Processing). q.meter) c.in_ok-write_step.ensures.processor in
     record {
-      machine = told.state ∙ ap (λ (q : Scenario). (next q c.loop-at.shown.machine).0) kept.scenario
-          ∙ ap (λ (s : State). (next p s).0) kept.machine ∙ sym (run-add-one p at);
+      machine = state_more _ _ _ _ _ c.loop-at.invariant.scenario c.loop-at.invariant.machine c.in_ok-write_step.ensures.state;
       step = refl;
-      written = λ w. texts_more (g.T.StepWriter.text c.args.writer.now p) p c.args.low at _ _ _ (omega arith) (kept.written w)
-          (rw (kept.scenario, kept.machine) at (told.written w));
-      failures = told.failures ∙ kept.failures;
-      scenario = ap (λ (q : Processing). q.scenario) told.processor ∙ kept.scenario;
-      metered = omega (arith, meter);
-      least = omega (arith, kept.least, meter);
-      most = omega (arith, kept.most, meter);
+      written = λ w. texts_more (g.T.StepWriter.text c.args.writer.now c.args.processor.now.scenario) c.args.processor.now.scenario c.args.low c.loop-at.at _ _ _ (omega arith) (c.loop-at.invariant.written w)
+          (rw (c.loop-at.invariant.scenario, c.loop-at.invariant.machine) at (c.in_ok-write_step.ensures.written w));
+      failures = c.in_ok-write_step.ensures.failures ∙ c.loop-at.invariant.failures;
+      scenario = ap (λ (q : Processing). q.scenario) c.in_ok-write_step.ensures.processor ∙ c.loop-at.invariant.scenario;
+      metered = omega (arith, c.loop-at.invariant.metered, meter);
+      least = omega (arith, c.loop-at.invariant.least, meter);
+      most = omega (arith, c.loop-at.invariant.most, meter);
     }
 
 pub returns-in_err-write_step : goal.returns-in_err-write_step
 returns-in_err-write_step g c =
-    let kept = c.loop-at.invariant in
-    let at = c.loop-at.at in
-    let p = c.args.processor.now.scenario in
-    let told = c.in_err-write_step.ensures in
-    let meter = ap (λ (q : Processing). q.meter) told.processor in
+    let meter = ap (λ (q : Processing). q.meter) c.in_err-write_step.ensures.processor in
     let r = err_from_is_err_and c.from_residual.result c.from_residual.ensures.1 in
     record {
-      written = λ w. rw r.1 (texts_part (g.T.StepWriter.text c.args.writer.now p) p c.args.low at c.args.high _ _ _ (omega arith)
-          (omega arith) (kept.written w) (rw (kept.scenario, kept.machine) at (told.written w)));
-      failures = rw r.1 (told.failures ∙ ap one_more kept.failures);
-      scenario = ap (λ (q : Processing). q.scenario) told.processor ∙ kept.scenario;
-      metered = omega (arith, meter);
-      least = omega (arith, kept.least, meter);
-      most = omega (arith, kept.most, meter);
-      stands = told.state ∙ ap (λ (q : Scenario). (next q c.loop-at.shown.machine).0) kept.scenario
-          ∙ ap (λ (s : State). (next p s).0) kept.machine ∙ sym (run-add-one p at);
+      written = λ w. rw r.1 (texts_part (g.T.StepWriter.text c.args.writer.now c.args.processor.now.scenario) c.args.processor.now.scenario c.args.low c.loop-at.at c.args.high _ _ _ (omega arith)
+          (omega arith) (c.loop-at.invariant.written w) (rw (c.loop-at.invariant.scenario, c.loop-at.invariant.machine) at (c.in_err-write_step.ensures.written w)));
+      failures = rw r.1 (c.in_err-write_step.ensures.failures ∙ ap one_more c.loop-at.invariant.failures);
+      scenario = ap (λ (q : Processing). q.scenario) c.in_err-write_step.ensures.processor ∙ c.loop-at.invariant.scenario;
+      metered = omega (arith, c.loop-at.invariant.metered, meter);
+      least = omega (arith, c.loop-at.invariant.least, meter);
+      most = omega (arith, c.loop-at.invariant.most, meter);
+      stands = state_more _ _ _ _ _ c.loop-at.invariant.scenario c.loop-at.invariant.machine c.in_err-write_step.ensures.state;
       within = omega arith;
       all = rw r.1 tt;
     }

@@ -7,7 +7,7 @@ use Rattle.whatif.specs.Together.{open_text, told_together}
 use Rattle.whatif.specs.Trials.{tried}
 use Rattle.whatif.proofs.Stepwise.{all_trials, next_trial, no_trial, own_more}
 use Rattle.whatif.proofs.Told.{few_span, first_came, next_told, none_came, none_left, span_told}
-use Rattle.whatif.proofs.Writing.{so_far_breaks, so_far_ends, so_far_more, so_far_same, so_far_start}
+use Rattle.words.proofs.Writing.{so_far_breaks, so_far_ends, so_far_more, so_far_same, so_far_start}
 use Rattle.whatif.proofs.here.write_each.Goals as goal
 
 pub loop-further-init : goal.loop-further-init

@@ -1,14 +1,14 @@
-use Rattle.std.proofs.Common.{◌≡◌, ◌∙◌, ◌+◌, ◌-◌, ◌<◌, ◌≤◌, ◌∷◌, ◌++◌, [], None, refl, sym, ap, append-nil, arith}
+use Rattle.std.proofs.Common.{◌≡◌, ◌∙◌, ◌+◌, ◌-◌, None, refl, ap, arith}
 use Rattle.std.proofs.lemmas.Result.{err_from_is_err_and}
 use Rattle.cpu.specs.State.{State}
 use Rattle.whatif.specs.declared.images.Images.{Images}
 use Rattle.whatif.specs.Here.{own_steps}
-use Rattle.whatif.specs.Restarts.{finish_restarted, restart_after, restart_telling, restarts_after}
+use Rattle.whatif.specs.Restarts.{finish_restarted, restart_after, restart_telling}
 use Rattle.whatif.specs.Spans.{joins, span_text, spans_text}
 use Rattle.whatif.specs.Together.{open_text}
 use Rattle.whatif.proofs.Restarting.{all_restarts, meter_more, next_restart, no_restart}
 use Rattle.whatif.proofs.Told.{few_span, next_told, none_left, span_told}
-use Rattle.whatif.proofs.Writing.{so_far_breaks, so_far_last, so_far_more, so_far_same, so_far_start}
+use Rattle.words.proofs.Writing.{so_far_breaks, so_far_last, so_far_more, so_far_same, so_far_start}
 use Rattle.whatif.proofs.restart.write_restarts.Goals as goal
 
 pub loop-further-init : goal.loop-further-init

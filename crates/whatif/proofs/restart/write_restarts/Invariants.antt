@@ -5,7 +5,7 @@ use Rattle.whatif.specs.Outcomes.{outcome}
 use Rattle.whatif.specs.Restarts.{restart_telling, restarts_after}
 use Rattle.whatif.specs.Spans.{spans_text}
 use Rattle.whatif.specs.Together.{number_of}
-use Rattle.whatif.proofs.Writing.{SoFar}
+use Rattle.words.proofs.Writing.{SoFar}
 use Rattle.whatif.proofs.restart.write_restarts.Given as goal
 
 abbrev pub invariant-loop-further : goal.invariant-loop-further

@@ -1,8 +1,8 @@
-use Rattle.std.proofs.Common.{◌≡◌, ◌∙◌, ◌+◌, ◌<◌, ◌∷◌, ◌++◌, [], drop, length, refl, sym, ap, arith}
-use Rattle.std.proofs.lemmas.List.{drop_all, drop_more}
+use Rattle.std.proofs.Common.{◌∙◌, refl, ap, arith}
+use Rattle.std.proofs.lemmas.List.{drop_all}
 use Rattle.std.proofs.lemmas.Result.{err_from_is_err_and}
-use Rattle.whatif.specs.Spans.{others_text, sent_line}
-use Rattle.whatif.proofs.Writing.{so_far_breaks, so_far_ends, so_far_more, so_far_start}
+use Rattle.whatif.specs.Spans.{others_text}
+use Rattle.words.proofs.Writing.{from_one, so_far_breaks, so_far_ends, so_far_more, so_far_start}
 use Rattle.whatif.proofs.span.write_others.Goals as goal
 
 pub loop-sent-init : goal.loop-sent-init
@@ -10,20 +10,14 @@ loop-sent-init g c = record { written = λ told. so_far_start _ _; failures = re
 
 pub returns-in_err-write_sent-clause-written : goal.returns-in_err-write_sent-clause-written
 returns-in_err-write_sent-clause-written g c = λ told.
-    let within : c.loop-sent.sent-index < length c.args.others.now = omega arith in
-    let more = drop (c.loop-sent.sent-index + 1) c.args.others.now in
-    let split : drop c.loop-sent.sent-index c.args.others.now ≡ c.sent-item.result ∷ more =
-    drop_more c.args.others.now c.loop-sent.sent-index c.sent-item.result within ∙ ap (λ w. w ∷ more) (sym c.sent-item.is) in
+    let split = from_one c.args.others.now c.loop-sent.sent-index c.sent-item.result (omega arith) c.sent-item.is in
     let p = err_from_is_err_and c.from_residual.result c.from_residual.ensures.1 in
     rw p.1 (so_far_breaks _ _ _ _ _ _ _ (c.loop-sent.invariant.written told) (ap others_text split)
     (c.in_err-write_sent.ensures.written told))
 
 pub loop-sent-preserved : goal.loop-sent-preserved
 loop-sent-preserved g c =
-    let within : c.loop-sent.sent-index < length c.args.others.now = omega arith in
-    let more = drop (c.loop-sent.sent-index + 1) c.args.others.now in
-    let split : drop c.loop-sent.sent-index c.args.others.now ≡ c.sent-item.result ∷ more =
-    drop_more c.args.others.now c.loop-sent.sent-index c.sent-item.result within ∙ ap (λ w. w ∷ more) (sym c.sent-item.is) in
+    let split = from_one c.args.others.now c.loop-sent.sent-index c.sent-item.result (omega arith) c.sent-item.is in
     record {
       written = λ told. so_far_more _ _ _ _ _ _ _ (c.loop-sent.invariant.written told) (ap others_text split)
           (c.in_ok-write_sent.ensures.written told);

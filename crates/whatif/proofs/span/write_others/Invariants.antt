@@ -1,6 +1,6 @@
 use Rattle.std.proofs.Common.{◌≡◌, true, drop}
 use Rattle.whatif.specs.Spans.{others_text}
-use Rattle.whatif.proofs.Writing.{SoFar}
+use Rattle.words.proofs.Writing.{SoFar}
 use Rattle.whatif.proofs.span.write_others.Given as goal
 
 abbrev pub invariant-loop-sent : goal.invariant-loop-sent

@@ -1,5 +1,5 @@
-use Rattle.std.proofs.Common.{◌≡◌, ◌∙◌, ◌+◌, ◌<◌, ◌∷◌, drop, length, refl, sym, ap, arith}
-use Rattle.std.proofs.lemmas.List.{drop_all, drop_more}
+use Rattle.std.proofs.Common.{◌≡◌, ◌∙◌, ◌+◌, drop, refl, ap, arith}
+use Rattle.std.proofs.lemmas.List.{drop_all}
 use Rattle.std.proofs.lemmas.Result.{err_from_is_err_and}
 use Rattle.words.proofs.Texts.{append-nothing, beginning-take}
 use Rattle.whatif.specs.declared.images.Images.{Images}
@@ -9,7 +9,7 @@ use Rattle.whatif.specs.Trials.{tried}
 use Rattle.whatif.proofs.Rising.{first_way, next_before, next_way}
 use Rattle.whatif.proofs.Steps.{looked_begins}
 use Rattle.whatif.proofs.Told.{few_span, first_came, next_told, none_came, none_left, span_told}
-use Rattle.whatif.proofs.Writing.{so_far_breaks, so_far_last, so_far_more, so_far_start}
+use Rattle.words.proofs.Writing.{from_one, so_far_breaks, so_far_last, so_far_more, so_far_start}
 use Rattle.whatif.proofs.trying.write_trials.Goals as goal
 
 pub returns-in-Err-clause-written : goal.returns-in-Err-clause-written
@@ -41,19 +41,15 @@ try_one-requires-clause-seen g c = rw (c.loop-trial.invariant.scenario, c.loop-t
 
 pub try_one-requires-clause-before : goal.try_one-requires-clause-before
 try_one-requires-clause-before g c =
-    let within : c.loop-trial.trial-index < length c.args.trials.now = omega arith in
     let then = drop (c.loop-trial.trial-index + 1) c.args.trials.now in
-    let split : drop c.loop-trial.trial-index c.args.trials.now ≡ c.trial-item.result ∷ then =
-    drop_more c.args.trials.now c.loop-trial.trial-index c.trial-item.result within ∙ ap (λ w. w ∷ then) (sym c.trial-item.is) in
+    let split = from_one c.args.trials.now c.loop-trial.trial-index c.trial-item.result (omega arith) c.trial-item.is in
     rw c.loop-trial.invariant.scenario (next_before c.args.processor.now.scenario c.loop-trial.trunk.done _ c.trial-item.result then split
     c.loop-trial.invariant.way)
 
 pub returns-in_err-with_trial-clause-written : goal.returns-in_err-with_trial-clause-written
 returns-in_err-with_trial-clause-written g c = λ told.
-    let within : c.loop-trial.trial-index < length c.args.trials.now = omega arith in
     let then = drop (c.loop-trial.trial-index + 1) c.args.trials.now in
-    let split : drop c.loop-trial.trial-index c.args.trials.now ≡ c.trial-item.result ∷ then =
-    drop_more c.args.trials.now c.loop-trial.trial-index c.trial-item.result within ∙ ap (λ w. w ∷ then) (sym c.trial-item.is) in
+    let split = from_one c.args.trials.now c.loop-trial.trial-index c.trial-item.result (omega arith) c.trial-item.is in
     let comes = g.S.Seen.comes c.args.without.now.machine c.args.without.now.seen in
     let more = g.S.Seen.more c.args.beside.now in
     let scenario = c.args.processor.now.scenario in
@@ -70,10 +66,8 @@ returns-in_err-with_trial-clause-written g c = λ told.
 
 pub loop-trial-preserved : goal.loop-trial-preserved
 loop-trial-preserved g c =
-    let within : c.loop-trial.trial-index < length c.args.trials.now = omega arith in
     let then = drop (c.loop-trial.trial-index + 1) c.args.trials.now in
-    let split : drop c.loop-trial.trial-index c.args.trials.now ≡ c.trial-item.result ∷ then =
-    drop_more c.args.trials.now c.loop-trial.trial-index c.trial-item.result within ∙ ap (λ w. w ∷ then) (sym c.trial-item.is) in
+    let split = from_one c.args.trials.now c.loop-trial.trial-index c.trial-item.result (omega arith) c.trial-item.is in
     let comes = g.S.Seen.comes c.args.without.now.machine c.args.without.now.seen in
     let more = g.S.Seen.more c.args.beside.now in
     let scenario = c.args.processor.now.scenario in

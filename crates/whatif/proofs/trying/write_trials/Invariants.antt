@@ -3,7 +3,7 @@ use Rattle.cpu.specs.Run.{run}
 use Rattle.whatif.specs.Looked.{all_came, looked}
 use Rattle.whatif.specs.Together.{number_of, told_together}
 use Rattle.whatif.proofs.Rising.{IsOnTheWay}
-use Rattle.whatif.proofs.Writing.{SoFar}
+use Rattle.words.proofs.Writing.{SoFar}
 use Rattle.whatif.proofs.trying.write_trials.Given as goal
 
 abbrev pub invariant-loop-trial : goal.invariant-loop-trial

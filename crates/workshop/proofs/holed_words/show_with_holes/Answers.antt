@@ -8,3 +8,10 @@ returns-in_default g c = record {
   reads = record { bytes = λ told. refl; failures = refl };
   next = (refl, refl);
 }
+
+pub returns-in_default-copied : goal.returns-in_default-copied
+returns-in_default-copied g c = record {
+  read = Err rope.NoMemory;
+  reads = record { bytes = λ told. refl; failures = refl };
+  next = (refl, refl);
+}

@@ -1,11 +1,12 @@
 use Rattle.std.proofs.Common.{◌≡◌, true, map, drop}
 use Rattle.xref.specs.Xref.{rows_of, told}
-use Rattle.xref.proofs.Parts.{Left}
+use Rattle.words.proofs.Writing.{SoFar}
 use Rattle.xref.proofs.table.write_rows.Given as goal
 
 abbrev pub invariant-loop-index : goal.invariant-loop-index
 invariant-loop-index g l = record {
-  written : g.W.Write.told ≡ true → Left (rows_of l.name (map told l.mentions)) (g.W.Write.written l.initial.out) (g.W.Write.written l.out)
+  written : g.W.Write.told ≡ true → SoFar (g.W.Write.written l.initial.out) (g.W.Write.written l.out)
+      (rows_of l.name (map told l.mentions))
       (rows_of l.name (map told (drop l.index l.mentions)));
   failures : g.W.Write.failures l.out ≡ g.W.Write.failures l.initial.out;
 }

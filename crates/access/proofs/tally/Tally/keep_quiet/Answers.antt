@@ -1,13 +1,11 @@
-use Rattle.std.proofs.Common.{◌≡◌, ◌+◌, ◌-◌, ◌∙◌, ℕ, arith, refl, rules, subst, sym}
+use Rattle.std.proofs.Common.{◌≡◌, ◌+◌, ◌-◌, ℕ, arith, refl, rules, subst}
 use Rattle.cpu.specs.Bursts.{IsQuiet}
-use Rattle.cover.proofs.Counting.{few_cycles, state_more}
-use Rattle.access.specs.Tallies.{Keeps, Tallied}
+use Rattle.cpu.proofs.Turns.{few_cycles, state_more}
 use Rattle.access.proofs.Counting.{few_longer, keeps_more}
 use Rattle.access.proofs.tally.Tally.keep_quiet.Goals as goal
 
 pub keep_plain-requires-clause-cycles : goal.keep_plain-requires-clause-cycles
-keep_plain-requires-clause-cycles c = few_cycles c.args.processor.now.scenario c.loop-at.at _ c.loop-at.invariant.state
-    (omega (arith, c.loop-at-test.true))
+keep_plain-requires-clause-cycles c = few_cycles _ _ _ c.loop-at.invariant.state (omega (arith, c.loop-at-test.true))
 
 pub keep_plain-requires-clause-few : goal.keep_plain-requires-clause-few
 keep_plain-requires-clause-few c = few_longer _ c.loop-at.at _ (omega (arith, c.loop-at-test.true)) c.loop-at.invariant.keeps.few

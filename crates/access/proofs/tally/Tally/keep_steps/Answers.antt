@@ -1,19 +1,17 @@
 use Rattle.std.proofs.Common.{◌≡◌, ◌+◌, ◌∙◌, arith, subst, sym}
 use Rattle.cpu.specs.Run.{run}
 use Rattle.cpu.specs.State.{Scenario}
-use Rattle.cover.proofs.Counting.{few_cycles, fits_after, state_more}
+use Rattle.cpu.proofs.Turns.{few_cycles, fits_after, state_more}
 use Rattle.access.specs.declared.view.View.{View}
 use Rattle.access.specs.Tallies.{Keeps}
 use Rattle.access.proofs.Counting.{few_longer, keeps_more, small}
 use Rattle.access.proofs.tally.Tally.keep_steps.Goals as goal
 
 pub step-requires-clause-cycles : goal.step-requires-clause-cycles
-step-requires-clause-cycles c = few_cycles c.args.processor.now.scenario c.loop-at.at _ c.loop-at.invariant.state
-    (omega (arith, c.loop-at-test.true))
+step-requires-clause-cycles c = few_cycles _ _ _ c.loop-at.invariant.state (omega (arith, c.loop-at-test.true))
 
 pub step-requires-clause-fits : goal.step-requires-clause-fits
-step-requires-clause-fits c = fits_after c.args.processor.now.scenario _ c.loop-at.at _ c.loop-at.invariant.scenario
-    c.loop-at.invariant.state
+step-requires-clause-fits c = fits_after _ _ _ _ c.loop-at.invariant.scenario c.loop-at.invariant.state
 
 pub step-requires-clause-small : goal.step-requires-clause-small
 step-requires-clause-small c = small _ c.args.processor.now.scenario c.loop-at.at _ (omega (arith, c.loop-at-test.true))

@@ -1,13 +1,13 @@
 use Rattle.std.proofs.Common.{◌≡◌, ◌∙◌, arith}
-use Rattle.cover.proofs.Counting.{adds_up, counts_more, few_cycles, fits_after, shown_add_up, small, state_more}
+use Rattle.cpu.proofs.Turns.{few_cycles, fits_after, state_more}
+use Rattle.cover.proofs.Counting.{adds_up, counts_more, shown_add_up, small}
 use Rattle.cover.proofs.tally.Tally.make_steps.Goals as goal
 
 pub step-requires-clause-cycles : goal.step-requires-clause-cycles
-step-requires-clause-cycles c = few_cycles c.args.processor.now.scenario c.loop.counter _ c.loop.invariant.state
-    (omega (arith, c.loop-test.true))
+step-requires-clause-cycles c = few_cycles _ _ _ c.loop.invariant.state (omega (arith, c.loop-test.true))
 
 pub step-requires-clause-fits : goal.step-requires-clause-fits
-step-requires-clause-fits c = fits_after c.args.processor.now.scenario _ c.loop.counter _ c.loop.invariant.scenario c.loop.invariant.state
+step-requires-clause-fits c = fits_after _ _ _ _ c.loop.invariant.scenario c.loop.invariant.state
 
 pub step-requires-clause-small : goal.step-requires-clause-small
 step-requires-clause-small c = small c.args.processor.now.scenario c.loop.counter _ (omega (arith, c.loop-test.true))

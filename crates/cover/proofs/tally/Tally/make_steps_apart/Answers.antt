@@ -1,13 +1,13 @@
 use Rattle.std.proofs.Common.{◌∙◌, arith}
-use Rattle.cover.proofs.Counting.{counts_more, few_cycles, fits_after, small, state_more}
+use Rattle.cpu.proofs.Turns.{few_cycles, fits_after, state_more}
+use Rattle.cover.proofs.Counting.{counts_more, small}
 use Rattle.cover.proofs.tally.Tally.make_steps_apart.Goals as goal
 
 pub step_apart-requires-clause-cycles : goal.step_apart-requires-clause-cycles
-step_apart-requires-clause-cycles c = few_cycles c.args.processor.now.scenario c.loop.counter _ c.loop.invariant.state
-    (omega (arith, c.loop-test.true))
+step_apart-requires-clause-cycles c = few_cycles _ _ _ c.loop.invariant.state (omega (arith, c.loop-test.true))
 
 pub step_apart-requires-clause-fits : goal.step_apart-requires-clause-fits
-step_apart-requires-clause-fits c = fits_after c.args.processor.now.scenario _ c.loop.counter _ c.loop.invariant.scenario c.loop.invariant.state
+step_apart-requires-clause-fits c = fits_after _ _ _ _ c.loop.invariant.scenario c.loop.invariant.state
 
 pub step_apart-requires-clause-small : goal.step_apart-requires-clause-small
 step_apart-requires-clause-small c = small c.args.processor.now.scenario c.loop.counter _ (omega (arith, c.loop-test.true))

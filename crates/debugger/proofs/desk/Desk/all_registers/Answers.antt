@@ -8,6 +8,6 @@ pub returns-clause-brings : goal.returns-clause-brings
 unfolding extended_reply
 returns-clause-brings g c =
     asked_text c.args.self.now.session.now c.show.follows.lender-at-none c.args.self.now.position c.args.self.now.position
-    c.args.self.now.breakpoints c.args.self.now.breakpoints AllRegisters c.all_registers_text.result.items
+    c.args.self.now.breakpoints c.args.self.now.breakpoints c.args.self.now.quiet AllRegisters c.all_registers_text.result.items
     c.show.follows.holds-at-none.same
     (λ symbols answers additions. rw (c.all_registers_text.ensures, c.in-Ok.ensures.shown) refl)

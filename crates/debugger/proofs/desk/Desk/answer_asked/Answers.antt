@@ -95,7 +95,7 @@ returns-in-WhyStep-clause-executes g c = λ told.
     rw c.in-WhyStep.is (replies-text g.K.Keeper.may_refuse
     (to_asked (terms c.args.self.now.symbols.now c.args.self.now.rows.now c.args.self.now.first_added) (WhyStep c.in-WhyStep.lines)) _ _ _ _
     (last_text c.args.self.now.symbols.now c.args.self.now.session.now.scenario c.in-WhyStep.lines c.args.self.now.position) _ _
-    (λ answers additions. rw (looked.scenario, looked.steps, looks.position, looks.breakpoints) refl) refl (c.why_step.ensures.writes told))
+    (λ answers additions. rw (looked.scenario, looked.steps, looks.position, looks.breakpoints, looks.quiet) refl) refl (c.why_step.ensures.writes told))
 
 pub returns-in-Why-clause-executes : goal.returns-in-Why-clause-executes
 unfolding extended_reply
@@ -105,7 +105,7 @@ returns-in-Why-clause-executes g c = λ told.
     rw c.in-Why.is (replies-text g.K.Keeper.may_refuse
     (to_asked (terms c.args.self.now.symbols.now c.args.self.now.rows.now c.args.self.now.first_added) (Why c.in-Why.subject c.in-Why.links c.in-Why.lines)) _ _ _
     _ (why_text c.args.self.now.symbols.now c.args.self.now.session.now.scenario c.in-Why.lines c.in-Why.links c.args.self.now.position
-    (subject_spots c.in-Why.subject)) _ _ (λ answers additions. rw (looked.scenario, looked.steps, looks.position, looks.breakpoints) refl) refl
+    (subject_spots c.in-Why.subject)) _ _ (λ answers additions. rw (looked.scenario, looked.steps, looks.position, looks.breakpoints, looks.quiet) refl) refl
     (c.why.ensures.writes told))
 
 pub returns-in-WhyWay-clause-executes : goal.returns-in-WhyWay-clause-executes
@@ -116,7 +116,7 @@ returns-in-WhyWay-clause-executes g c = λ told.
     rw c.in-WhyWay.is (replies-text g.K.Keeper.may_refuse
     (to_asked (terms c.args.self.now.symbols.now c.args.self.now.rows.now c.args.self.now.first_added) WhyWay) _ _ _ _
     (way_text c.args.self.now.symbols.now c.args.self.now.session.now.scenario c.args.self.now.position) _ _
-    (λ answers additions. rw (looked.scenario, looked.steps, looks.position, looks.breakpoints) refl) refl (c.why_way.ensures.writes told))
+    (λ answers additions. rw (looked.scenario, looked.steps, looks.position, looks.breakpoints, looks.quiet) refl) refl (c.why_way.ensures.writes told))
 
 pub returns-in-WhyControl-clause-executes : goal.returns-in-WhyControl-clause-executes
 unfolding extended_reply
@@ -126,7 +126,7 @@ returns-in-WhyControl-clause-executes g c = λ told.
     rw c.in-WhyControl.is (replies-text g.K.Keeper.may_refuse
     (to_asked (terms c.args.self.now.symbols.now c.args.self.now.rows.now c.args.self.now.first_added) (WhyControl c.in-WhyControl.subject)) _ _ _ _
     (control_text c.args.self.now.symbols.now c.args.self.now.session.now.scenario c.args.self.now.position (subject_spots c.in-WhyControl.subject)) _ _
-    (λ answers additions. rw (looked.scenario, looked.steps, looks.position, looks.breakpoints) refl) refl (c.why_control.ensures.writes told))
+    (λ answers additions. rw (looked.scenario, looked.steps, looks.position, looks.breakpoints, looks.quiet) refl) refl (c.why_control.ensures.writes told))
 
 pub returns-in-Never-clause-executes : goal.returns-in-Never-clause-executes
 unfolding extended_reply
@@ -136,7 +136,7 @@ returns-in-Never-clause-executes g c = λ told.
     rw c.in-Never.is (replies-text g.K.Keeper.may_refuse
     (to_asked (terms c.args.self.now.symbols.now c.args.self.now.rows.now c.args.self.now.first_added) (Never c.in-Never.place)) _ _ _ _
     (never_text c.args.self.now.symbols.now c.args.self.now.session.now.scenario c.in-Never.place c.args.self.now.position) _ _
-    (λ answers additions. rw (looked.scenario, looked.steps, looks.position, looks.breakpoints) refl) refl (c.never.ensures.writes told))
+    (λ answers additions. rw (looked.scenario, looked.steps, looks.position, looks.breakpoints, looks.quiet) refl) refl (c.never.ensures.writes told))
 
 pub returns-in-WhySince-clause-executes : goal.returns-in-WhySince-clause-executes
 unfolding extended_reply
@@ -147,7 +147,7 @@ returns-in-WhySince-clause-executes g c = λ told.
     (to_asked (terms c.args.self.now.symbols.now c.args.self.now.rows.now c.args.self.now.first_added)
     (WhySince c.in-WhySince.subject c.in-WhySince.links c.in-WhySince.lines c.in-WhySince.since)) _ _ _ _
     (since_text c.args.self.now.symbols.now c.args.self.now.session.now.scenario c.in-WhySince.lines c.in-WhySince.since c.in-WhySince.links
-    c.args.self.now.position (subject_spots c.in-WhySince.subject)) _ _ (λ answers additions. rw (looked.scenario, looked.steps, looks.position, looks.breakpoints) refl)
+    c.args.self.now.position (subject_spots c.in-WhySince.subject)) _ _ (λ answers additions. rw (looked.scenario, looked.steps, looks.position, looks.breakpoints, looks.quiet) refl)
     refl (c.why_since.ensures.writes told))
 
 pub returns-in-WhySince-clause-served : goal.returns-in-WhySince-clause-served
@@ -172,7 +172,7 @@ returns-in-Words-clause-executes g c = λ told.
     rw c.in-Words.is (replies-text g.K.Keeper.may_refuse
     (to_asked (terms c.args.self.now.symbols.now c.args.self.now.rows.now c.args.self.now.first_added) (Words c.in-Words.place c.in-Words.count)) _ _ _ _
     (words_text h (h.after c.args.self.now.position) c.in-Words.place c.in-Words.count) _ _
-    (λ answers additions. rw (looked.scenario, looked.steps, looks.position, looks.breakpoints) refl) (c.as_slice-in-Words.ensures.value ∙ c.words.ensures.text)
+    (λ answers additions. rw (looked.scenario, looked.steps, looks.position, looks.breakpoints, looks.quiet) refl) (c.as_slice-in-Words.ensures.value ∙ c.words.ensures.text)
     (c.write_all-in-Words.ensures.written told))
 
 pub returns-in-Where-clause-executes : goal.returns-in-Where-clause-executes
@@ -182,7 +182,7 @@ returns-in-Where-clause-executes g c = λ told.
     let looked = looks.session in
     rw c.in-Where.is (replies-text g.K.Keeper.may_refuse (to_asked (terms c.args.self.now.symbols.now c.args.self.now.rows.now c.args.self.now.first_added) Where) _ _
     _ _ (where_text c.args.self.now.symbols.now c.args.self.now.rows.now c.args.self.now.session.now.scenario c.args.self.now.position) _ _
-    (λ answers additions. rw (looked.scenario, looked.steps, looks.position, looks.breakpoints) refl) refl (c.tell_where.ensures.writes told))
+    (λ answers additions. rw (looked.scenario, looked.steps, looks.position, looks.breakpoints, looks.quiet) refl) refl (c.tell_where.ensures.writes told))
 
 pub returns-in-Find-clause-executes : goal.returns-in-Find-clause-executes
 unfolding extended_reply
@@ -200,7 +200,7 @@ returns-in-Trace-clause-executes g c = λ told.
     rw c.in-Trace.is (replies-text g.K.Keeper.may_refuse
     (to_asked (terms c.args.self.now.symbols.now c.args.self.now.rows.now c.args.self.now.first_added) (Trace c.in-Trace.steps)) _ _ _ _
     (traced_text Steps c.args.self.now.symbols.now c.args.self.now.session.now.scenario c.args.self.now.position c.in-Trace.steps) _ _
-    (λ answers additions. rw (looked.scenario, looked.steps, looks.position, looks.breakpoints) refl) refl (c.trace.ensures.writes told))
+    (λ answers additions. rw (looked.scenario, looked.steps, looks.position, looks.breakpoints, looks.quiet) refl) refl (c.trace.ensures.writes told))
 
 pub returns-in-TailSteps-clause-executes : goal.returns-in-TailSteps-clause-executes
 unfolding extended_reply
@@ -236,7 +236,7 @@ returns-in-Listed-clause-executes g c = λ told.
     rw c.in-Listed.is (replies-text g.K.Keeper.may_refuse
     (to_asked (terms c.args.self.now.symbols.now c.args.self.now.rows.now c.args.self.now.first_added) (Listed c.in-Listed.place c.in-Listed.count)) _ _ _ _
     (rows_text Instruction c.args.self.now.symbols.now c.args.self.now.rows.now scenario.rope h (h.after c.args.self.now.position) c.in-Listed.place
-    c.in-Listed.count) _ _ (λ answers additions. rw (looked.scenario, looked.steps, looks.position, looks.breakpoints) refl) refl (c.rows.ensures.writes told))
+    c.in-Listed.count) _ _ (λ answers additions. rw (looked.scenario, looked.steps, looks.position, looks.breakpoints, looks.quiet) refl) refl (c.rows.ensures.writes told))
 
 pub returns-in-Values-clause-executes : goal.returns-in-Values-clause-executes
 unfolding extended_reply
@@ -248,7 +248,7 @@ returns-in-Values-clause-executes g c = λ told.
     rw c.in-Values.is (replies-text g.K.Keeper.may_refuse
     (to_asked (terms c.args.self.now.symbols.now c.args.self.now.rows.now c.args.self.now.first_added) (Values c.in-Values.place c.in-Values.count)) _ _ _ _
     (rows_text Number c.args.self.now.symbols.now c.args.self.now.rows.now scenario.rope h (h.after c.args.self.now.position) c.in-Values.place
-    c.in-Values.count) _ _ (λ answers additions. rw (looked.scenario, looked.steps, looks.position, looks.breakpoints) refl) refl (c.rows-in-Values.ensures.writes told))
+    c.in-Values.count) _ _ (λ answers additions. rw (looked.scenario, looked.steps, looks.position, looks.breakpoints, looks.quiet) refl) refl (c.rows-in-Values.ensures.writes told))
 
 pub returns-in-Channels-clause-executes : goal.returns-in-Channels-clause-executes
 unfolding extended_reply
@@ -258,7 +258,7 @@ returns-in-Channels-clause-executes g c = λ told.
     rw c.in-Channels.is (replies-text g.K.Keeper.may_refuse
     (to_asked (terms c.args.self.now.symbols.now c.args.self.now.rows.now c.args.self.now.first_added) Channels) _ _ _ _
     (channels_text (run c.args.self.now.session.now.scenario c.args.self.now.position).cells) _ _
-    (λ answers additions. rw (looked.scenario, looked.steps, looks.position, looks.breakpoints) refl) (c.as_slice-in-Channels.ensures.value ∙ c.channels.ensures.text)
+    (λ answers additions. rw (looked.scenario, looked.steps, looks.position, looks.breakpoints, looks.quiet) refl) (c.as_slice-in-Channels.ensures.value ∙ c.channels.ensures.text)
     (c.write_all-in-Channels.ensures.written told))
 
 pub returns-in-Differs-clause-executes : goal.returns-in-Differs-clause-executes
@@ -269,7 +269,7 @@ returns-in-Differs-clause-executes g c = λ told.
     rw c.in-Differs.is (replies-text g.K.Keeper.may_refuse
     (to_asked (terms c.args.self.now.symbols.now c.args.self.now.rows.now c.args.self.now.first_added) (Differs c.in-Differs.step)) _ _ _ _
     (differs_text c.args.self.now.session.now.scenario c.args.self.now.session.now.n c.args.self.now.position c.in-Differs.step) _ _
-    (λ answers additions. rw (looked.scenario, looked.steps, looks.position, looks.breakpoints) refl) refl (c.differs.ensures.writes told))
+    (λ answers additions. rw (looked.scenario, looked.steps, looks.position, looks.breakpoints, looks.quiet) refl) refl (c.differs.ensures.writes told))
 
 pub returns-in-Survey-clause-executes : goal.returns-in-Survey-clause-executes
 unfolding extended_reply
@@ -288,7 +288,7 @@ returns-in-Say-clause-executes g c = λ told.
     rw c.in-Say.is (replies-text g.K.Keeper.may_refuse
     (to_asked (terms c.args.self.now.symbols.now c.args.self.now.rows.now c.args.self.now.first_added) (Say c.in-Say.steps)) _ _ _ _
     (traced_text Sentences c.args.self.now.symbols.now c.args.self.now.session.now.scenario c.args.self.now.position c.in-Say.steps) _ _
-    (λ answers additions. rw (looked.scenario, looked.steps, looks.position, looks.breakpoints) refl) refl (c.trace-in-Say.ensures.writes told))
+    (λ answers additions. rw (looked.scenario, looked.steps, looks.position, looks.breakpoints, looks.quiet) refl) refl (c.trace-in-Say.ensures.writes told))
 
 pub returns-in-WhatIf-clause-executes : goal.returns-in-WhatIf-clause-executes
 unfolding extended_reply
@@ -319,5 +319,10 @@ returns-in-Calls-clause-executes g c = λ told.
     let looked = looks.session in
     rw c.in-Calls.is (replies-text g.K.Keeper.may_refuse (to_asked (terms c.args.self.now.symbols.now c.args.self.now.rows.now c.args.self.now.first_added) Calls) _ _
     _ _ (calls_text c.args.self.now.symbols.now c.args.self.now.session.now.scenario c.args.self.now.position) _ _
-    (λ answers additions. rw (looked.scenario, looked.steps, looks.position, looks.breakpoints) refl) (c.as_slice-in-Calls.ensures.value ∙ c.calls.ensures.text)
+    (λ answers additions. rw (looked.scenario, looked.steps, looks.position, looks.breakpoints, looks.quiet) refl) (c.as_slice-in-Calls.ensures.value ∙ c.calls.ensures.text)
     (c.write_all-in-Calls.ensures.written told))
+
+pub returns-in-Quiet-clause-executes : goal.returns-in-Quiet-clause-executes
+returns-in-Quiet-clause-executes g c = λ told.
+    asked-text g.K.Keeper.may_refuse (terms c.args.self.now.symbols.now c.args.self.now.rows.now c.args.self.now.first_added) _ _ _ _ _ _ _ _ _ c.in-Quiet.is
+    c.hush.ensures.brings c.as_slice-in-Quiet.ensures.value (c.write_all-in-Quiet.ensures.written told)

@@ -11,6 +11,6 @@ unfolding answer reply history
 returns-clause-brings g c =
     let p : c.saturating_sub-self.result ≡ c.args.self.now.position - c.args.steps = search rules in
     brings_text c.args.manner c.args.self.now.session.now c.show.follows.lender-at-none c.args.self.now.position c.saturating_sub-self.result
-    c.args.self.now.breakpoints c.args.self.now.breakpoints (Known (Back c.args.steps)) c.at_line.result.items
+    c.args.self.now.breakpoints c.args.self.now.breakpoints c.args.self.now.quiet (Known (Back c.args.steps)) c.at_line.result.items
     c.show.follows.holds-at-none.same
     (λ answers additions. rw (c.at_line.ensures, c.in-Ok.ensures.shown, p) refl)

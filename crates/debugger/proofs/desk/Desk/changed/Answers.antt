@@ -9,9 +9,9 @@ pub returns-in-Ok-clause-brings : goal.returns-in-Ok-clause-brings
 unfolding answer reply
 returns-in-Ok-clause-brings g c =
     λ m. brings_text m c.args.self.now.session.now c.with_present.follows.lender-at-none c.args.self.now.position c.args.self.now.position
-    c.args.self.now.breakpoints c.args.self.now.breakpoints (Known (Changed c.args.step)) c.changed_text.result.items
+    c.args.self.now.breakpoints c.args.self.now.breakpoints c.args.self.now.quiet (Known (Changed c.args.step)) c.changed_text.result.items
     c.with_present.follows.holds-at-none.same
-    (changed_since c.args.self.now.session.now c.args.self.now.position c.args.step c.args.self.now.breakpoints c.in-Ok.machine.now
+    (changed_since c.args.self.now.session.now c.args.self.now.position c.args.step c.args.self.now.breakpoints c.args.self.now.quiet c.in-Ok.machine.now
     c.in-Ok.present.now c.store.result.now c.store-in-Ok.result.now c.changed_text.result.items
     (c.in-Ok.ensures.ok.0 refl) c.in-Ok.ensures.shown c.in-Ok.ensures.present c.store.ensures c.store-in-Ok.ensures c.changed_text.ensures)
 
@@ -22,6 +22,7 @@ returns-in-Ok-clause-looked g c =
           c.with_present.follows.holds-at-none (c.in-Ok.ensures.ok.0 refl);
       position = refl;
       breakpoints = refl;
+      quiet = refl;
       same = record { lent = refl; symbols = refl; rows = refl; first = refl };
     }
 
@@ -31,6 +32,6 @@ returns-in-Err-clause-brings g c =
     let past : ltb c.args.self.now.session.now.n c.args.step
     ≡ true = is_later c.args.step c.args.self.now.session.now.n (λ h. (let e = c.in-Err.ensures.ok.1 h in cc)) in
     λ m. brings_text m c.args.self.now.session.now c.with_present.follows.lender-at-none c.args.self.now.position c.args.self.now.position
-    c.args.self.now.breakpoints c.args.self.now.breakpoints (Known (Changed c.args.step)) c.not_yet.result.items
+    c.args.self.now.breakpoints c.args.self.now.breakpoints c.args.self.now.quiet (Known (Changed c.args.step)) c.not_yet.result.items
     c.with_present.follows.holds-at-none.same
     (λ answers additions. rw (past, c.not_yet.ensures) refl)

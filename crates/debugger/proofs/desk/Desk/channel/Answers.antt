@@ -10,6 +10,6 @@ pub returns-clause-brings : goal.returns-clause-brings
 unfolding answer reply history
 returns-clause-brings g c =
     λ m. brings_text m c.args.self.now.session.now c.show.follows.lender-at-none c.args.self.now.position c.args.self.now.position
-    c.args.self.now.breakpoints c.args.self.now.breakpoints (Known (Channel c.args.channel)) c.word_line.result.items
+    c.args.self.now.breakpoints c.args.self.now.breakpoints c.args.self.now.quiet (Known (Channel c.args.channel)) c.word_line.result.items
     c.show.follows.holds-at-none.same
     (λ answers additions. rw (c.word_line.ensures, c.correct.ensures, c.channel.ensures, c.in-Ok.ensures.shown) refl)

@@ -15,7 +15,7 @@ returns-in-Some-clause-executes g c = λ told.
     let looked = looks.session in
     let some : out_end (run s.scenario p) (routines s.scenario p) ≡ Some c.in-Some.end = sym c.out_end-end.ensures.end ∙ c.in-Some.is in
     replies-same g.K.Keeper.may_refuse _ (goes_to_end c.in-Some.end c.args.steps) _ _ _ _ _
-    (λ answers additions. rw some refl) (rw (looked.scenario, looked.steps, looks.position, looks.breakpoints) at (c.go_to.ensures.executes told))
+    (λ answers additions. rw some refl) (rw (looked.scenario, looked.steps, looks.position, looks.breakpoints, looks.quiet) at (c.go_to.ensures.executes told))
 
 pub returns-in-None-clause-executes : goal.returns-in-None-clause-executes
 unfolding extended_reply
@@ -26,4 +26,4 @@ returns-in-None-clause-executes g c = λ told.
     let looked = looks.session in
     let none : out_end (run s.scenario p) (routines s.scenario p) ≡ None = sym c.out_end-end.ensures.end ∙ c.in-None.is in
     replies-text g.K.Keeper.may_refuse _ _ _ _ _ _ _ _
-    (λ answers additions. rw (none, looked.scenario, looked.steps, looks.position, looks.breakpoints) refl) refl (c.write_all.ensures.written told)
+    (λ answers additions. rw (none, looked.scenario, looked.steps, looks.position, looks.breakpoints, looks.quiet) refl) refl (c.write_all.ensures.written told)

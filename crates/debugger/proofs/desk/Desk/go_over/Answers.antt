@@ -14,4 +14,4 @@ returns-clause-executes g c = λ told.
     let looked = looks.session in
     let end = over_end s.scenario (run s.scenario c.args.self.now.position) in
     replies-same g.K.Keeper.may_refuse _ (goes_to_end end c.args.steps) _ _ _ _ _
-    (λ answers additions. refl) (rw (looked.scenario, looked.steps, looks.position, looks.breakpoints, c.over_end-end.ensures.end) at (c.go_to.ensures.executes told))
+    (λ answers additions. refl) (rw (looked.scenario, looked.steps, looks.position, looks.breakpoints, looks.quiet, c.over_end-end.ensures.end) at (c.go_to.ensures.executes told))

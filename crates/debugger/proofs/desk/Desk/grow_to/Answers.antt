@@ -22,7 +22,7 @@ returns-in-Ok-clause-executes g c = λ told.
     let at : p + c.min.result ≡ min most t.n = (let m = c.min.ensures in let n = looked.steps in let v = c.steps-in-Ok.ensures.value in
     omega arith) in
     let made = rw (more, c.of_one-breakpoints.ensures) at (c.in-Ok.ensures.growth told) in
-    rw (looks.position, looks.breakpoints) (way-told manner.Extended g.K.Keeper.may_refuse s p c.args.self.now.breakpoints (grows_to_end c.args.end.now c.args.steps)
+    rw (looks.position, looks.breakpoints, looks.quiet) (way-told manner.Extended g.K.Keeper.may_refuse s p c.args.self.now.breakpoints c.args.self.now.quiet (grows_to_end c.args.end.now c.args.steps)
     (λ e q. arrival_text e ((run s.scenario q).cycles - (run s.scenario p).cycles)) (c.args.end.now ∷ []) (most - s.n) (λ n. min most n)
     t (p + c.min.result) c.in-Ok.ending (W.written c.args.out.now) (W.written c.grow.new.out) (W.written c.write_all.new.out)
     c.write_all.result
@@ -38,7 +38,7 @@ returns-in-Err-clause-executes g c = λ told.
     let p = c.args.self.now.position in
     let most = p + c.args.steps in
     let more : c.saturating_sub-more.result ≡ most - s.n = omega arith in
-    way-broken manner.Extended g.K.Keeper.may_refuse s p c.args.self.now.breakpoints (grows_to_end c.args.end.now c.args.steps)
+    way-broken manner.Extended g.K.Keeper.may_refuse s p c.args.self.now.breakpoints c.args.self.now.quiet (grows_to_end c.args.end.now c.args.steps)
     (λ e q. arrival_text e ((run s.scenario q).cycles - (run s.scenario p).cycles)) (c.args.end.now ∷ []) (most - s.n) (λ n. min most n)
     (W.written c.args.out.now) (W.written c.grow.new.out)
     (λ answers additions. refl) (rw (more, c.of_one-breakpoints.ensures) at (c.in-Err.ensures.growth told))

@@ -18,7 +18,7 @@ returns-in-Ok-clause-executes g c = λ told.
     let scene : t.scenario ≡ s.scenario = looked.scenario ∙ c.grow.ensures.scenario in
     let at : c.steps-self.result ≡ t.n = omega arith in
     let made = rw c.of_one-breakpoints.ensures at (c.in-Ok.ensures.growth told) in
-    rw (looks.position, looks.breakpoints) (steps-told manner.Extended g.K.Keeper.may_refuse s c.args.self.now.position c.args.self.now.breakpoints (makes_until c.args.cycles)
+    rw (looks.position, looks.breakpoints, looks.quiet) (steps-told manner.Extended g.K.Keeper.may_refuse s c.args.self.now.position c.args.self.now.breakpoints c.args.self.now.quiet (makes_until c.args.cycles)
     (λ e. ending_line (unhit e)) (Cycles c.args.cycles ∷ []) most_count (λ n. n) t c.steps-self.result c.in-Ok.ending
     (W.written c.args.out.now) (W.written c.grow.new.out) (W.written c.tell_ending.new.out) c.tell_ending.result
     (λ answers additions. refl) scene at (rw looked.steps made)
@@ -27,7 +27,7 @@ returns-in-Ok-clause-executes g c = λ told.
 pub returns-in-Err-clause-executes : goal.returns-in-Err-clause-executes
 returns-in-Err-clause-executes g c = λ told.
     let W = g.W.Write in
-    steps-broken manner.Extended g.K.Keeper.may_refuse c.args.self.now.session.now c.args.self.now.position c.args.self.now.breakpoints
+    steps-broken manner.Extended g.K.Keeper.may_refuse c.args.self.now.session.now c.args.self.now.position c.args.self.now.breakpoints c.args.self.now.quiet
     (makes_until c.args.cycles) (λ e. ending_line (unhit e)) (Cycles c.args.cycles ∷ []) most_count (λ n. n) (W.written c.args.out.now)
     (W.written c.grow.new.out)
     (λ answers additions. refl) (rw c.of_one-breakpoints.ensures at (c.in-Err.ensures.growth told))

@@ -7,4 +7,4 @@ pub returns-clause-brings : goal.returns-clause-brings
 unfolding answer reply history
 returns-clause-brings g c = λ m answers additions.
     let looks = c.last_change.ensures.looked in
-    rw (c.last_line.ensures, c.last_change.ensures.last, looks.session.scenario, looks.session.steps, looks.position, looks.breakpoints) refl
+    rw (c.last_line.ensures, c.last_change.ensures.last, looks.session.scenario, looks.session.steps, looks.position, looks.breakpoints, looks.quiet) refl

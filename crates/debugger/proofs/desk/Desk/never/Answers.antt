@@ -54,6 +54,7 @@ returns-clause-looked g c =
       };
       position = looks.position;
       breakpoints = looks.breakpoints;
+      quiet = looks.quiet;
       same = record {
         lent = looks.same.lent;
         symbols = looks.same.symbols;

@@ -18,7 +18,7 @@ returns-clause-executes g c = λ told.
     let scene : t.scenario ≡ s.scenario = looked.scenario ∙ c.grow.ensures.scenario in
     let at : c.steps-self.result ≡ t.n = omega arith in
     let made = c.in_ok-ending.ensures.growth told in
-    rw (looks.position, looks.breakpoints) (steps-told c.args.manner g.K.Keeper.may_refuse s c.args.self.now.position c.args.self.now.breakpoints
+    rw (looks.position, looks.breakpoints, looks.quiet) (steps-told c.args.manner g.K.Keeper.may_refuse s c.args.self.now.position c.args.self.now.breakpoints c.args.self.now.quiet
     (to_request c.args.manner (Known (Run c.args.steps))) ending_line c.args.self.now.breakpoints c.args.steps (λ n. n) t
     c.steps-self.result c.in_ok-ending.ending (W.written c.args.out.now) (W.written c.grow.new.out) (W.written c.tell_ending.new.out)
     c.tell_ending.result
@@ -29,7 +29,7 @@ unfolding answer reply
 returns-in_err-ending-clause-executes g c = λ told.
     let W = g.W.Write in
     let p = err_from_is_err_and c.from_residual.result c.from_residual.ensures.1 in
-    rw p.1 (steps-broken c.args.manner g.K.Keeper.may_refuse c.args.self.now.session.now c.args.self.now.position c.args.self.now.breakpoints
+    rw p.1 (steps-broken c.args.manner g.K.Keeper.may_refuse c.args.self.now.session.now c.args.self.now.position c.args.self.now.breakpoints c.args.self.now.quiet
     (to_request c.args.manner (Known (Run c.args.steps))) ending_line c.args.self.now.breakpoints c.args.steps (λ n. n)
     (W.written c.args.out.now) (W.written c.grow.new.out)
     (λ answers additions. refl) (c.in_err-ending.ensures.growth told))

@@ -21,7 +21,7 @@ returns-clause-executes g c = λ told.
     ≡ min (c.args.self.now.position + c.args.steps) t.n
     = (let m = c.min.ensures in let n = c.tell_ending.ensures.looked.session.steps in let v = c.steps-2.ensures.value in omega arith) in
     let made = rw (more, c.new.ensures) at (c.in_ok-ending.ensures.growth told) in
-    rw (looks.position, looks.breakpoints) (steps-told c.args.manner g.K.Keeper.may_refuse s c.args.self.now.position c.args.self.now.breakpoints
+    rw (looks.position, looks.breakpoints, looks.quiet) (steps-told c.args.manner g.K.Keeper.may_refuse s c.args.self.now.position c.args.self.now.breakpoints c.args.self.now.quiet
     (to_request c.args.manner (Known (Step c.args.steps))) ending_line []
     (c.args.self.now.position + c.args.steps - c.args.self.now.session.now.n) (λ n. min (c.args.self.now.position + c.args.steps) n) t
     (c.args.self.now.position + c.min.result) c.in_ok-ending.ending (W.written c.args.out.now) (W.written c.grow.new.out)
@@ -34,7 +34,7 @@ returns-in_err-ending-clause-executes g c = λ told.
     let W = g.W.Write in
     let more : c.saturating_sub-more.result ≡ c.args.self.now.position + c.args.steps - c.args.self.now.session.now.n = omega arith in
     let p = err_from_is_err_and c.from_residual.result c.from_residual.ensures.1 in
-    rw p.1 (steps-broken c.args.manner g.K.Keeper.may_refuse c.args.self.now.session.now c.args.self.now.position c.args.self.now.breakpoints
+    rw p.1 (steps-broken c.args.manner g.K.Keeper.may_refuse c.args.self.now.session.now c.args.self.now.position c.args.self.now.breakpoints c.args.self.now.quiet
     (to_request c.args.manner (Known (Step c.args.steps))) ending_line []
     (c.args.self.now.position + c.args.steps - c.args.self.now.session.now.n) (λ n. min (c.args.self.now.position + c.args.steps) n)
     (W.written c.args.out.now) (W.written c.grow.new.out)

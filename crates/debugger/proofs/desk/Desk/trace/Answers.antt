@@ -19,5 +19,6 @@ returns-clause-looked g c =
       };
       position = refl;
       breakpoints = refl;
+      quiet = refl;
       same = record { lent = refl; symbols = refl; rows = refl; first = refl };
     }

@@ -16,7 +16,7 @@ returns-in-Some-clause-executes g c = λ told.
     let steps = shown.steps ∙ looked.steps in
     let some : first_at (history s.scenario) s.n c.args.cycles ≡ Some c.in-Some.step = sym c.first_at.ensures.first ∙ c.in-Some.is in
     replies-text g.K.Keeper.may_refuse _ _ _ _ _ c.position_text.result.items _ _
-    (λ answers additions. rw (some, scene, steps, shows.position, shows.breakpoints, c.position_text.ensures.text, looked.scenario) refl) c.as_slice.ensures.value
+    (λ answers additions. rw (some, scene, steps, shows.position, shows.breakpoints, shows.quiet, c.position_text.ensures.text, looked.scenario) refl) c.as_slice.ensures.value
     (c.write_all.ensures.written told)
 
 pub returns-in-None-clause-executes : goal.returns-in-None-clause-executes

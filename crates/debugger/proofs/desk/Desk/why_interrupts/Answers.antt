@@ -11,7 +11,7 @@ use Rattle.debugger.proofs.desk.Desk.why_interrupts.Goals as goal
 pub returns-in-Some-clause-executes : goal.returns-in-Some-clause-executes
 unfolding interrupts_told
 returns-in-Some-clause-executes g c = λ told.
-    let d = desk c.args.self.now.session.now c.args.self.now.position c.args.self.now.breakpoints in
+    let d = desk c.args.self.now.session.now c.args.self.now.position c.args.self.now.breakpoints c.args.self.now.quiet in
     replies_trying g.K.Keeper.may_refuse (tells_interrupts c.args.subject) d d (Some 0) _ _
     (interrupts_told d.scenario d.position (subject_spots c.args.subject)) _ _ (λ answers additions. refl)
     (c.as_slice.ensures.value ∙ c.levels_text.ensures ∙ ap (levels_from 0 0) c.levels.ensures.value
@@ -19,6 +19,6 @@ returns-in-Some-clause-executes g c = λ told.
 
 pub returns-in-None-clause-executes : goal.returns-in-None-clause-executes
 returns-in-None-clause-executes g c = λ told.
-    let d = desk c.args.self.now.session.now c.args.self.now.position c.args.self.now.breakpoints in
+    let d = desk c.args.self.now.session.now c.args.self.now.position c.args.self.now.breakpoints c.args.self.now.quiet in
     replies_trying g.K.Keeper.may_refuse (tells_interrupts c.args.subject) d d None _ _ (line (codes "E2 MEMORY")) _ _
     (λ answers additions. refl) (c.as_slice-in-None.ensures.value ∙ c.text_line.ensures.items) (c.write_all-in-None.ensures.written told)

@@ -1,12 +1,11 @@
-use Rattle.std.proofs.Common.{◌≡◌, ◌+◌, ◌-◌, ◌∙◌, ℕ, arith, refl, rules, subst, sym}
+use Rattle.std.proofs.Common.{◌≡◌, ◌+◌, ◌-◌, ℕ, arith, refl, rules, subst}
 use Rattle.cpu.specs.Bursts.{IsQuiet}
-use Rattle.cover.proofs.Counting.{few_cycles, state_more}
+use Rattle.cpu.proofs.Turns.{few_cycles, state_more}
 use Rattle.delays.proofs.Measuring.{measures_more, small}
 use Rattle.delays.proofs.tally.Delays.make_quiet.Goals as goal
 
 pub step_plain-requires-clause-cycles : goal.step_plain-requires-clause-cycles
-step_plain-requires-clause-cycles c = few_cycles c.args.processor.now.scenario c.loop-at.at _ c.loop-at.invariant.state
-    (omega (arith, c.loop-at-test.true))
+step_plain-requires-clause-cycles c = few_cycles _ _ _ c.loop-at.invariant.state (omega (arith, c.loop-at-test.true))
 
 pub step_plain-requires-clause-small : goal.step_plain-requires-clause-small
 step_plain-requires-clause-small c = small c.args.processor.now.scenario c.loop-at.at _ (omega (arith, c.loop-at-test.true))

@@ -1,8 +1,8 @@
-use Rattle.std.proofs.Common.{◌≡◌, ◌≤◌, ◌+◌, ◌-◌, ◌∙◌, List, refl, ap, arith}
+use Rattle.std.proofs.Common.{◌-◌, ◌∙◌, List, refl, ap, arith}
 use Rattle.std.specs.Option.{option_to_list}
-use Rattle.differ.specs.MainSteps.{MainStep, Side}
+use Rattle.differ.specs.MainSteps.{MainStep}
 use Rattle.differ.proofs.Sides.{fill_more, within_more}
-use Rattle.differ.proofs.Steps.{few_cycles, fits_after, state_more}
+use Rattle.cpu.proofs.Turns.{few_cycles, fits_after, state_more}
 use Rattle.differ.proofs.side.Window.fill.Goals as goal
 
 pub loop-number-init : goal.loop-number-init
@@ -17,13 +17,11 @@ loop-number-init c = record {
 }
 
 pub make_main_step-step-requires-clause-cycles : goal.make_main_step-step-requires-clause-cycles
-make_main_step-step-requires-clause-cycles c =
-    few_cycles c.args.processor.now.scenario c.loop-number.self.done _ c.loop-number.invariant.machine
+make_main_step-step-requires-clause-cycles c = few_cycles _ _ _ c.loop-number.invariant.machine
     (omega (arith, c.if-self-steps.true, c.requires.few))
 
 pub make_main_step-step-requires-clause-fits : goal.make_main_step-step-requires-clause-fits
-make_main_step-step-requires-clause-fits c = fits_after c.args.processor.now.scenario _ c.loop-number.self.done _
-    c.loop-number.invariant.scenario c.loop-number.invariant.machine
+make_main_step-step-requires-clause-fits c = fits_after _ _ _ _ c.loop-number.invariant.scenario c.loop-number.invariant.machine
 
 pub loop-number-preserved : goal.loop-number-preserved
 loop-number-preserved c =

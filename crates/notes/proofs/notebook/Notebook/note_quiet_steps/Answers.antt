@@ -1,7 +1,7 @@
-use Rattle.std.proofs.Common.{◌≡◌, ◌+◌, ◌-◌, ◌∙◌, ℕ, arith, refl, rules, subst, sym}
+use Rattle.std.proofs.Common.{◌≡◌, ◌+◌, ◌-◌, ℕ, arith, refl, rules, subst, sym}
 use Rattle.cpu.specs.Bursts.{IsQuiet}
 use Rattle.cpu.proofs.SilentLaws.{out_next, silent_more, silent_none, state_next}
-use Rattle.cover.proofs.Counting.{few_cycles}
+use Rattle.cpu.proofs.Turns.{few_cycles}
 use Rattle.notes.proofs.Counting.{counted_next, small}
 use Rattle.notes.proofs.notebook.Notebook.note_quiet_steps.Goals as goal
 
@@ -16,8 +16,7 @@ loop-at-init c = record {
 }
 
 pub make_plain-requires-clause-cycles : goal.make_plain-requires-clause-cycles
-make_plain-requires-clause-cycles c = few_cycles c.args.processor.now.scenario c.loop-at.at _ c.loop-at.invariant.state
-    (omega (arith, c.loop-at-test.true))
+make_plain-requires-clause-cycles c = few_cycles _ _ _ c.loop-at.invariant.state (omega (arith, c.loop-at-test.true))
 
 pub make_plain-requires-clause-small : goal.make_plain-requires-clause-small
 make_plain-requires-clause-small c =

@@ -1,15 +1,14 @@
 use Rattle.std.proofs.Common.{◌≡◌, ◌∙◌, ℕ, arith, subst}
-use Rattle.cover.proofs.Counting.{few_cycles, fits_after, state_more}
+use Rattle.cpu.proofs.Turns.{few_cycles, fits_after, state_more}
 use Rattle.reach.specs.Executed.{HasExecuted}
 use Rattle.reach.proofs.Executing.{executed_by}
 use Rattle.reach.proofs.executed.Executed.make_steps.Goals as goal
 
 pub step-requires-clause-cycles : goal.step-requires-clause-cycles
-step-requires-clause-cycles c = few_cycles c.args.processor.now.scenario c.loop.counter _ c.loop.invariant.state
-    (omega (arith, c.loop-test.true))
+step-requires-clause-cycles c = few_cycles _ _ _ c.loop.invariant.state (omega (arith, c.loop-test.true))
 
 pub step-requires-clause-fits : goal.step-requires-clause-fits
-step-requires-clause-fits c = fits_after c.args.processor.now.scenario _ c.loop.counter _ c.loop.invariant.scenario c.loop.invariant.state
+step-requires-clause-fits c = fits_after _ _ _ _ c.loop.invariant.scenario c.loop.invariant.state
 
 pub loop-preserved : goal.loop-preserved
 loop-preserved c = record {

@@ -1,14 +1,13 @@
-use Rattle.std.proofs.Common.{◌∙◌, refl, arith}
-use Rattle.whatif.proofs.Steps.{few_cycles, fits_after, looked_more, state_more}
+use Rattle.std.proofs.Common.{◌∙◌, arith}
+use Rattle.cpu.proofs.Turns.{few_cycles, fits_after, state_more}
+use Rattle.whatif.proofs.Steps.{looked_more}
 use Rattle.whatif.proofs.going.Going.go_on.Goals as goal
 
 pub look-requires-clause-cycles : goal.look-requires-clause-cycles
-look-requires-clause-cycles g c = few_cycles c.args.processor.now.scenario c.loop.counter _ c.loop.invariant.machine
-    (omega (arith, c.loop-test.true, c.requires.few))
+look-requires-clause-cycles g c = few_cycles _ _ _ c.loop.invariant.machine (omega (arith, c.loop-test.true, c.requires.few))
 
 pub look-requires-clause-fits : goal.look-requires-clause-fits
-look-requires-clause-fits g c = fits_after c.args.processor.now.scenario _ c.loop.counter _ c.loop.invariant.scenario
-    c.loop.invariant.machine
+look-requires-clause-fits g c = fits_after _ _ _ _ c.loop.invariant.scenario c.loop.invariant.machine
 
 pub loop-preserved : goal.loop-preserved
 loop-preserved g c = record {

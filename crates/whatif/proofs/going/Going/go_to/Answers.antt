@@ -1,15 +1,15 @@
-use Rattle.std.proofs.Common.{◌∙◌, refl, arith}
+use Rattle.std.proofs.Common.{◌∙◌, arith}
 use Rattle.whatif.proofs.Rising.{before_more}
-use Rattle.whatif.proofs.Steps.{few_cycles, fits_after, looked_more, state_more}
+use Rattle.cpu.proofs.Turns.{few_cycles, fits_after, state_more}
+use Rattle.whatif.proofs.Steps.{looked_more}
 use Rattle.whatif.proofs.going.Going.go_to.Goals as goal
 
 pub look-requires-clause-cycles : goal.look-requires-clause-cycles
-look-requires-clause-cycles g c = few_cycles c.args.processor.now.scenario c.loop-done.done _ c.loop-done.invariant.machine
+look-requires-clause-cycles g c = few_cycles _ _ _ c.loop-done.invariant.machine
     (omega (arith, c.loop-done.invariant.within, c.requires.few))
 
 pub look-requires-clause-fits : goal.look-requires-clause-fits
-look-requires-clause-fits g c = fits_after c.args.processor.now.scenario _ c.loop-done.done _ c.loop-done.invariant.scenario
-    c.loop-done.invariant.machine
+look-requires-clause-fits g c = fits_after _ _ _ _ c.loop-done.invariant.scenario c.loop-done.invariant.machine
 
 pub loop-done-preserved : goal.loop-done-preserved
 loop-done-preserved g c = record {

@@ -5,7 +5,7 @@ use Rattle.yayul.specs.Words.{word_faults}
 use Rattle.yayul.specs.Inside.Representation.{request_of}
 use Rattle.yayul.specs.Inside.Waiting.{Holds}
 use Rattle.yayul.proofs.NoneWaits.{holds-end, none-least}
-use Rattle.yayul.proofs.RowTexts.{from_one}
+use Rattle.words.proofs.Writing.{from_one}
 use Rattle.yayul.proofs.PatchedRequest.{holds-patched, stands-waiting, within-waiting}
 use Rattle.yayul.proofs.layout.Placing.complete.Goals as goal
 use Rattle.yayul.proofs.layout.Placing.complete.Given.{Over}

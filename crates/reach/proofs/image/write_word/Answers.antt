@@ -1,7 +1,0 @@
-use Rattle.words.proofs.Texts.{Writes-after}
-use Rattle.reach.proofs.image.write_word.Goals as goal
-
-pub returns-clause-written : goal.returns-clause-written
-returns-clause-written g c = λ told.
-    Writes-after _ _ _ _ _ c.write_line.result (c.in_ok-write.ensures.written told)
-    (c.write_line.ensures.written told)

@@ -1,0 +1,130 @@
+//! Making the steps of a run slice by slice, whatever an engine makes of them.
+
+ghost use Rattle.std.specs.Prelude.{◌≡◌, ◌+◌, ◌-◌, ◌<◌, ◌≤◌, ◌^◌, ℕ, Bool, List, [], true, false, IfOk, OnErr, OnOk};
+ghost use Rattle.words.specs.Devices.{Writes, failures_after};
+ghost use Rattle.cpu.specs.Run.{run};
+ghost use Rattle.cpu.specs.State.{Scenario, start};
+ghost use Rattle.workshop.specs.Failures.{writer};
+ghost use Rattle.workshop.specs.Progress.{TellsAll, telling};
+ghost use Rattle.workshop.specs.Stepping.{Grows, TellsSteps, WritesOn};
+
+use crate::engine::{STEPS_BETWEEN_FLUSHES, hand_on};
+use crate::progress::{Unheard, tell};
+use cpu::{Machine, Processor};
+use words::{Write, WriteFailed};
+
+/// What makes the steps of a run, and of them what an engine tells: a text that is written while they are made, or
+/// figures.
+pub(crate) trait Stepper {
+    /// What no step changes of it.
+    type Kept;
+
+    /// Whether it is known to make no other steps.
+    ghost metered: { Bool } = { false };
+
+    /// What no step changes of it.
+    ghost kept: { Self → Self.Kept };
+
+    /// How it stands after so many steps of a run.
+    ghost Stands: { Self.Kept → Scenario → ℕ → Self → Type 0 };
+
+    /// The text of so many steps.
+    ghost text: { Self.Kept → Scenario → ℕ → List ℕ };
+
+    /// Makes one or more of the steps behind step `done`, none behind step `stop`, and writes their text. Answers how
+    /// many the run has made then.
+    fn go_on<W: Write>(
+        &mut self,
+        processor: &mut Processor,
+        machine: &mut Machine,
+        done: u64,
+        stop: u64,
+        out: &mut W,
+    ) -> Result<u64, WriteFailed>
+        requires order { done < stop }
+        requires few { stop ≤ 2 ^ 40 }
+        requires state { machine.old ≡ run processor.old.scenario done }
+        requires stands { Stands (kept self.old) processor.old.scenario done self.old }
+        ensures past { IfOk result (λ to. done < to) }
+        ensures within { IfOk result (λ to. to ≤ stop) }
+        ensures scenario { processor.new.scenario ≡ processor.old.scenario }
+        ensures kept { OnOk result (kept self.new ≡ kept self.old) }
+        ensures state { IfOk result (λ to. machine.new ≡ run processor.old.scenario to) }
+        ensures stands { IfOk result (λ to. Stands (kept self.old) processor.old.scenario to self.new) }
+        ensures written { WritesOn (text (kept self.old) processor.old.scenario) done stop
+            (writer W.told W.written W.failures out.old) (writer W.told W.written W.failures out.new) result }
+        ensures meter { metered ≡ true →
+            IfOk result (λ to. processor.new.meter + done ≤ processor.old.meter + to) }
+        ensures broken { metered ≡ true → OnErr result (processor.new.meter ≤ processor.old.meter + 1) };
+}
+
+/// Makes some steps from the start slice by slice: what was written of a slice is handed on, so that the lines of a
+/// long run are seen, and stand where it is broken off; and then it is told how many steps were made.
+pub(crate) fn run_all<S: Stepper, W: Write, T: Write>(
+    stepper: &mut S,
+    processor: &mut Processor,
+    machine: &mut Machine,
+    steps: u64,
+    out: &mut W,
+    progress: &mut T,
+) -> Result<(), WriteFailed>
+    requires few { steps ≤ 2 ^ 40 - 2 }
+    requires start { machine.old ≡ start }
+    requires none { S.Stands (S.kept stepper.old) processor.old.scenario 0 stepper.old }
+    requires grows { Grows (S.text (S.kept stepper.old) processor.old.scenario) }
+    ensures scenario { processor.new.scenario ≡ processor.old.scenario }
+    ensures kept { OnOk result (S.kept stepper.new ≡ S.kept stepper.old) }
+    ensures state { OnOk result (machine.new ≡ run processor.old.scenario steps) }
+    ensures stands { OnOk result (S.Stands (S.kept stepper.old) processor.old.scenario steps stepper.new) }
+    ensures written { W.told ≡ true → Writes (W.written out.old) (W.written out.new)
+        (S.text (S.kept stepper.old) processor.old.scenario steps) result }
+    ensures failures { W.failures out.new ≡ failures_after (W.failures out.old) result }
+    ensures handed_on { W.told ≡ true → 0 < steps → OnOk result (W.handed_on out.new ≡ W.written out.new) }
+    ensures progress { TellsSteps (S.text (S.kept stepper.old) processor.old.scenario) steps
+        (telling (writer W.told W.written W.failures out.old) (writer T.told T.written T.failures progress.old))
+        (telling (writer W.told W.written W.failures out.new) (writer T.told T.written T.failures progress.new))
+        result }
+    ensures meter { S.metered ≡ true → processor.new.meter ≤ processor.old.meter + steps }
+{
+    let mut told = Ok(());
+    let mut done = 0;
+    while done < steps {
+        let stop = steps.min(done + STEPS_BETWEEN_FLUSHES);
+        while done < stop {
+            let made = stepper.go_on(processor, machine, done, stop, out)?;
+            done = made;
+        }
+        hand_on(out)?;
+        told = tell(told, done, progress);
+    }
+    Ok(())
+}
+
+/// The same where nothing is written while the steps are made. Answers their cycles.
+pub(crate) fn count_all<S: Stepper, T: Write>(
+    stepper: &mut S,
+    processor: &mut Processor,
+    steps: u64,
+    progress: &mut T,
+) -> u64
+    requires few { steps ≤ 2 ^ 40 - 2 }
+    requires none { S.Stands (S.kept stepper.old) processor.old.scenario 0 stepper.old }
+    requires silent { (n : ℕ) → S.text (S.kept stepper.old) processor.old.scenario n ≡ [] }
+    ensures scenario { processor.new.scenario ≡ processor.old.scenario }
+    ensures kept { S.kept stepper.new ≡ S.kept stepper.old }
+    ensures stands { S.Stands (S.kept stepper.old) processor.old.scenario steps stepper.new }
+    ensures cycles { result ≡ (run processor.old.scenario steps).cycles }
+    ensures progress { TellsAll steps (writer T.told T.written T.failures progress.old)
+        (writer T.told T.written T.failures progress.new) }
+{
+    let mut machine = Machine::start();
+    let _ = run_all(
+        stepper,
+        processor,
+        &mut machine,
+        steps,
+        &mut Unheard,
+        progress,
+    );
+    machine.cycles()
+}
