@@ -609,7 +609,7 @@ async function command(text) {
   if (!S.isBuilt) { panes.console.told([T.hasFaults]); return; }
   const told = await during(() => session.console(text));
   if (told === "stopped") { panes.console.told([T.stopped]); return; }
-  panes.console.told(told.refused ? [T.noQuit] : told.lines);
+  panes.console.told(told.refused ? [T.notHere[told.refused]] : told.lines);
   if (told.feed != null && told.feed !== S.builtFeed) setFeed(told.feed);
   take(await session.look());
 }

@@ -27,6 +27,8 @@ export interface Options {
     memory?: number;
     /** The most bytes that it may write to its streams, of a session for each reply; else 67,108,864. Beyond, it is ended, and `failed` says so. */
     most?: number;
+    /** A stream that is thrown away: what is written there is not told, and is none of `most`. */
+    unheard?: 'output' | 'errors';
     /** Whether `output` and `errors` are Uint8Array, here and for `told`. */
     bytes?: boolean;
 }

@@ -1,8 +1,8 @@
 // Calls and sessions of agcws, for pages: by the module, in workers of the page, or by the native program behind a
 // server. README.md has the interface. Nothing is kept here beside what an engine holds.
 //
-// Both engines speak in the same messages of a run. To it: {words, files, input, memory, most} begins it, where input is
-// null of a session; then {lines} or {end: true}. From it: {output} and {errors}, bytes; {waits: true}, where all that it
+// Both engines speak in the same messages of a run. To it: {words, files, input, memory, most, unheard} begins it, where input
+// is null of a session; then {lines} or {end: true}. From it: {output} and {errors}, bytes; {waits: true}, where all that it
 // was given is answered; and last {status, files, asked, seconds} or {failed, seconds}, where asked tells that its input
 // was at its end when it asked for more.
 import {aboutOf, callsOf, Inode, Files, Linux, run} from './module/host.js';
@@ -41,11 +41,15 @@ function work() {
     }
 
     function output(fd, bytes) {
+        const name = fd === 1 ? 'output' : 'errors';
+        if (name === begun.unheard) {
+            return 0;
+        }
         written += bytes.length;
         if (written > begun.most) {
             throw new Error(`it has written more than ${begun.most} bytes`);
         }
-        held[fd === 1 ? 'output' : 'errors'].push(bytes);
+        held[name].push(bytes);
         heldBytes += bytes.length;
         if (heldBytes >= TOLD_BYTES || now() - toldAt >= TOLD_SECONDS) {
             tell();
@@ -261,6 +265,9 @@ class Written {
 
     /** Takes some that came, and tells it. */
     take(message) {
+        if (!this.keeps && !this.told) {
+            return;
+        }
         const news = {output: this.all([]), errors: this.all([])};
         for (const name of STREAMS.filter(it => message[it])) {
             news[name] = this.part(name, message[name], true);
@@ -281,9 +288,9 @@ const isWritten = message => STREAMS.some(it => message[it]);
 const isEnd = message => 'status' in message || 'failed' in message;
 
 /** What tells a run how to begin. */
-function beginningOf(words, files, input, {memory = MOST_MEMORY, most = MOST_WRITTEN}) {
+function beginningOf(words, files, input, {memory = MOST_MEMORY, most = MOST_WRITTEN, unheard = ''}) {
     const given = new Map(Object.entries(files).map(([name, it]) => [name, bytesOf(it)]));
-    return {words: words.map(String), files: given, input, memory, most};
+    return {words: words.map(String), files: given, input, memory, most, unheard};
 }
 
 /** How a run has ended, by its last message. */
@@ -402,7 +409,11 @@ function engineOf(runs, about, waits) {
 }
 
 function bytesOfBase64(text) {
-    return Uint8Array.from(atob(text.trim()), it => it.charCodeAt(0));
+    const found = atob(text.trim()), bytes = new Uint8Array(found.length);
+    for (let at = 0; at < found.length; at += 1) {
+        bytes[at] = found.charCodeAt(at);
+    }
+    return bytes;
 }
 
 function base64Of(bytes) {
@@ -424,7 +435,14 @@ export function moduleEngine(source, {waits = typeof WebAssembly.Suspending === 
     return engineOf(workers, about, waits);
 }
 
-/** The runs of a server, over one socket. Bytes are base64 there, and each message has the number of its run. */
+/** The message of what a run has written, of its bytes: the number of the run, the stream, and the rest. */
+function writtenIn(data) {
+    const head = new DataView(data);
+    return {id: head.getUint32(0), [STREAMS[head.getUint8(4)]]: new Uint8Array(data, 5)};
+}
+
+/** The runs of a server, over one socket. Each message has the number of its run, and is JSON, where bytes are base64; what a
+ * run has written comes as bytes. */
 class Connection {
     constructor(url) {
         [this.runs, this.count, this.socket] = [new Map(), 0, new WebSocket(url)];
@@ -432,7 +450,8 @@ class Connection {
             [this.told, this.gone] = [done, fail];
         });
         this.about.catch(() => {});
-        this.socket.onmessage = ({data}) => this.receive(JSON.parse(data));
+        this.socket.binaryType = 'arraybuffer';
+        this.socket.onmessage = ({data}) => this.receive(typeof data === 'string' ? JSON.parse(data) : writtenIn(data));
         this.socket.onclose = () => this.lose();
     }
 
@@ -440,9 +459,6 @@ class Connection {
         if (about) {
             this.told({...about, kind: 'program', waits: true});
             return;
-        }
-        for (const name of STREAMS.filter(it => message[it] !== undefined)) {
-            message[name] = bytesOfBase64(message[name]);
         }
         if (message.files) {
             message.files = new Map(Object.entries(message.files).map(([name, it]) => [name, bytesOfBase64(it)]));

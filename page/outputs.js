@@ -1,7 +1,8 @@
 // The words that a run has put out, bounded: the last of them, their number, and what the display shows after any cycle.
 const MOST_KEPT = 50_000;
 const DISPLAYED = [0o10, 0o11];
-const LINE = /(\d+) CH ([0-7]{3}) ([0-7]{5})\n/y;
+// The end of a channel line, after its cycles: a channel of three digits and a word of five.
+const END = " CH 000 00000\n".length, ZERO = 48;
 
 // The relays of each digit, by five bits, and what each row of them sets: the sign, and the left and the right digit.
 const DIGITS = new Map([[0o00, " "], [0o25, "0"], [0o03, "1"], [0o31, "2"], [0o33, "3"], [0o17, "4"], [0o36, "5"], [0o34, "6"], [0o23, "7"], [0o35, "8"], [0o37, "9"]]);
@@ -41,10 +42,15 @@ export class Outputs {
   constructor() { Object.assign(this, { cycles: [], channels: [], words: [], count: 0, rows: new Map(), used: new Set() }); }
   // Takes the channel lines with which a reply begins, and returns what follows them.
   take(text) {
-    LINE.lastIndex = 0;
+    const digit = (at) => text.charCodeAt(at) - ZERO, octalAt = (from, to) => { let number = 0; for (let at = from; at < to; at += 1) number = number * 8 + digit(at); return number; };
     let end = 0;
-    for (let found; (found = LINE.exec(text)); end = LINE.lastIndex) this.put(Number(found[1]), parseInt(found[2], 8), parseInt(found[3], 8));
-    return end ? text.slice(end) : text;
+    for (;;) {
+      let at = end, cycles = 0;
+      for (let it; (it = digit(at)) >= 0 && it <= 9; at += 1) cycles = cycles * 10 + it;
+      if (at === end || !text.startsWith(" CH ", at)) return end ? text.slice(end) : text;
+      this.put(cycles, octalAt(at + 4, at + 7), octalAt(at + 8, at + 13));
+      end = at + END;
+    }
   }
   put(cycles, channel, word) {
     this.cycles.push(cycles); this.channels.push(channel); this.words.push(word);

@@ -64,7 +64,7 @@ export class Put {
       body.append(el("tr", { "data-cycles": it.cycles, "data-channel": name, tabindex: -1, class: it.cycles > cycles ? "later" : "", title: `${formsOf(word, T.forms)}\n${T.clickWhy}` }, el("td", {}, group(it.cycles)), el("td", {}, timeOf(it.cycles)), el("td", {}, name), el("td", { class: "out" }, word), el("td", {}, decimalOf(word))));
     }
     root.replaceChildren(made);
-    if (outputs.count > some.length) root.append(el("p", { class: "empty-tab" }, T.putShown(some.length, group(outputs.count))));
+    if (outputs.count > some.length) root.append(el("p", { class: "empty-tab" }, (outputs.first && cycles < outputs.cycles[0] ? T.putKept : T.putShown)(some.length, group(outputs.count))));
     const past = [...body.querySelectorAll("tr:not(.later)")].pop();
     past?.classList.add("at");
     reachable(root, "tbody tr", ".at");

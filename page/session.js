@@ -26,12 +26,13 @@ const VECTORS = [0o4004, 0o4010, 0o4014, 0o4020, 0o4024, 0o4030, 0o4034, 0o4040,
 
 export class Ended extends Error {}
 
-// One session of the debugger.
+// One session of the debugger. Of all but the run's own nobody reads the words that new steps put out, so they are counted there.
 class Line {
-  constructor(engine, words, files) {
+  constructor(engine, words, files, isRun = false) {
     this.session = engine.session(["debug", "--extended", ...words], files, { most: 1 << 30 });
     Object.assign(this, { n: 0, at: 0, cycles: 0, since: 0, isOver: false });
     this.session.over.then(() => { this.isOver = true; });
+    if (!isRun) this.session.send("quiet on");
   }
   // The replies to some commands, a text for each.
   async ask(...commands) {
@@ -196,7 +197,7 @@ export class Session {
       this.at = new Map();
       for (const it of this.rows) if (it.word && !this.at.has(it.place)) this.at.set(it.place, it);
       this.vectors = VECTORS.filter((it) => this.at.has(`02,${octalPlace(it)}`));
-      this.main = new Line(this.engine, this.words, this.files);
+      this.main = new Line(this.engine, this.words, this.files, true);
       const [help] = await this.main.ask("help");
       this.forms = linesOf(help).map((it) => it.replace("HELP ", ""));
       this.has = new Set(this.forms.map((it) => it.split(" ")[0]));
@@ -238,7 +239,7 @@ export class Session {
     this.main?.end();
     this.drop();
     this.outputs = new Outputs();
-    const line = this.main = new Line(this.engine, this.words, this.files);
+    const line = this.main = new Line(this.engine, this.words, this.files, true);
     this.n = 0; this.p = 0;
     await line.ask(...breaks.map((it) => `break ${it}`));
     const mine = this.turn;
@@ -523,7 +524,8 @@ export class Session {
   console(text) {
     this.turn += 1;
     return this.alone(() => this.guarded(async () => {
-      if (/^\s*quit\b/.test(text)) return { lines: [], refused: true };
+      const refused = /^\s*(quit|quiet)\b/.exec(text);
+      if (refused) return { lines: [], refused: refused[1] };
       await this.atPosition();
       const [reply] = await this.main.ask(text);
       const shown = linesOf(reply);
@@ -555,7 +557,7 @@ export class Session {
   async notes() {
     const { number } = this;
     if (this.n > MOST_NOTED) return [];
-    const told = await this.beside("notes", ["run", "--notes", "--json", ...this.words, String(this.n)]);
+    const told = await this.beside("notes", ["run", "--notes", "--json", ...this.words, String(this.n)], this.files, { unheard: "output" });
     if (!told || told.status || number !== this.number) return null;
     return objectsOf(told.errors).map((it) => ({ kind: it.kind, step: it.step ?? this.n, times: it.count || 1, line: this.at.get(it.place)?.line || 0, text: it.text || it.interrupt || (it.channel ? `CH${it.channel}` : "") }));
   }
@@ -596,7 +598,7 @@ export class Session {
   async lineAt(which, step, isOver) {
     if (!this[which] || this[which].isOver) this[which] = new Line(this.engine, this.words, this.files);
     const line = this[which];
-    await line.ask("clear");
+    await line.ask("clear", "quiet on");
     while (line.n < step) {
       if (which === "surveyor") await this.leisure(isOver);
       const size = Math.min(step - line.n, 1 << 22);
@@ -668,7 +670,8 @@ export class Session {
   }
   async sampled(from, to, cell, buckets, isOver, told) {
     const line = await this.surveyorAt(from, isOver), interrupts = [], outputs = [], curve = [], cycles = [], ask = `mem ${cell || "0"}`;
-    await line.ask(...this.vectors.map((it) => `break at ${octalPlace(it)}`), "chan 0");
+    if (isOver()) return null;
+    await line.ask(...this.vectors.map((it) => `break at ${octalPlace(it)}`), "quiet off");
     curve.push([from, /([0-7]{5,6})\s*$/.exec((await line.ask(ask))[0])?.[1] ?? null]);
     let at = from, shown = performance.now(), least = 0;
     const state = () => ({ kind: "sampled", from, to, soFar: at, cell, curve, cycles, interrupts, outputs, inputs: this.inputsNear(cycles), every: Math.round((to - from) / buckets) });
@@ -725,7 +728,7 @@ export class Session {
     const told = { status: ran.status, errors: ran.errors || ran.failed, outputs: [], notes: objectsOf(ran.errors), cells: new Map() };
     for (const [, cycles, channel, word] of ran.output.matchAll(/^(\d+) CH ([0-7]{3}) ([0-7]{5})$/gm)) told.outputs.push({ cycles: Number(cycles), channel: parseInt(channel, 8), word });
     if (places.length && !ran.status) {
-      const given = [`step ${steps}`, ...places.map((it) => `mem ${it}`), "quit", ""].join("\n");
+      const given = ["quiet on", `step ${steps}`, ...places.map((it) => `mem ${it}`), "quit", ""].join("\n");
       const replies = linesOf((await this.engine.call(["debug", "--extended", ...words], files, given)).output);
       places.forEach((it, i) => told.cells.set(it, /([0-7]{5,6})\s*$/.exec(replies[replies.length - places.length + i])?.[1] ?? null));
     }

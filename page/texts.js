@@ -40,9 +40,9 @@ export const T = {
   // The panes below.
   tabs: { steps: "Steps", dsky: "DSKY", output: "Output", memory: "Memory", tests: "Tests", compare: "Two runs", console: "Console" },
   stepHeads: ["step", "cycle", "place", "word", "instruction", "written", "put out", "comment"], noStepsHere: "No steps stand here.", noStepsYet: "The steps around the position stand here, once some are made.", whyThen: (t) => `Why was this so, after step ${t}?`,
-  putHeads: ["cycle", "time", "channel", "word", "decimal"], nothingPut: "Nothing has been put out on a channel.", putShown: (some, all) => `${some} of ${all} words, those around the position.`,
+  putHeads: ["cycle", "time", "channel", "word", "decimal"], nothingPut: "Nothing has been put out on a channel.", putShown: (some, all) => `${some} of ${all} words, those around the position.`, putKept: (some, all) => `${some} of ${all} words, the first that the page still has: those around the position were put out before.`,
   memoryOf: (bank) => `Erasable bank ${bank}`, banks: "Erasable banks", bank: (bank) => `Erasable bank ${bank}`,
-  noQuit: "The session of the page does not end by quit.",
+  notHere: { quit: "The session of the page does not end by quit.", quiet: "The page reads each word that its session puts out." },
   // The DSKY.
   keypad: "Keys of the DSKY", lamps: (list) => (list ? `Lamps lit: ${list}` : "No lamp is lit"), blank: "blank", keysHead: "Each key is an input", keysMade: "Keys, as lines of the feed",
   keysText: "At the end of the run a key comes in on channel 015, and the run goes on for 10 ms; in real time at once. At a step of the past it becomes an input there, and the run is made anew. On the keyboard: digits, + \u2212, V, N, Enter, C, R, K.",

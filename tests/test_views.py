@@ -372,6 +372,15 @@ class Views(ViewCase):
         with self.subTest("a flight source"):
             self.assertEqual(self.talk(["step"], "--flight", f"{EXAMPLES}/flight/downlist.agc", EMPTY)[1][0][:7], "step 1,")
 
+    def test_quiet(self):
+        """A move goes on to its end where words are counted, and tells of each part how many there were."""
+        source = write(f"{self.room}/put.agc", b" SETLOC 4000\nHERE EXTEND\n WRITE 10\n TCF HERE\n")
+        shown = self.talk(["quiet on", "run 300000"], source, EMPTY)
+        with self.subTest("as many words as are put out"):
+            self.assertEqual((shown[1], sum(int(re.fullmatch(r"WORDS (\d+)", it)[1]) for it in shown[2][:-2])), (["QUIET on"], 100_000))
+        with self.subTest("the end of the move"):
+            self.assertTrue(shown[2][-2].startswith("step 300000, cycle "), f"{shown[2][-2:]}")
+
     def test_talk(self):
         """What talk makes of commands, beside what the manual shows of the same run in section 7."""
         shown = self.talk(["goto 0", "r 60", "", "la SUM", "g 42", "mem SUM", "b :16", "seek", "p A L", "clear", "foo", "mem SUMM", "b", "run 5x", "goto 999", "add 5 RUPT 1", "p (", "p FOO", "b :99"], *LOST)

@@ -74,19 +74,22 @@ class Page:
             data = self.read.read(size)
         except (ValueError, OSError):
             return None
+        if first & 15 == 2:
+            number, stream = struct.unpack("!IB", data[:5])
+            return {"id": number, ("output", "errors")[stream]: data[5:]}
         return json.loads(data) if first & 15 == 1 else self.next() if first & 15 == 9 else None
 
-    def begin(self, words, files, given="", most=1 << 26):
+    def begin(self, words, files, given="", most=1 << 26, **more):
         self.count += 1
         files = {name: packed(it) for name, it in files.items()}
-        self.send({"id": self.count, "begin": {"words": words, "files": files, "input": None if given is None else packed(given), "memory": 1 << 28, "most": most}})
+        self.send({"id": self.count, "begin": {"words": words, "files": files, "input": None if given is None else packed(given), "memory": 1 << 28, "most": most, **more}})
         return self.count
 
     def until(self, *names):
         """What was written up to a message with one of these fields, and that message."""
         text = ""
         while (it := self.next()) and not set(names) & set(it):
-            text += base64.b64decode(it.get("output", it.get("errors"))).decode()
+            text += it.get("output", it.get("errors")).decode()
         return text, it
 
     def close(self):
@@ -147,7 +150,7 @@ class Web(ViewCase):
         good = {"words": ["--version"], "files": {}, "input": "", "memory": 0, "most": 100}
         for change in ({"words": "x"}, {"words": ["/etc/passwd"]}, {"words": ["x\0"]}, {"words": ["x"] * 65}, {"files": {"../x": ""}}, {"files": {".": ""}}, {"files": {"x": 5}}, {"files": {"x": "?"}}, {"input": 5}, {"most": "x"}):
             frames.append({"id": 1, "begin": {**good, **change}})
-        for it in [*frames, {"begin": good}, {"id": "x", "begin": good}]:
+        for it in [*frames, {"begin": good}, *({"id": it, "begin": good} for it in ("x", -1, 1 << 32))]:
             page = Page(served)
             page.next()
             page.line.sendall(it) if isinstance(it, bytes) else page.send(it)
@@ -179,6 +182,10 @@ class Web(ViewCase):
         text, end = page.until("status", "failed")
         with self.subTest("what is written is bounded"):
             self.assertTrue(len(text) <= 100000 and "100000 bytes" in end.get("failed", ""), f"{len(text)} {end}")
+        page.begin(["run", "--end", "my.agc", "my.feed", "60000"], {"my.agc": " SETLOC 4000\nHERE EXTEND\n WRITE 10\n TCF HERE\n", "my.feed": ""}, most=1000, unheard="output")
+        text, end = page.until("status", "failed")
+        with self.subTest("a stream that nobody hears"):
+            self.assertTrue(end.get("status") == 0 and " CH " not in text and len(text.splitlines()) == 1, f"{text:.100} {end}")
         number = page.begin(["debug", "--extended", "my.agc", "my.feed"], {"my.agc": ENDLESS, "my.feed": ""}, None)
         page.until("waits")
         for lines, wanted in (("step 1\n", "AT 1 1 02,4000\n"), ("step 1\nstep 1\n", "AT 2 2 02,4000\nAT 3 3 02,4000\n"), ("run 3000000\n", "AT 3000003 3000003 02,4000\n")):

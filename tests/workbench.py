@@ -56,6 +56,8 @@ TRIED_BY = {
 READY = "return document.body.dataset.ready"
 # A program that runs on and on, and changes a word all the time; and one that says nothing but counts in erasable memory.
 ENDLESS = "        SETLOC  100\nCOUNT   ERASE\n        SETLOC  4000\nLOOP    CA      COUNT\n        AD      ONE\n        TS      COUNT\n        TCF     LOOP\n        TCF     LOOP\nONE     OCT     1\n"
+# One that puts out a word at each fifth step.
+TALKING = "        SETLOC  100\nCOUNT   ERASE\n        SETLOC  4000\nLOOP    INCR    COUNT\n        CA      COUNT\n        EXTEND\n        WRITE   5\n        TCF     LOOP\n"
 
 
 def read(path):
@@ -873,6 +875,33 @@ class Long(Workbench):
         self.js("workbench.axis.show([arguments[0] - 20, arguments[0] + 20])", at)
         self.wait("return workbench.axis.survey.kind === 'exact'")
         self.assertEqual(self.js("return workbench.axis.survey.inputs[0]"), [at, "CHAN 015 00021 ASKS KEYRUPT1"])
+
+    def test_words_put_out_are_read_once_and_their_last_are_kept(self):
+        self.js("await workbench.openDoc({name: 'talking.agc', source: arguments[0], steps: 100})", TALKING)
+        took = self.js("const began = performance.now(); await workbench.session.go('step', 999900); return performance.now() - began")
+        figure(f"a million steps with 200,000 words put out: {took:.0f} ms")
+        # (COUNT is the number of the word, by 15 bits without the sign)
+        count, kept, first, last = self.js("const {outputs} = workbench.session, {cycles, channels, words} = outputs; return [outputs.count, cycles.length, ...[0, cycles.length - 1].map(i => [cycles[i], channels[i], words[i]])]")
+        self.assertEqual((count, last), (200_000, [1_599_999, 5, 200_000 % 0o40000]))
+        self.assertGreaterEqual(kept, 50_000)
+        self.assertEqual((last[0] - first[0], first[2]), ((kept - 1) * 8, (count - kept + 1) % 0o40000))
+        self.js("await workbench.seek(1000000)")
+        self.browser.click('[data-tab="output"]')
+        self.wait("return document.querySelector('#tab-output').textContent.includes('200 of 200,000 words')")
+        self.js("await workbench.seek(500000)")
+        self.wait("return document.querySelector('#tab-output').textContent.includes('200 of 200,000 words, the first that the page still has')")
+        # (other sessions over the run count them)
+        self.js("await workbench.session.survey({from: 0, to: 1000000, cell: 'COUNT', buckets: 400})")
+        for which in ("views[0]", "surveyor"):
+            self.assertRegex(self.js(f"const it = workbench.session.{which}; await it.ask(`goto ${{it.n}}`); return (await it.ask('step 20'))[0]"), r"^WORDS 4\nAT \d+ ")
+        # (nor are they read where notes alone are asked for)
+        told = self.js("const {status, output, errors, failed} = await workbench.engine.call(['run', '--end', 'my.agc', 'my.feed', '60000'], {'my.agc': arguments[0], 'my.feed': ''}, '', {unheard: 'output', most: 1000}); return [status, output, errors.split('\\n').length, failed]", TALKING)
+        self.assertEqual(told, [0, "", 2, ""])
+        self.assertEqual(self.js("return await workbench.session.notes()"), [])
+        # (which the run's own cannot be told to do)
+        self.js("document.querySelector('[data-tab=\"console\"]').click(); const field = document.querySelector('#tab-console input'); field.value = 'quiet on'; field.form.requestSubmit()")
+        self.wait("return document.querySelector('#tab-console .log').textContent.includes('reads each word')")
+        self.assertEqual(self.js("await workbench.session.go('run', 10); return workbench.session.outputs.count"), 200_002)
 
     def test_run_goes_to_the_end_first(self):
         self.js("await workbench.seek(20)")

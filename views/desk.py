@@ -83,7 +83,7 @@ class Desk:
         changes = False
         for line in lines:
             first, *rest = line.split() or [""]
-            changes |= first in ("AT", "BREAK", "CLEAR", "ADDED")
+            changes |= first in ("AT", "BREAK", "CLEAR", "ADDED", "QUIET")
             if first == "AT":
                 self.position, self.cycles, self.place = int(rest[0]), int(rest[1]), rest[2]
                 self.made = max(self.made, self.position)
@@ -136,7 +136,7 @@ class Desk:
 
     def move(self, name, count=None):
         """Goes on by a command that takes a number of steps, in parts: the lines of each reply but the AT lines, as they come. Ends where a reply has another
-        line than those of channels, as at a breakpoint, and right after a step that has changed a watched place."""
+        line than those of channels, or than their number, as at a breakpoint, and right after a step that has changed a watched place."""
         left, first, start = count, len(self.kept), self.made if name == "run" else self.position
         begun = self.made if name == "run" else self.position
         seen = self.steps(MOST_STEPS, "--from", str(start + 1)) if self.watched else iter(())
@@ -151,7 +151,7 @@ class Desk:
                 yield lines
                 start += size
                 left = None if left is None else left - size
-                if any(not pipe.output_of(it) for it in lines):
+                if any(not (it.startswith("WORDS ") or pipe.output_of(it)) for it in lines):
                     return
                 if change:
                     yield [change[1]]
@@ -173,7 +173,7 @@ class Desk:
                 lines = [it for it in self.ask(f"until {target}") if not it.startswith("AT ")]
                 self.fit_part(time.monotonic() - at)
                 yield lines
-                if any(not pipe.output_of(it) for it in lines):
+                if any(not (it.startswith("WORDS ") or pipe.output_of(it)) for it in lines):
                     return
         finally:
             # (one command in place of the parts)
