@@ -27,7 +27,7 @@ SUMMING = (passed.sum_of, passed.without_bodies, passed.Sums.texts_of, passed.Su
 TURNS = [
     ["workshop"],
     ["debugger"],
-    ["diagnostics"],
+    ["diagnostics", "warnings", "explain", "near_names"],
     ["yayul"],
     ["cpu"],
     ["commands", "symbols", "agc_text"],

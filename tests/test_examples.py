@@ -23,6 +23,12 @@ def operators_in(sources):
     return {others[0] for source in sources for _, others in map(fields_of, source.split("\n")) if others}
 
 
+def stated_words(line):
+    """The words that the comment of a line begins with."""
+    stated = re.match(r"[^#]*# ([0-7]{5}(?: [0-7]{5})?)(?=:|$)", line)
+    return stated[1].split() if stated else []
+
+
 def headings(name):
     """The headings of a document, as links name them."""
     found = re.findall(r"^#+ (.+)$", text_of(name), re.M)
@@ -42,7 +48,14 @@ class Examples(Case):
             wanted = read(f"{EXAMPLES}/{name}.lst")
             with self.subTest(f"examples/{name}"):
                 self.assertAnswer(agcws("asm", f"{EXAMPLES}/{name}.agc", f"{self.room}/example.rope"), 0, wanted)
-        others = with_ending(".agc") - {row[0] for row in rows} - with_ending(".lst")
+        status, out, err = agcws("asm", f"{EXAMPLES}/operators.agc", f"{self.room}/example.rope")
+        with self.subTest("examples/operators assembles"):
+            self.assertEqual((status, err), (0, b""))
+        made = re.findall(r"^ *(\d+) \d\d,\d{4} ([0-7]{5})", out.decode(), re.M)
+        for number, line in enumerate(text_of("examples/operators.agc").split("\n"), 1):
+            with self.subTest(f"the words of examples/operators, line {number}"):
+                self.assertEqual([word for it, word in made if int(it) == number], stated_words(line))
+        others = with_ending(".agc") - {row[0] for row in rows} - with_ending(".lst") - {"operators"}
         with self.subTest("each example is run or listed"):
             self.assertFalse(others, " ".join(others))
         others = with_ending(".feed") - {row[1].removesuffix(".feed") for row in rows}
@@ -110,17 +123,20 @@ class Examples(Case):
                         self.assertEqual(value, others[1], f"{others[1]} and not {value}")
 
     def test_operators(self):
-        """Each operator of the language stands in a source whose listing is compared, and each instruction in a program that is run."""
+        """Each operator of the language stands in a source whose words are compared, and each instruction of the machine in a program that is run."""
         operators = re.findall(r'\(codes "([^"]+)"', text_of("crates/yayul/specs/Operators.antt"))
         with self.subTest("the operators of the language are found"):
             self.assertTrue({"SETLOC", "=", "2CADR", "TC", "NOOP"} <= set(operators))
-        listed = [text_of(f"examples/{name}.agc") for name in with_ending(".lst")]
+        listed = [text_of(f"examples/{name}.agc") for name in with_ending(".lst") | {"operators"}]
         listed += [source_of(body.decode()) for words, body, _ in blocks(text_of("docs/MANUAL.md")) if words[:2] == ["listing", "alone"]]
         missing = set(operators) - operators_in(listed)
         with self.subTest("each operator's word is compared"):
             self.assertFalse(missing, " ".join(sorted(missing)))
-        # The table has the instructions last, from TC on.
-        missing = set(operators[operators.index("TC"):]) - operators_in(text_of(f"examples/{name}.agc") for name in with_ending(".out"))
+        # (other spellings make the same words, which is proved; EDRUPT has no operator)
+        instructions = re.findall(r'^row_of \w+ = row \(codes "(\w+)"\)', text_of("crates/cpu/specs/Codes.antt"), re.M)
+        with self.subTest("the instructions of the machine are found"):
+            self.assertTrue({"TC", "INDEX", "MP"} <= set(instructions))
+        missing = set(instructions) - {"EDRUPT"} - operators_in(text_of(f"examples/{name}.agc") for name in with_ending(".out"))
         with self.subTest("each instruction stands in a program that is run"):
             self.assertFalse(missing, " ".join(sorted(missing)))
 

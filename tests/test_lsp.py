@@ -480,7 +480,8 @@ class Lsp(ViewCase):
         configured = json.loads(text_at(f"{VIEWS}/editors/vscode/language-configuration.json"))
         with self.subTest("what configures the language"):
             self.assertTrue(set(configured) <= {"comments", "brackets", "autoClosingPairs", "surroundingPairs", "wordPattern", "folding", "indentationRules", "onEnterRules", "colorizedBracketPairs"})
-        grammar = json.loads(text_at(f"{VIEWS}/editors/vscode/syntaxes/agc.tmLanguage.json"))
+        subprocess.run([f"{VIEWS}/editors/make", "--grammar", f"{self.room}/grammar.json"], check=True)
+        grammar = json.loads(text_at(f"{self.room}/grammar.json"))
         with self.subTest("the grammar"):
             self.assertTrue(set(grammar) <= {"$schema", "name", "scopeName", "fileTypes", "patterns", "repository", "foldingStartMarker", "foldingStopMarker", "firstLineMatch", "uuid", "information_for_contributors", "version"}, str(set(grammar)))
 

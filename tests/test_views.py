@@ -199,6 +199,12 @@ class Grammar:
             yield from self.scopes(match.string[: match.end(group)], match.start(group), rule["patterns"])
 
 
+def grammar_in(room):
+    """The grammar that `editors/make` writes."""
+    subprocess.run([f"{EDITORS}/make", "--grammar", f"{room}/grammar.json"], check=True)
+    return Grammar(f"{room}/grammar.json")
+
+
 # The first request of a client of the debug adapter.
 INITIALIZE = b'Content-Length: 54\r\n\r\n{"seq": 1, "type": "request", "command": "initialize"}'
 
@@ -807,14 +813,14 @@ class Views(ViewCase):
 
     def test_operators(self):
         """The editors know the operators of the manual, and the program knows them."""
-        grammar = Grammar(f"{EDITORS}/vscode/syntaxes/agc.tmLanguage.json")
+        grammar = grammar_in(self.room)
         rules = {it["name"].split(".")[2]: re.search(r"\(\?:(.*?)\)", it["match"]) for it in grammar.grammar["repository"]["operator"]["patterns"]}
         named = {group: rules[group][1].split("|") for group in GROUPS}
         operators = [it for group in GROUPS for it in named[group]]
         with self.subTest("the operators of the grammar"):
             self.assertEqual(sorted(operators), sorted(operators_of_manual()))
         ran = subprocess.run([f"{EDITORS}/make", "--check"], capture_output=True, text=True, check=False)
-        with self.subTest("the lists of the editors"):
+        with self.subTest("the page has a sentence of each instruction"):
             self.assertEqual((ran.returncode, ran.stdout, ran.stderr), (0, "", ""))
         for it in [*operators, "FROB"]:
             source = write(f"{self.room}/operator.agc", f" {it}\n".encode())
@@ -828,7 +834,7 @@ class Views(ViewCase):
 
     def test_grammar(self):
         """What the grammar says of lines, of each example that assembles, and of one that does not."""
-        grammar = Grammar(f"{EDITORS}/vscode/syntaxes/agc.tmLanguage.json")
+        grammar = grammar_in(self.room)
         for line, wanted in [
             ("X       EQUALS  100     # a label", [("label", "X"), ("directive", "EQUALS"), ("agc", "100"), ("number-sign", "# a label")]),
             (" CA X +1#c", [("instruction", "CA"), ("symbol", "X"), ("agc", "+1"), ("number-sign", "#c")]),
@@ -871,7 +877,7 @@ class Views(ViewCase):
         with self.subTest("what its launch takes"):
             self.assertTrue(all(re.search(rf"^  {it}  ", text_at(f"{VIEWS}/dap"), re.M) or f'"{it}"' in text_at(f"{VIEWS}/dap") for it in properties))
         with self.subTest("the package's scope"):
-            self.assertEqual((grammar["language"], grammar["scopeName"]), (language["id"], Grammar(f"{folder}/{grammar['path']}").grammar["scopeName"]))
+            self.assertEqual((grammar["language"], grammar["scopeName"]), (language["id"], grammar_in(self.room).grammar["scopeName"]))
         with self.subTest("the package's comments"):
             self.assertEqual(json.loads(text_at(f"{folder}/{language['configuration']}"))["comments"], {"lineComment": "#"})
         pattern = matcher["pattern"]

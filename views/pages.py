@@ -1,12 +1,9 @@
 """What the pages of views look like, and how they name instructions. `report` and `grade` use this module."""
-import json
-import os
 import re
 from functools import cache
 from html import escape
 
-HERE = os.path.dirname(os.path.realpath(__file__))
-GRAMMAR = f"{HERE}/editors/vscode/syntaxes/agc.tmLanguage.json"
+import manual
 
 STYLE = """\
 :root { color-scheme: light dark; --ground: #fff; --ink: #1d2430; --quiet: #5b6472; --line: #8885; --soft: #8881; --bar: #4f86c6; --wait: #4f86c633; --mark: #b3541e; --good: #d9f0dd; --bad: #f9dcd7; --some: #fdf0cc; }
@@ -34,11 +31,9 @@ pre { white-space: pre-wrap; overflow-wrap: anywhere; }
 
 @cache
 def instructions():
-    """The operators of instructions, as the editors' grammar has them."""
-    with open(GRAMMAR, encoding="utf-8") as file:
-        rules = json.load(file)["repository"]["operator"]["patterns"]
-    found = [re.search(r"\(\?:(.*?)\)", it["match"])[1] for it in rules if it["name"].endswith((".instruction.agc", ".extracode.agc"))]
-    return frozenset("|".join(found).split("|"))
+    """The operators of instructions, by the tables of the manual."""
+    named = manual.operators(manual.read())
+    return frozenset(named["instruction"] + named["extracode"])
 
 
 def is_instruction(row):

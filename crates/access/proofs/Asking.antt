@@ -35,3 +35,5 @@ found_later symbols text n (suc k) m e none here =
 pub first_found : (symbols : SymbolTable) (text : List ℕ) (n count : ℕ) → n < count → first_shown symbols text n ≡ None
     → same_name (cell_name symbols n) text ≡ true → first_shown symbols text count ≡ Some n
 first_found symbols text n count lt none here = found_later symbols text n (count - suc n) count (omega (arith, lt)) none here
+
+pub ruleset first_steps = (first_found, none_first, none_more)

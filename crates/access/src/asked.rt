@@ -4,14 +4,14 @@ ghost use Rattle.std.specs.Prelude.{◌≡◌, ◌<◌};
 ghost use Rattle.std.specs.Option.{option_map};
 ghost use Rattle.agc_text.specs.Fields.{runs, texts};
 ghost use Rattle.agc_text.specs.Tables.{same_name};
-ghost use Rattle.commands.specs.Commands.{channel_in, erasable_number};
+ghost use Rattle.commands.specs.Commands.{channel_in};
 ghost use Rattle.trace.specs.TraceLines.{cell_name};
 ghost use Rattle.access.specs.Asked.{cell_asked, cell_in_fields, cell_moved, cell_of, cell_of_field, cell_shown};
 ghost use Rattle.access.specs.Asked.{channel_asked, erasable_named, first_shown, further, view_asked};
 
 use crate::view::View;
 use agc_text::{octal, split_field};
-use commands::{begins_with_plus, channel_named, named_place};
+use commands::{begins_with_plus, channel_named, erasable_number, named_place};
 use cpu::Cell;
 use space::{Eras, Linear};
 use symbols::{Symbols, Value};
@@ -93,16 +93,6 @@ fn erasable_named(symbols: &Symbols, field: &[u8]) -> Option<Eras>
     }
 }
 
-/// The number of an erasable place.
-fn erasable_number(place: Linear) -> Option<Eras>
-    ensures { result ≡ erasable_number place }
-{
-    match place {
-        Linear::Erasable(number) => Some(number),
-        Linear::Fixed(..) => None,
-    }
-}
-
 /// The cell of a channel, where no symbol has its name.
 fn channel_asked(symbols: &Symbols, field: &[u8]) -> Option<Cell>
     ensures { result ≡ channel_asked symbols.now field.now }
@@ -150,7 +140,7 @@ fn cell_of(value: Value) -> Option<Cell>
 }
 
 /// The first cell that is shown so.
-#[tactic(auto, using(crate::proofs::Asking::first_found, crate::proofs::Asking::none_first, crate::proofs::Asking::none_more))]
+#[tactic(auto, using(crate::proofs::Asking::first_steps))]
 fn first_shown(symbols: &Symbols, text: &[u8]) -> Option<Cell>
     ensures { result ≡ first_shown symbols.now text.now 0o5000 }
 {

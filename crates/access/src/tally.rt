@@ -3,7 +3,6 @@
 ghost use Rattle.std.specs.Prelude.{◌≡◌, ◌+◌, ◌*◌, ◌-◌, ◌<◌, ◌≤◌, ◌^◌, ℕ, true, false};
 ghost use Rattle.std.specs.Prelude.{IfOk, get_or, set, length, replicate};
 ghost use Rattle.cover.specs.Tallies.{account_count, account_number, is_account};
-ghost use Rattle.cpu.specs.Bursts.{IsQuiet};
 ghost use Rattle.cpu.specs.Next.{next};
 ghost use Rattle.cpu.specs.NextStep.{next_step};
 ghost use Rattle.cpu.specs.Profiles.{account_of};
@@ -18,7 +17,7 @@ use crate::kept::{Kept, Kind, Slots, kind_of};
 use crate::level::last_after;
 use crate::step_slots::{ROW, rows_of, slots_after};
 use crate::view::View;
-use cover::{ACCOUNTS, number_of};
+use cover::{ACCOUNTS, Profiler, Recorder, number_of, record_steps};
 use cpu::{Account, Machine, NextStep, Processor};
 use space::{Eras, Linear};
 use std::alloc::{AllocError, Global};
@@ -104,111 +103,8 @@ impl Tally {
         ensures state { machine.new ≡ run processor.old.scenario stop }
         ensures counts { Counts self.old.view processor.old.scenario stop self.new }
     {
-        self.keep_steps(processor, machine, done, stop);
+        record_steps(self, processor, machine, done, stop);
         self.settle();
-    }
-
-    /// The same, where counts may be kept.
-    fn keep_steps(&mut self, processor: &mut Processor, machine: &mut Machine, done: u64, stop: u64)
-        requires within { done ≤ stop }
-        requires few { stop ≤ 2 ^ 40 }
-        requires state { machine.old ≡ run processor.old.scenario done }
-        requires keeps { Keeps self.old.view processor.old.scenario done self.old }
-        ensures scenario { processor.new.scenario ≡ processor.old.scenario }
-        ensures state { machine.new ≡ run processor.old.scenario stop }
-        ensures keeps { Keeps self.old.view processor.old.scenario stop self.new }
-    {
-        let mut at = done;
-        while at < stop {
-            self.step(processor, machine);
-            at = self.keep_plain_steps(processor, machine, at + 1, stop);
-        }
-    }
-
-    /// The same of plain steps of accounts and kinds that are kept, as long as they come one after another. Answers how
-    /// many the run has made then.
-    fn keep_plain_steps(
-        &mut self,
-        processor: &mut Processor,
-        machine: &mut Machine,
-        done: u64,
-        stop: u64,
-    ) -> u64
-        requires within { done ≤ stop }
-        requires few { stop ≤ 2 ^ 40 }
-        requires state { machine.old ≡ run processor.old.scenario done }
-        requires keeps { Keeps self.old.view processor.old.scenario done self.old }
-        ensures past { done ≤ result }
-        ensures within { result ≤ stop }
-        ensures scenario { processor.new.scenario ≡ processor.old.scenario }
-        ensures state { machine.new ≡ run processor.old.scenario result }
-        ensures keeps { Keeps self.old.view processor.old.scenario result self.new }
-    {
-        match processor.quiet_steps(machine) {
-            Some(room) => {
-                let end = done + room.min(stop - done);
-                let at = self.keep_quiet(processor, machine, done, end);
-                processor.count(at - done);
-                at
-            }
-            None => done,
-        }
-    }
-
-    /// The same up to a step before which all are quiet.
-    #[inline(always)]
-    fn keep_quiet(
-        &mut self,
-        processor: &Processor,
-        machine: &mut Machine,
-        done: u64,
-        end: u64,
-    ) -> u64
-        requires within { done ≤ end }
-        requires few { end ≤ 2 ^ 40 }
-        requires quiet { IsQuiet processor.now.scenario machine.old (end - done) }
-        requires state { machine.old ≡ run processor.now.scenario done }
-        requires keeps { Keeps self.old.view processor.now.scenario done self.old }
-        ensures past { done ≤ result }
-        ensures within { result ≤ end }
-        ensures state { machine.new ≡ run processor.now.scenario result }
-        ensures keeps { Keeps self.old.view processor.now.scenario result self.new }
-    {
-        let mut at = done;
-        while at < end {
-            if !self.keep_plain(processor, machine, end - at) {
-                return at;
-            }
-            at += 1;
-        }
-        at
-    }
-
-    /// Makes the next step, of so many quiet ones, where it is plain and of the account and the kind of those that are
-    /// kept there, and keeps it too; else leaves all as it is.
-    #[inline(always)]
-    fn keep_plain(&mut self, processor: &Processor, machine: &mut Machine, quiet: u64) -> bool
-        requires quiet { IsQuiet processor.now.scenario machine.old quiet }
-        requires some { 1 ≤ quiet }
-        requires cycles { machine.old.cycles ≤ 2 ^ 62 }
-        requires few { AreFewKept self.old.kept (2 ^ 62) }
-        requires kept { AreKept self.old.view processor.now.scenario.rope self.old.kept }
-        ensures left { result ≡ false → machine.new ≡ machine.old }
-        ensures same { result ≡ false → self.new ≡ self.old }
-        ensures state { result ≡ true → machine.new ≡ (next processor.now.scenario machine.old).0 }
-        ensures counts { result ≡ true → CountsStep processor.now.scenario machine.old self.old self.new }
-        ensures quiet { result ≡ true → IsQuiet processor.now.scenario machine.new (quiet - 1) }
-    {
-        let fetched = processor.fetched(machine, quiet);
-        let account = Account::Place(fetched.place);
-        let number = number_of(account);
-        if !self.is_known(machine, &account, number)
-            || !processor.make_plain(machine, fetched.word, quiet)
-        {
-            return false;
-        }
-        self.again_at(number);
-        true
     }
 
     /// Whether the next step, of an account, repeats, and is of the kind that is kept there.
@@ -221,21 +117,6 @@ impl Tally {
     {
         let kind = kind_of(machine, self.last);
         repeats(account, machine) && self.kept[number].is_of(&kind)
-    }
-
-    /// Makes a step, and counts what it reads and writes, or keeps that. What it puts out is passed over.
-    fn step(&mut self, processor: &mut Processor, machine: &mut Machine)
-        requires cycles { machine.old.cycles ≤ 2 ^ 62 }
-        requires fits { FitsRun processor.old.scenario machine.old }
-        requires small { (i : ℕ) → sum_in self.old i ≤ 2 ^ 62 }
-        requires few { AreFewKept self.old.kept (2 ^ 62) }
-        requires kept { AreKept self.old.view processor.old.scenario.rope self.old.kept }
-        ensures scenario { processor.new.scenario ≡ processor.old.scenario }
-        ensures state { machine.new ≡ (next processor.old.scenario machine.old).0 }
-        ensures counts { CountsStep processor.old.scenario machine.old self.old self.new }
-    {
-        self.count_step(processor, machine);
-        processor.step(machine);
     }
 
     /// Counts what the next step reads and writes, or keeps that.
@@ -380,6 +261,43 @@ impl Tally {
         let kept = &mut self.kept[number];
         pay(&mut self.counts, kept.slots(), kept.count());
         kept.settle();
+    }
+}
+
+impl Recorder for Tally {
+    type Kept = View;
+
+    ghost kept = { λ tally. tally.view };
+
+    ghost Stands = { λ view scenario n tally. Keeps view scenario n tally };
+
+    #[inline(always)]
+    fn record_plain(
+        &mut self,
+        processor: &Processor,
+        machine: &mut Machine,
+        done: u64,
+        quiet: u64,
+    ) -> bool {
+        let _ = done;
+        let fetched = processor.fetched(machine, quiet);
+        let account = Account::Place(fetched.place);
+        let number = number_of(account);
+        if !self.is_known(machine, &account, number)
+            || !processor.make_plain(machine, fetched.word, quiet)
+        {
+            return false;
+        }
+        self.again_at(number);
+        true
+    }
+}
+
+impl Profiler for Tally {
+    fn record(&mut self, processor: &mut Processor, machine: &mut Machine, done: u64) {
+        let _ = done;
+        self.count_step(processor, machine);
+        processor.step(machine);
     }
 }
 

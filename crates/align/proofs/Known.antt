@@ -86,3 +86,5 @@ known_few operands p n address known before below = rw (before address below) (e
 pub known_start : (operands : Entries) (p : Pairing) → IsKnown operands p 0 (replicate 0o2000 no_evidence)
 unfolding evidence_before
 known_start operands p a within = get_or-replicate 0o2000 a no_evidence no_evidence within
+
+pub ruleset known_steps = (known_passed, known_beyond, known_more, known_few)

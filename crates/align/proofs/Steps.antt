@@ -2,8 +2,7 @@
 use Rattle.std.proofs.Common.{◌≡◌, ℕ, ◌+◌, ◌==◌, Bool, true, false, ◌&&◌, nat_lt, [], ◌∷◌, Option, Some, None, if◌then◌else◌, refl, add-one}
 use Rattle.rope.specs.Places.{place_number, Words, word_at}
 use Rattle.audit.specs.WordLines.{extracode_at}
-use Rattle.align.specs.AlignLines.{is_other_at, is_same_at, joins, others_before, same_before, stand_free, stands_free, words_before}
-use Rattle.align.specs.RenamedLines.{is_named_at, named_before}
+use Rattle.align.specs.AlignLines.{joins, stand_free, stands_free, words_before}
 use Rattle.align.specs.CarriedNames.{is_kept, keep_switched}
 use Rattle.align.specs.Pairings.{Entries, Pairing, goes_on, goes_on_for, is_right_at, is_right_before}
 use Rattle.cpu.specs.Codes.{code_of}
@@ -20,34 +19,6 @@ pub words_next : (pairs here : Entries) (bank n words next : ℕ) → words ≡ 
     → next ≡ (if joins pairs here (place_number bank n) then words + 1 else 1) → next ≡ words_before pairs here bank (n + 1)
 unfolding words_before
 words_next pairs here bank n words next so_far e = rw (add-one n) (rw so_far at e)
-
--- no place is paired with the same place before the first
-pub same_first : (to_old : Entries) → same_before to_old 0 ≡ 0
-unfolding same_before
-same_first to_old = refl
-
-pub same_there : (to_old : Entries) (n : ℕ) → is_same_at to_old n ≡ true → same_before to_old (n + 1) ≡ same_before to_old n + 1
-unfolding same_before
-same_there to_old n there = rw (add-one n, there) refl
-
-pub same_passed : (to_old : Entries) (n : ℕ) → is_same_at to_old n ≡ false → same_before to_old (n + 1) ≡ same_before to_old n
-unfolding same_before
-same_passed to_old n none = rw (add-one n, none) refl
-
--- nor with one where another word stands
-pub others_first : (old new : Words) (to_old : Entries) → others_before old new to_old 0 ≡ 0
-unfolding others_before
-others_first old new to_old = refl
-
-pub others_there : (old new : Words) (to_old : Entries) (n : ℕ) → is_other_at old new to_old n ≡ true
-    → others_before old new to_old (n + 1) ≡ others_before old new to_old n + 1
-unfolding others_before
-others_there old new to_old n there = rw (add-one n, there) refl
-
-pub others_passed : (old new : Words) (to_old : Entries) (n : ℕ) → is_other_at old new to_old n ≡ false
-    → others_before old new to_old (n + 1) ≡ others_before old new to_old n
-unfolding others_before
-others_passed old new to_old n none = rw (add-one n, none) refl
 
 -- nothing stands before the first word of a bank
 pub filled_first : (words : Words) (bank : ℕ) → filled_before words bank 0 ≡ 0
@@ -107,21 +78,6 @@ pub free_next : (pairs here : Entries) (place n : ℕ)
 unfolding stand_free
 free_next pairs here place n = rw (add-one n) refl
 
--- no word names an address before the first
-pub named_first : (operands : Entries) (p : Pairing) (s : ℕ) → named_before operands p s 0 ≡ 0
-unfolding named_before
-named_first operands p s = refl
-
-pub named_there : (operands : Entries) (p : Pairing) (s n : ℕ) → is_named_at operands p s n ≡ true
-    → named_before operands p s (n + 1) ≡ named_before operands p s n + 1
-unfolding named_before
-named_there operands p s n there = rw (add-one n, there) refl
-
-pub named_passed : (operands : Entries) (p : Pairing) (s n : ℕ) → is_named_at operands p s n ≡ false
-    → named_before operands p s (n + 1) ≡ named_before operands p s n
-unfolding named_before
-named_passed operands p s n none = rw (add-one n, none) refl
-
 -- no address of the switched bank stands for another before the first
 pub kept_first : (names : Entries) → keep_switched names 0 ≡ true
 unfolding keep_switched
@@ -130,3 +86,5 @@ kept_first names = refl
 pub kept_next : (names : Entries) (n : ℕ) → keep_switched names (n + 1) ≡ (is_kept names n && keep_switched names n)
 unfolding keep_switched
 kept_next names n = rw (add-one n) refl
+
+pub ruleset filled_steps = (filled_first, filled_there, filled_passed)

@@ -3,6 +3,7 @@ use Rattle.std.specs.Prelude.{ℕ, zero, suc, ◌+◌, ◌-◌, ◌/◌, ◌%◌
 use Rattle.std.specs.Prelude.{Option, Some, None, is_some, if◌then◌else◌}
 use Rattle.std.specs.List.{range_with_len, flat_map}
 use Rattle.rope.specs.Places.{banks, bank_words, fixed_places, place_number, Words, word_at}
+use Rattle.audit.specs.BankFacts.{count_before}
 use Rattle.audit.specs.WordLines.{place_text}
 use Rattle.align.specs.declared.view.View.{View}
 use Rattle.align.specs.declared.view.View.TheVariants.{New, Old, Passage}
@@ -141,19 +142,8 @@ is_other old new place (Some i) = nat_lt i fixed_places && not (word_of old i ==
 abbrev pub is_other_at : Words → Words → Entries → ℕ → Bool
 is_other_at old new to_old place = is_other old new place (at to_old place)
 
--- how many of the first n places are paired with the same place
-unfoldable pub same_before : Entries → ℕ → ℕ
-same_before to_old zero = 0
-same_before to_old (suc n) = if is_same_at to_old n then same_before to_old n + 1 else same_before to_old n
-
--- how many of the first n places are paired with a place where another word stands
-unfoldable pub others_before : Words → Words → Entries → ℕ → ℕ
-others_before old new to_old zero = 0
-others_before old new to_old (suc n) = if is_other_at old new to_old n then others_before old new to_old n
-    + 1 else others_before old new to_old n
-
 -- how many words are paired with the same place, and how many paired words are others but for their tokens: they have another address
 unfoldable pub totals_line : Words → Words → Entries → List ℕ
 totals_line old new to_old =
-    codes "SAME WORDS " ++ decimal (same_before to_old fixed_places)
-    ++ codes " OTHER ADDRESSES " ++ decimal (others_before old new to_old fixed_places) ++ codes "\n"
+    codes "SAME WORDS " ++ decimal (count_before (is_same_at to_old) fixed_places)
+    ++ codes " OTHER ADDRESSES " ++ decimal (count_before (is_other_at old new to_old) fixed_places) ++ codes "\n"

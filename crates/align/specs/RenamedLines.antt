@@ -1,9 +1,10 @@
 -- Which addresses of erasable memory are others in the new rope, as text.
-use Rattle.std.specs.Prelude.{ℕ, zero, suc, ◌+◌, ◌-◌, ◌/◌, ◌%◌, ◌==◌, nat_lt, Bool, false, ◌&&◌, ◌||◌, List, [], ◌++◌, codes, Option, Some}
+use Rattle.std.specs.Prelude.{ℕ, ◌+◌, ◌-◌, ◌/◌, ◌%◌, ◌==◌, nat_lt, Bool, false, ◌&&◌, ◌||◌, List, [], ◌++◌, codes, Option, Some}
 use Rattle.std.specs.Prelude.{None, if◌then◌else◌}
 use Rattle.std.specs.List.{range_with_len, flat_map}
 use Rattle.words.specs.Numerals.{octal_text}
 use Rattle.rope.specs.Places.{bank_words, fixed_places}
+use Rattle.audit.specs.BankFacts.{count_before}
 use Rattle.align.specs.AlignLines.{words_text}
 use Rattle.align.specs.Alignments.{Renaming}
 use Rattle.align.specs.Pairings.{Entries, at, name_alike, Pairing}
@@ -33,12 +34,6 @@ is_alike p place (Some j) = name_alike p place j
 abbrev pub is_named_at : Entries → Pairing → ℕ → ℕ → Bool
 is_named_at operands p s place = has_slot s (place / bank_words) (at operands place) && is_alike p place (at p.to_new place)
 
--- at how many of the first n places that is so
-unfoldable pub named_before : Entries → Pairing → ℕ → ℕ → ℕ
-named_before operands p s zero = 0
-named_before operands p s (suc n) =
-    if is_named_at operands p s n then named_before operands p s n + 1 else named_before operands p s n
-
 -- the bank of whose words an entry is, where that is of one
 abbrev pub bank_text : ℕ → List ℕ
 bank_text s = if nat_lt s 0o1400 then [] else codes " BANK " ++ octal_text 2 (slot_bank s)
@@ -50,7 +45,7 @@ renamed_text s other n =
     else codes "RENAMED " ++ octal_text 4 (slot_address s) ++ codes " " ++ octal_text 4 other ++ bank_text s ++ words_text n
 
 unfoldable pub renamed_line : Renaming → Pairing → ℕ → List ℕ
-renamed_line r p s = renamed_text s (renamed r.names (slot_bank s) (slot_address s)) (named_before r.operands p s fixed_places)
+renamed_line r p s = renamed_text s (renamed r.names (slot_bank s) (slot_address s)) (count_before (is_named_at r.operands p s) fixed_places)
 
 -- the lines of the first n entries, and of all
 unfoldable pub first_renamed : Renaming → Pairing → ℕ → List ℕ

@@ -48,7 +48,7 @@ pub(crate) fn weigh(operands: &[Entry], p: Pairing<'_>) -> [Evidence; ADDRESSES]
 }
 
 /// Takes what the word of a place tells, after the words before it.
-#[tactic(auto, using(crate::proofs::Known::known_passed, crate::proofs::Known::known_beyond, crate::proofs::Known::known_more, crate::proofs::Known::known_few))]
+#[tactic(auto, using(crate::proofs::Known::known_steps))]
 fn take_word(known: &mut [Evidence; ADDRESSES], operands: &[Entry], p: Pairing<'_>, place: usize)
     requires place { place < fixed_places }
     requires len { length known.old ≡ 0o2000 }

@@ -5,14 +5,15 @@ ghost use Rattle.std.specs.Prelude.{if◌then◌else◌};
 ghost use Rattle.arrayvec.specs.ArrayVec.{array_vec_len};
 ghost use Rattle.words.specs.Devices.{Writes, failures_after};
 ghost use Rattle.rope.specs.Places.{banks, bank_words, fixed_places, place_number};
+ghost use Rattle.audit.specs.BankFacts.{count_before};
 ghost use Rattle.align.specs.Pairings.{pairing};
 ghost use Rattle.align.specs.declared.view.View.TheVariants.{Passage};
 ghost use Rattle.align.specs.Alignments.{renaming};
 ghost use Rattle.align.specs.AlignTexts.{alignment_lines};
 ghost use Rattle.align.specs.RenamedLines.{renamed_lines};
 ghost use Rattle.align.specs.AlignLines.{bank_lines, belong, ends, free_line, is_other, is_other_at, is_same_at, joins};
-ghost use Rattle.align.specs.AlignLines.{line_at, name_of_place, others_before, paired_line, partner_before, replaced};
-ghost use Rattle.align.specs.AlignLines.{same_before, sides, stand_free, stands_free, stretch_line, totals_line};
+ghost use Rattle.align.specs.AlignLines.{line_at, name_of_place, paired_line, partner_before, replaced};
+ghost use Rattle.align.specs.AlignLines.{sides, stand_free, stands_free, stretch_line, totals_line};
 ghost use Rattle.align.specs.AlignLines.{view_lines, word_of, words_before, words_text};
 
 use crate::alignment::{Alignment, pairing_of, renaming_of};
@@ -20,7 +21,7 @@ use crate::entries::{BANKS, Entry, PLACES, WORDS, entry_at, is_entry, is_first, 
 use crate::renamed_lines::write_renamed;
 use crate::view::View;
 use arrayvec::ArrayVec;
-use audit::{bank_of, offset_of};
+use audit::{bank_of, count_below, offset_of};
 use rope::Rope;
 use space::{Linear, window};
 use words::{Word, Write, WriteFailed, push_all, push_decimal, push_octal, write_all};
@@ -443,31 +444,23 @@ fn totals_line(old: &Rope, new: &Rope, to_old: &[Entry]) -> Line
 }
 
 /// How many words are paired with the same place.
-#[tactic(auto, using(crate::proofs::Steps::same_first, crate::proofs::Steps::same_there, crate::proofs::Steps::same_passed))]
 fn count_same(to_old: &[Entry]) -> usize
-    ensures { result ≡ same_before to_old.now fixed_places }
+    ensures { result ≡ count_before (is_same_at to_old.now) fixed_places }
 {
-    let mut count = 0;
-    for place in 0..PLACES {
-        if is_entry(entry_at(to_old, place), place) {
-            count += 1;
-        }
-    }
-    count
+    usize::from(count_below(audit::PLACES, |place| {
+        let place = usize::from(place);
+        is_entry(entry_at(to_old, place), place)
+    }))
 }
 
 /// How many words are paired with another one.
-#[tactic(auto, using(crate::proofs::Steps::others_first, crate::proofs::Steps::others_there, crate::proofs::Steps::others_passed))]
 fn count_others(old: &Rope, new: &Rope, to_old: &[Entry]) -> usize
-    ensures { result ≡ others_before old.now new.now to_old.now fixed_places }
+    ensures { result ≡ count_before (is_other_at old.now new.now to_old.now) fixed_places }
 {
-    let mut count = 0;
-    for place in 0..PLACES {
-        if is_other(old, new, place, entry_at(to_old, place)) {
-            count += 1;
-        }
-    }
-    count
+    usize::from(count_below(audit::PLACES, |place| {
+        let place = usize::from(place);
+        is_other(old, new, place, entry_at(to_old, place))
+    }))
 }
 
 /// Whether a place of the new rope is paired with one where another word stands.

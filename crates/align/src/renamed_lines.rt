@@ -4,16 +4,18 @@ ghost use Rattle.std.specs.Prelude.{◌≡◌, ◌+◌, ◌-◌, ◌/◌, ◌%�
 ghost use Rattle.arrayvec.specs.ArrayVec.{array_vec_len};
 ghost use Rattle.words.specs.Devices.{Writes, failures_after};
 ghost use Rattle.rope.specs.Places.{fixed_places};
+ghost use Rattle.audit.specs.BankFacts.{count_before};
 ghost use Rattle.align.specs.Alignments.{renaming};
 ghost use Rattle.align.specs.Pairings.{pairing};
-ghost use Rattle.align.specs.RenamedLines.{bank_text, has_slot, is_alike, is_named_at, named_before, renamed_line};
+ghost use Rattle.align.specs.RenamedLines.{bank_text, has_slot, is_alike, is_named_at, renamed_line};
 ghost use Rattle.align.specs.RenamedLines.{renamed_lines, renamed_text, slot_address, slot_bank, slots};
 
 use crate::checking::{Pairing, name_alike};
-use crate::entries::{Entry, PLACES, WORDS, entry_at};
+use crate::entries::{Entry, WORDS, entry_at};
 use crate::lines::{Line, push_words};
 use crate::renaming::{ERASABLE_BANK, FIRST_SWITCHED, SLOTS, renamed, slot};
 use arrayvec::ArrayVec;
+use audit::count_below;
 use words::{Write, WriteFailed, push_all, push_octal, write_all};
 
 /// Which address stands for which, and which the words of the old rope name.
@@ -113,19 +115,14 @@ fn push_bank(line: &mut Line, entry: usize)
 }
 
 /// How many words of the old rope name the address of an entry, and are paired.
-#[tactic(auto, using(crate::proofs::Steps::named_first, crate::proofs::Steps::named_there, crate::proofs::Steps::named_passed))]
 fn count_named(operands: &[Entry], p: Pairing<'_>, entry: usize) -> usize
-    ensures { result ≡ named_before operands.now
-        (pairing p.entry.own.now p.entry.old.now p.entry.new.now p.entry.to_old.now p.entry.to_new.now) entry
+    ensures { result ≡ count_before (is_named_at operands.now
+        (pairing p.entry.own.now p.entry.old.now p.entry.new.now p.entry.to_old.now p.entry.to_new.now) entry)
         fixed_places }
 {
-    let mut count = 0;
-    for place in 0..PLACES {
-        if is_named_at(operands, p, entry, place) {
-            count += 1;
-        }
-    }
-    count
+    usize::from(count_below(audit::PLACES, |place| {
+        is_named_at(operands, p, entry, usize::from(place))
+    }))
 }
 
 /// Whether the word at a place of the old rope names the address of an entry, and is paired with an equal one.

@@ -152,7 +152,7 @@ fn is_loop(rope: &Rope, bank: Bank, offset: Offset) -> bool
 }
 
 /// How many words of a bank are compared.
-#[tactic(auto, using(crate::proofs::Steps::filled_first, crate::proofs::Steps::filled_there, crate::proofs::Steps::filled_passed))]
+#[tactic(auto, using(crate::proofs::Steps::filled_steps))]
 fn filled(rope: &Rope, bank: Bank) -> u16
     ensures is { result ≡ filled rope.now bank }
     ensures few { result ≤ bank_words }

@@ -1,6 +1,6 @@
 -- Counts and sums over the words of a bank, one number after another.
-use Rattle.std.proofs.Common.{◌≡◌, ℕ, zero, suc, ◌+◌, ◌≤◌, Bool, true, false, List, refl, arith, add-one, inl, inr}
-use Rattle.std.proofs.lemmas.Bool.{cases_Bool}
+use Rattle.std.proofs.Common.{◌≡◌, ℕ, zero, suc, ◌+◌, ◌<◌, ◌≤◌, Bool, true, false, List, refl, arith, add-one, inl, inr}
+use Rattle.std.proofs.lemmas.Bool.{cases_Bool, cases_lt}
 use Rattle.audit.specs.BankFacts.{all_before, count_before, counted_before, counted_words, dead_bit_before, even_words, even_words_before}
 use Rattle.audit.specs.BankFacts.{is_dead, mended_sum_before, mended_word}
 use Rattle.audit.specs.Mended.{last_before}
@@ -17,6 +17,8 @@ count_there f n there = rw (add-one n, there) refl
 pub count_passed : (f : ℕ → Bool) (n : ℕ) → f n ≡ false → count_before f (n + 1) ≡ count_before f n
 unfolding count_before
 count_passed f n none = rw (add-one n, none) refl
+
+pub ruleset count_steps = (count_first, count_there, count_passed)
 
 -- no more are counted than there are
 pub count_within : (f : ℕ → Bool) (n : ℕ) → count_before f n ≤ n
@@ -35,9 +37,19 @@ pub all_there : (f : ℕ → Bool) (n : ℕ) → f n ≡ true → all_before f (
 unfolding all_before
 all_there f n there = rw (add-one n, there) refl
 
-pub all_passed : (f : ℕ → Bool) (n : ℕ) → f n ≡ false → all_before f (n + 1) ≡ false
+-- one that has it not is enough
+pub all_but : (f : ℕ → Bool) (n end : ℕ) → n < end → f n ≡ false → all_before f end ≡ false
 unfolding all_before
-all_passed f n none = rw (add-one n, none) refl
+all_but f n zero lt none = absurd (omega (arith, lt))
+all_but f n (suc end) lt none = elim (cases_Bool (f end)) [
+  | inl there ↦ rw there (elim (cases_lt n end) [
+    | inl less ↦ all_but f n end less none
+    | inr past ↦ let same : n ≡ end = omega (arith, lt, past) in let here = rw same at none in let never = rw there at here in absurd (cc)
+  ])
+  | inr passed ↦ rw passed refl
+]
+
+pub ruleset all_steps = (all_first, all_there)
 
 pub even_first : (image : List ℕ) → even_words_before image 0 ≡ 0
 unfolding even_words_before
@@ -78,6 +90,8 @@ pub dead_passed : (image : List ℕ) (bank n : ℕ) → is_dead image bank (n + 
 unfolding dead_bit_before
 dead_passed image bank n none = rw (add-one n, none) refl
 
+pub ruleset dead_steps = (dead_first, dead_there, dead_passed)
+
 pub last_first : (f : ℕ → Bool) → last_before f 0 ≡ 0
 unfolding last_before
 last_first f = refl
@@ -89,3 +103,5 @@ last_there f n there = rw (add-one n, there) refl
 pub last_passed : (f : ℕ → Bool) (n : ℕ) → f n ≡ false → last_before f (n + 1) ≡ last_before f n
 unfolding last_before
 last_passed f n none = rw (add-one n, none) refl
+
+pub ruleset last_steps = (last_first, last_there, last_passed)

@@ -1,19 +1,17 @@
 -- The text of octal words of all banks is read again.
-use Rattle.std.proofs.Common.{◌≡◌, ◌≢◌, ℕ, zero, suc, ◌+◌, ◌*◌, ◌/◌, ◌%◌, ◌<◌, ◌≤◌, ◌^◌, ◌==◌, ◌&&◌, ◌⊎◌, not, true, false, nat_lt}
-use Rattle.std.proofs.Common.{List, [], ◌∷◌, ◌++◌, length, map, Option, Some, None, Ok, refl, sym, ◌∙◌, ap, arith, inl, inr, append_assoc}
-use Rattle.std.specs.Prelude.{unwrap_or, is_some}
+use Rattle.std.proofs.Common.{◌≡◌, ◌≢◌, ℕ, zero, suc, ◌+◌, ◌*◌, ◌%◌, ◌<◌, ◌≤◌, ◌==◌, ◌⊎◌, true, false, nat_lt}
+use Rattle.std.proofs.Common.{List, [], ◌∷◌, ◌++◌, map, Option, Some, None, Ok, refl, sym, ◌∙◌, ap, arith, inl, inr, append_assoc}
 use Rattle.std.specs.List.{range_with_len, flat_map}
-use Rattle.std.proofs.lemmas.Bool.{cases_eq, cases_lt, ne_eqb}
+use Rattle.std.proofs.lemmas.Bool.{cases_eq, ne_eqb}
 use Rattle.std.proofs.lemmas.Bool.Decides.{nat_tests}
 use Rattle.words.specs.Numerals.{octal_text}
-use Rattle.agc_text.specs.Lines.{lines, HasNoFeed}
+use Rattle.agc_text.specs.Lines.{lines}
 use Rattle.agc_text.proofs.LineLaws.{lines-ended, lines-none}
-use Rattle.rope.specs.Places.{banks, bank_words, fixed_places, Words, no_words, slot_at, stands, with_word, word_at}
+use Rattle.rope.specs.Places.{banks, bank_words, fixed_places, Words, no_words, slot_at, with_word, word_at}
 use Rattle.rope.proofs.PlaceLaws.{slot_at-no_words, slot_at-with_word_other, slot_at-with_word_same}
-use Rattle.audit.specs.Octals.{bank_head, bank_octals, octal_word, octal_words, octals_text}
+use Rattle.audit.specs.Octals.{bank_head, bank_octals, octal_word, octal_words}
 use Rattle.audit.specs.OctalsBack.{AreWords, ReadsBack}
 use Rattle.audit.specs.OctalTexts.{begin_bank, is_free, put, put_all, put_word, read_lines, state, take_fields, take_line}
-use Rattle.audit.specs.OctalTexts.{octal_words as taken_words}
 use Rattle.audit.proofs.OctalImages.{same_fronts}
 use Rattle.audit.proofs.OctalRows.{five, fives, fields_of_head, fields_of_row, head, head_has_no_feed, number_of_two, others, row_has_no_feed}
 use Rattle.audit.proofs.OctalRows.{takes_fives, word_of_five}

@@ -1,5 +1,5 @@
 -- Lines and fields, one after another.
-use Rattle.std.proofs.Common.{◌≡◌, ℕ, ◌+◌, List, [], ◌∷◌, Option, Some, None, Result, Ok, Err, refl}
+use Rattle.std.proofs.Common.{◌≡◌, ℕ, ◌+◌, List, [], ◌∷◌, Some, None, Ok, Err, refl}
 use Rattle.audit.specs.OctalTexts.{State, put, put_all, read_lines, take_line}
 
 -- no field changes nothing
@@ -32,3 +32,7 @@ pub reads_next : (n : ℕ) (s t : State) (all more : List (List ℕ)) (line : Li
     → read_lines n s all ≡ read_lines (n + 1) t more
 unfolding read_lines
 reads_next n s t all more line e some = rw (e, some) refl
+
+pub ruleset reads_steps = (reads_none, reads_refused, reads_next)
+
+pub ruleset puts_steps = (puts_none, puts_refused, puts_next)

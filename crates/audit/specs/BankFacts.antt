@@ -1,6 +1,6 @@
 -- What the words of a bank, their parities and their sum tell together.
-use Rattle.std.specs.Prelude.{ℕ, zero, suc, ◌+◌, ◌-◌, ◌*◌, ◌/◌, ◌%◌, ◌^◌, ◌==◌, ◌&&◌, ◌||◌, not, Bool, true, false, nat_lt, nat_le, List}
-use Rattle.std.specs.Prelude.{if◌then◌else◌}
+use Rattle.std.specs.Prelude.{ℕ, zero, suc, ◌≡◌, ◌<◌, ◌+◌, ◌-◌, ◌*◌, ◌/◌, ◌%◌, ◌^◌, ◌==◌, ◌&&◌, ◌||◌, not, Bool, true, false}
+use Rattle.std.specs.Prelude.{nat_lt, nat_le, List, if◌then◌else◌}
 use Rattle.words.specs.BitSums.{xor_sum}
 use Rattle.space.specs.Places.{window}
 use Rattle.space.specs.declared.place.Linear.TheVariants.{Fixed}
@@ -18,6 +18,10 @@ count_before f (suc n) = if f n then count_before f n + 1 else count_before f n
 unfoldable pub all_before : (ℕ → Bool) → ℕ → Bool
 all_before f zero = true
 all_before f (suc n) = if f n then all_before f n else false
+
+-- of each number below an end a property is told
+abbrev pub GivesBelow : (ℕ → Bool → Type 0) → (ℕ → Bool) → ℕ → Type 0
+GivesBelow told f end = (n : ℕ) → n < end → (r : Bool) → told n r → r ≡ f n
 
 -- ## Parity
 -- the parity at a place is wrong: its two bytes have an even number of one bits, or, where all parities are the other way round, an

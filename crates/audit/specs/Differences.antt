@@ -38,7 +38,7 @@ unfoldable pub difference_line : Words → Words → ℕ × ℕ → List ℕ
 difference_line old new place = difference_text old new place ++ codes "\n"
 
 -- the lines of some places
-unfoldable pub difference_lines : Words → Words → List (ℕ × ℕ) → List ℕ
+abbrev pub difference_lines : Words → Words → List (ℕ × ℕ) → List ℕ
 difference_lines old new places = flat_map (difference_line old new) places
 
 -- the line that tells how many places differ

@@ -1,5 +1,5 @@
 -- In which forms the sums of the banks are what a program wants of them.
-use Rattle.std.specs.Prelude.{ℕ, ◌+◌, ◌/◌, ◌%◌, ◌==◌, ◌||◌, ◌&&◌, not, nat_lt, Bool, true, false, List, [], ◌++◌, codes}
+use Rattle.std.specs.Prelude.{ℕ, ◌/◌, ◌%◌, ◌==◌, ◌||◌, ◌&&◌, not, nat_lt, Bool, true, false, List, [], ◌++◌, codes}
 use Rattle.std.specs.List.{range_with_len, flat_map}
 use Rattle.words.specs.Numerals.{octal_text}
 use Rattle.rope.specs.Places.{banks, bank_words, fixed_places, Words, word_at}

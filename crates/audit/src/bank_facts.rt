@@ -10,6 +10,7 @@ ghost use Rattle.audit.specs.BankFacts.{wrong_words};
 
 use crate::form_sums::holds_sum;
 use crate::lines::{bank_of, offset_of};
+use crate::ranges::{all_below, count_below};
 use crate::sums::added;
 use rope::Dump;
 use space::{BANK_WORDS, Bank, FIXED_BANKS, Linear, Offset, window};
@@ -94,19 +95,15 @@ pub(crate) fn is_wrong(image: &Dump, turned: bool, bank: Bank, offset: Offset) -
 }
 
 /// How many words of a bank have a wrong parity.
-#[tactic(auto, using(crate::proofs::Folds::count_first, crate::proofs::Folds::count_there, crate::proofs::Folds::count_passed))]
 pub(crate) fn wrong_words(image: &Dump, turned: bool, bank: Bank) -> u16
     requires { bank < banks }
     ensures count { result ≡ wrong_words image.now turned bank }
     ensures few { result ≤ bank_words }
 {
-    let mut count = 0;
-    for number in 0..BANK_WORDS {
-        if is_wrong(image, turned, bank, offset_of(number)) {
-            count += 1;
-        }
-    }
-    count
+    count_below(
+        BANK_WORDS,
+        |number| is_wrong(image, turned, bank, offset_of(number)),
+    )
 }
 
 /// A word with one of its bits turned, of which 1 is the lowest; by 0 it stays.
@@ -172,52 +169,38 @@ pub(crate) fn mends(image: &Dump, turned: bool, bank: Bank, bit: u32) -> bool
 }
 
 /// Whether all words of a bank are its first one.
-#[tactic(auto, using(crate::proofs::Folds::all_first, crate::proofs::Folds::all_there, crate::proofs::Folds::all_passed))]
 pub(crate) fn is_uniform(image: &Dump, bank: Bank) -> bool
     requires { bank < banks }
     ensures { result ≡ is_uniform image.now bank }
 {
-    let first = image.word(bank, offset_of(0));
-    let mut all = true;
-    for number in 0..BANK_WORDS {
-        if image.word(bank, offset_of(number)) != first {
-            all = false;
-        }
-    }
-    all
+    let first = image.word(bank, offset_of(0)).to_u16();
+    all_below(
+        BANK_WORDS,
+        |number| image.word(bank, offset_of(number)).to_u16() == first,
+    )
 }
 
 /// Whether a bank has the words of another.
-#[tactic(auto, using(crate::proofs::Folds::all_first, crate::proofs::Folds::all_there, crate::proofs::Folds::all_passed))]
 pub(crate) fn is_copy(image: &Dump, bank: Bank, other: Bank) -> bool
     requires bank { bank < banks }
     requires other { other < banks }
     ensures { result ≡ is_copy image.now bank other }
 {
-    let mut all = true;
-    for number in 0..BANK_WORDS {
+    all_below(BANK_WORDS, |number| {
         let offset = offset_of(number);
-        if image.word(bank, offset) != image.word(other, offset) {
-            all = false;
-        }
-    }
-    all
+        image.word(bank, offset).to_u16() == image.word(other, offset).to_u16()
+    })
 }
 
 /// Whether all words of a bank that have the right parity are 00000.
-#[tactic(auto, using(crate::proofs::Folds::all_first, crate::proofs::Folds::all_there, crate::proofs::Folds::all_passed))]
 pub(crate) fn is_blank(image: &Dump, turned: bool, bank: Bank) -> bool
     requires { bank < banks }
     ensures { result ≡ is_blank image.now turned bank }
 {
-    let mut all = true;
-    for number in 0..BANK_WORDS {
+    all_below(BANK_WORDS, |number| {
         let offset = offset_of(number);
-        if !(is_wrong(image, turned, bank, offset) || image.word(bank, offset) == Word::ZERO) {
-            all = false;
-        }
-    }
-    all
+        is_wrong(image, turned, bank, offset) || image.word(bank, offset).to_u16() == 0
+    })
 }
 
 /// A bit of a word, of which 1 is the lowest.
@@ -230,20 +213,16 @@ fn bit_of(word: u16, bit: u32) -> u16
 }
 
 /// Whether a bit is the same in all words of a bank.
-#[tactic(auto, using(crate::proofs::Folds::all_first, crate::proofs::Folds::all_there, crate::proofs::Folds::all_passed))]
 pub(crate) fn is_always(image: &Dump, bank: Bank, bit: u32, value: u16) -> bool
     requires bank { bank < banks }
     requires some { 1 ≤ bit }
     requires few { bit ≤ 15 }
     ensures { result ≡ is_always image.now bank bit value }
 {
-    let mut all = true;
-    for number in 0..BANK_WORDS {
-        if bit_of(image.word(bank, offset_of(number)).to_u16(), bit) != value {
-            all = false;
-        }
-    }
-    all
+    all_below(
+        BANK_WORDS,
+        |number| bit_of(image.word(bank, offset_of(number)).to_u16(), bit) == value,
+    )
 }
 
 /// Whether a bit is the same in all words of a bank, and its sum says that it is lost, or many parities do.
@@ -258,35 +237,24 @@ pub(crate) fn is_lost(image: &Dump, turned: bool, bank: Bank, bit: u32) -> bool
 }
 
 /// How many bits of a bank's words are lost.
-#[tactic(auto, using(crate::proofs::Folds::count_first, crate::proofs::Folds::count_there, crate::proofs::Folds::count_passed))]
 pub(crate) fn lost_bits(image: &Dump, turned: bool, bank: Bank) -> u16
     requires { bank < banks }
     ensures count { result ≡ count_before (λ n. is_lost image.now turned bank (n + 1)) 15 }
     ensures few { result ≤ 15 }
 {
-    let mut count = 0;
-    for number in 0..15 {
-        if is_lost(image, turned, bank, number + 1) {
-            count += 1;
-        }
-    }
-    count
+    count_below(
+        15,
+        |number| is_lost(image, turned, bank, u32::from(number) + 1),
+    )
 }
 
 /// How many ways there are to turn a bit that make a bank's sum right.
-#[tactic(auto, using(crate::proofs::Folds::count_first, crate::proofs::Folds::count_there, crate::proofs::Folds::count_passed))]
 pub(crate) fn ways_to_mend(image: &Dump, turned: bool, bank: Bank) -> u16
     requires { bank < banks }
     ensures count { result ≡ count_before (mends image.now turned bank) 16 }
     ensures few { result ≤ 16 }
 {
-    let mut count = 0;
-    for bit in 0..16 {
-        if mends(image, turned, bank, bit) {
-            count += 1;
-        }
-    }
-    count
+    count_below(16, |bit| mends(image, turned, bank, u32::from(bit)))
 }
 
 /// An offset with one of its bits 0, of which 1 is the lowest.
@@ -300,25 +268,21 @@ fn with_bit_cleared(offset: Offset, bit: u32) -> Offset
 }
 
 /// Whether a bit of the offset leads to the same word of a bank, 0 or 1.
-#[tactic(auto, using(crate::proofs::Folds::all_first, crate::proofs::Folds::all_there, crate::proofs::Folds::all_passed))]
 fn is_dead(image: &Dump, bank: Bank, bit: u32) -> bool
     requires bank { bank < banks }
     requires some { 1 ≤ bit }
     requires few { bit ≤ 10 }
     ensures { result ≡ is_dead image.now bank bit }
 {
-    let mut all = true;
-    for number in 0..BANK_WORDS {
+    all_below(BANK_WORDS, |number| {
         let offset = offset_of(number);
-        if image.word(bank, offset) != image.word(bank, with_bit_cleared(offset, bit)) {
-            all = false;
-        }
-    }
-    all
+        image.word(bank, offset).to_u16()
+            == image.word(bank, with_bit_cleared(offset, bit)).to_u16()
+    })
 }
 
 /// The highest bit of the offset that leads to the same words of a bank, 0 or 1; 0 where none does.
-#[tactic(auto, using(crate::proofs::Folds::dead_first, crate::proofs::Folds::dead_there, crate::proofs::Folds::dead_passed))]
+#[tactic(auto, using(crate::proofs::Folds::dead_steps))]
 pub(crate) fn dead_bit(image: &Dump, bank: Bank) -> u32
     requires { bank < banks }
     ensures bit { result ≡ dead_bit image.now bank }
@@ -344,20 +308,16 @@ pub(crate) fn has_loops(image: &Dump, bank: Bank, bit: u32, value: u16) -> bool
 }
 
 /// At how many places two of them begin.
-#[tactic(auto, using(crate::proofs::Folds::count_first, crate::proofs::Folds::count_there, crate::proofs::Folds::count_passed))]
 fn loops(image: &Dump, bank: Bank, bit: u32, value: u16) -> u16
     requires bank { bank < banks }
     requires few { bit ≤ 10 }
     ensures count { result ≡ count_before (has_loops_at image.now bank bit value) (bank_words - 1) }
     ensures few { result ≤ bank_words }
 {
-    let mut count = 0;
-    for number in 0..BANK_WORDS - 1 {
-        if has_loops_at(image, bank, bit, value, number) {
-            count += 1;
-        }
-    }
-    count
+    count_below(
+        BANK_WORDS - 1,
+        |number| has_loops_at(image, bank, bit, value, number),
+    )
 }
 
 /// Whether the word of an offset and the next one are, and stand there.

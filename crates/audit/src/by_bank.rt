@@ -7,11 +7,11 @@ ghost use Rattle.rope.specs.Places.{banks, Words};
 ghost use Rattle.audit.specs.ByBank.{by_bank, by_word};
 ghost use Rattle.audit.specs.WordLines.{extracode_at};
 
-use crate::lines::{bank_of, offset_of};
+use crate::lines::{Written, bank_of, offset_of};
 use cpu::extracode_after;
 use rope::Rope;
 use space::{BANK_WORDS, Bank, FIXED_BANKS, Offset};
-use words::{Write, WriteFailed};
+use words::Write;
 
 /// A text of each bank of a rope.
 pub trait BankText {
@@ -21,7 +21,7 @@ pub trait BankText {
     /// Writes it.
     ///
     /// After a failure a beginning of it was written.
-    fn write<W: Write>(&self, rope: &Rope, bank: Bank, out: &mut W) -> Result<(), WriteFailed>
+    fn write<W: Write>(&self, rope: &Rope, bank: Bank, out: &mut W) -> Written
         ensures written { W.told ≡ true → Writes (W.written out.old) (W.written out.new) (text self.now rope.now bank)
             result }
         ensures failures { W.failures out.new ≡ failures_after (W.failures out.old) result };
@@ -35,7 +35,7 @@ pub fn write_by_bank<T: BankText, W: Write>(
     rope: &Rope,
     bank: Option<Bank>,
     out: &mut W,
-) -> Result<(), WriteFailed>
+) -> Written
     ensures written { W.told ≡ true → Writes (W.written out.old) (W.written out.new)
         (by_bank (T.text text.now rope.now) bank) result }
     ensures failures { W.failures out.new ≡ failures_after (W.failures out.old) result }
@@ -46,7 +46,7 @@ pub fn write_by_bank<T: BankText, W: Write>(
     }
 }
 
-fn write_banks<T: BankText, W: Write>(text: &T, rope: &Rope, out: &mut W) -> Result<(), WriteFailed>
+fn write_banks<T: BankText, W: Write>(text: &T, rope: &Rope, out: &mut W) -> Written
     ensures written { W.told ≡ true → Writes (W.written out.old) (W.written out.new)
         (flat_map (T.text text.now rope.now) (range_with_len 0 banks)) result }
     ensures failures { W.failures out.new ≡ failures_after (W.failures out.old) result }
@@ -73,7 +73,7 @@ pub trait WordText {
     /// Writes it.
     ///
     /// After a failure a beginning of it was written.
-    fn write<W: Write>(&self, rope: &Rope, word: WordAt, out: &mut W) -> Result<(), WriteFailed>
+    fn write<W: Write>(&self, rope: &Rope, word: WordAt, out: &mut W) -> Written
         requires { word.extra ≡ extracode_at rope.now word.bank word.offset }
         ensures written { W.told ≡ true → Writes (W.written out.old) (W.written out.new)
             (text self.now rope.now word.bank word.offset) result }
@@ -88,7 +88,7 @@ pub fn write_words_of<T: WordText, W: Write>(
     rope: &Rope,
     bank: Bank,
     out: &mut W,
-) -> Result<(), WriteFailed>
+) -> Written
     ensures written { W.told ≡ true → Writes (W.written out.old) (W.written out.new)
         (by_word (T.text text.now rope.now) bank) result }
     ensures failures { W.failures out.new ≡ failures_after (W.failures out.old) result }
@@ -116,7 +116,7 @@ pub struct EachWord<'a, T> {
 impl<'a, T: WordText> BankText for EachWord<'a, T> {
     ghost text = { λ each words bank. by_word (T.text each.text.now words) bank };
 
-    fn write<W: Write>(&self, rope: &Rope, bank: Bank, out: &mut W) -> Result<(), WriteFailed> {
+    fn write<W: Write>(&self, rope: &Rope, bank: Bank, out: &mut W) -> Written {
         write_words_of(self.text, rope, bank, out)
     }
 }

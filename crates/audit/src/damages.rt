@@ -1,6 +1,6 @@
 //! What is damaged in the banks of an image, as text.
 
-ghost use Rattle.std.specs.Prelude.{◌≡◌, ◌+◌, ◌<◌, ◌≤◌, ◌++◌, true, length, IfOk};
+ghost use Rattle.std.specs.Prelude.{◌≡◌, ◌+◌, ◌<◌, ◌≤◌, ◌++◌, true, length, codes, IfOk};
 ghost use Rattle.arrayvec.specs.ArrayVec.{array_vec_len};
 ghost use Rattle.std.specs.List.{flat_map, range_with_len};
 ghost use Rattle.words.specs.Devices.{Writes, failures_after};
@@ -8,11 +8,11 @@ ghost use Rattle.rope.specs.Places.{banks};
 ghost use Rattle.audit.specs.BankFacts.{count_before, dead_bit, is_always, is_turned, mended_sum, mends, wrong_words};
 ghost use Rattle.audit.specs.Orders.{arrangement_of};
 ghost use Rattle.audit.specs.Damages.{always_text, arrangement_text, bank_name, bank_of_sum, bank_text, by_count};
-ghost use Rattle.audit.specs.Damages.{by_its_sum, by_other, by_parities, by_sum, complemented_line, copy_line};
-ghost use Rattle.audit.specs.Damages.{count_in, count_of, damages, dead_line, dead_text, exchanged_line, finding_of};
+ghost use Rattle.audit.specs.Damages.{by_its_sum, by_other, by_parities, by_sum, complemented_line};
+ghost use Rattle.audit.specs.Damages.{count_in, count_of, damages, dead_line, dead_text, finding_of};
 ghost use Rattle.audit.specs.Damages.{finding_text, findings, in_order, is_damaged, lost_line, lost_lines, lost_text};
 ghost use Rattle.audit.specs.Damages.{module_text, modules, numbered_line, of_sum, of_uniform, of_wrong_parity};
-ghost use Rattle.audit.specs.Damages.{order_line, parity_bits_line, report, report_in, sum_of_line, turned_text};
+ghost use Rattle.audit.specs.Damages.{order_line, parity_bits_line, report, report_in, turned_text};
 ghost use Rattle.audit.specs.Damages.{uniform_line, ways_of, wrong_lines, wrong_sum_line};
 
 use crate::bank_facts::{
@@ -21,9 +21,10 @@ use crate::bank_facts::{
 };
 use crate::differences::count_line;
 use crate::form_sums::holds_sum;
-use crate::lines::{bank_of, offset_of};
+use crate::lines::{Written, bank_of, offset_of};
 use crate::lost_modules::write_module;
 use crate::orders::{Arrangement, Order, arrangement_of};
+use crate::ranges::count_below;
 use crate::wrong_words::write_wrong_words;
 use arrayvec::ArrayVec;
 use rope::Dump;
@@ -88,11 +89,7 @@ pub fn write_damages<W: Write>(image: &Dump, out: &mut W) -> Result<u32, WriteFa
 }
 
 /// Writes what is told of an image that stands so.
-fn write_report_in<W: Write>(
-    standing: Arrangement,
-    image: &Dump,
-    out: &mut W,
-) -> Result<(), WriteFailed>
+fn write_report_in<W: Write>(standing: Arrangement, image: &Dump, out: &mut W) -> Written
     ensures written { W.told ≡ true → Writes (W.written out.old) (W.written out.new) (report_in standing image.now)
         result }
     ensures failures { W.failures out.new ≡ failures_after (W.failures out.old) result }
@@ -176,7 +173,7 @@ fn numbered_line(is: bool) -> &'static [u8]
 }
 
 /// Writes what is damaged, module by module.
-fn write_report<W: Write>(image: &Dump, turned: bool, out: &mut W) -> Result<(), WriteFailed>
+fn write_report<W: Write>(image: &Dump, turned: bool, out: &mut W) -> Written
     ensures written { W.told ≡ true → Writes (W.written out.old) (W.written out.new) (report image.now turned) result }
     ensures failures { W.failures out.new ≡ failures_after (W.failures out.old) result }
 {
@@ -203,18 +200,14 @@ fn turned_text(turned: bool) -> &'static [u8]
 }
 
 /// How many banks are damaged.
-#[tactic(auto, using(crate::proofs::Folds::count_first, crate::proofs::Folds::count_there, crate::proofs::Folds::count_passed))]
 fn damaged_banks(image: &Dump, turned: bool) -> u16
     ensures count { result ≡ count_before (λ bank. is_damaged (finding_of image.now turned bank)) banks }
     ensures few { result ≤ banks }
 {
-    let mut count = 0;
-    for number in 0..FIXED_BANKS {
-        if is_damaged(finding_of(image, turned, bank_of(number))) {
-            count += 1;
-        }
-    }
-    count
+    count_below(
+        FIXED_BANKS,
+        |number| is_damaged(finding_of(image, turned, bank_of(number))),
+    )
 }
 
 /// Whether a finding is a damage.
@@ -348,7 +341,7 @@ fn bank_of_sum(total: Word) -> u16
 }
 
 /// Writes the texts of all modules.
-fn write_modules<W: Write>(image: &Dump, turned: bool, out: &mut W) -> Result<(), WriteFailed>
+fn write_modules<W: Write>(image: &Dump, turned: bool, out: &mut W) -> Written
     ensures written { W.told ≡ true → Writes (W.written out.old) (W.written out.new)
         (flat_map (module_text image.now turned) (range_with_len 0 modules)) result }
     ensures failures { W.failures out.new ≡ failures_after (W.failures out.old) result }
@@ -361,12 +354,7 @@ fn write_modules<W: Write>(image: &Dump, turned: bool, out: &mut W) -> Result<()
 
 /// Writes the text of a bank.
 #[tactic(auto, unfolding(crate::specs::Damages::bank_text))]
-pub(crate) fn write_bank<W: Write>(
-    image: &Dump,
-    turned: bool,
-    bank: Bank,
-    out: &mut W,
-) -> Result<(), WriteFailed>
+pub(crate) fn write_bank<W: Write>(image: &Dump, turned: bool, bank: Bank, out: &mut W) -> Written
     requires { bank < banks }
     ensures written { W.told ≡ true → Writes (W.written out.old) (W.written out.new) (bank_text image.now turned bank)
         result }
@@ -382,7 +370,7 @@ fn write_finding<W: Write>(
     bank: Bank,
     it: Finding,
     out: &mut W,
-) -> Result<(), WriteFailed>
+) -> Written
     requires bank { bank < banks }
     ensures written { W.told ≡ true → Writes (W.written out.old) (W.written out.new)
         (finding_text image.now turned bank it) result }
@@ -393,9 +381,24 @@ fn write_finding<W: Write>(
         Finding::Uniform => write_all(out, uniform_line(image, turned, bank).as_slice()),
         Finding::DeadBit => write_all(out, dead_line(image, turned, bank).as_slice()),
         Finding::WrongSum => write_all(out, wrong_sum_line(image, turned, bank).as_slice()),
-        Finding::CopyOf(other) => write_all(out, copy_line(bank, other).as_slice()),
-        Finding::SumOf(other) => write_all(out, sum_of_line(bank, other).as_slice()),
-        Finding::ExchangedWith(other) => write_all(out, exchanged_line(bank, other).as_slice()),
+        Finding::CopyOf(other) => {
+            write_all(
+                out,
+                line_of_two(bank, b" HAS THE WORDS OF ", other).as_slice(),
+            )
+        }
+        Finding::SumOf(other) => {
+            write_all(
+                out,
+                line_of_two(bank, b" HAS THE SUM OF ", other).as_slice(),
+            )
+        }
+        Finding::ExchangedWith(other) => {
+            write_all(
+                out,
+                line_of_two(bank, b" EXCHANGED WITH ", other).as_slice(),
+            )
+        }
         Finding::ParityBits => write_all(out, parity_bits_line(image, turned, bank).as_slice()),
         Finding::LostBits => write_lost_bits(image, turned, bank, out),
         Finding::WrongWords => write_wrong_words(image, turned, bank, out),
@@ -486,37 +489,14 @@ fn wrong_sum_line(image: &Dump, turned: bool, bank: Bank) -> BankLine
     line
 }
 
-/// A bank has the words of another.
-fn copy_line(bank: Bank, other: u16) -> BankLine
-    ensures { result.items ≡ copy_line bank other }
+/// The names of two banks, and what is between them.
+fn line_of_two(bank: Bank, between: &[u8], other: u16) -> BankLine
+    requires { length between.now ≤ 20 }
+    ensures { result.items ≡ bank_name bank ++ between.now ++ bank_name other ++ codes "\n" }
 {
     let mut line = ArrayVec::new();
     push_bank(&mut line, bank.number());
-    push_all(&mut line, b" HAS THE WORDS OF ");
-    push_bank(&mut line, other);
-    push_all(&mut line, b"\n");
-    line
-}
-
-/// A bank has the sum of another.
-fn sum_of_line(bank: Bank, other: u16) -> BankLine
-    ensures { result.items ≡ sum_of_line bank other }
-{
-    let mut line = ArrayVec::new();
-    push_bank(&mut line, bank.number());
-    push_all(&mut line, b" HAS THE SUM OF ");
-    push_bank(&mut line, other);
-    push_all(&mut line, b"\n");
-    line
-}
-
-/// A bank has the sum of another, and that one its.
-fn exchanged_line(bank: Bank, other: u16) -> BankLine
-    ensures { result.items ≡ exchanged_line bank other }
-{
-    let mut line = ArrayVec::new();
-    push_bank(&mut line, bank.number());
-    push_all(&mut line, b" EXCHANGED WITH ");
+    push_all(&mut line, between);
     push_bank(&mut line, other);
     push_all(&mut line, b"\n");
     line
@@ -537,12 +517,7 @@ fn parity_bits_line(image: &Dump, turned: bool, bank: Bank) -> BankLine
 }
 
 /// Writes a line for each bit of a bank's words that is lost.
-fn write_lost_bits<W: Write>(
-    image: &Dump,
-    turned: bool,
-    bank: Bank,
-    out: &mut W,
-) -> Result<(), WriteFailed>
+fn write_lost_bits<W: Write>(image: &Dump, turned: bool, bank: Bank, out: &mut W) -> Written
     requires { bank < banks }
     ensures written { W.told ≡ true → Writes (W.written out.old) (W.written out.new) (lost_lines image.now turned bank)
         result }
@@ -562,7 +537,7 @@ fn write_lost_bit<W: Write>(
     bank: Bank,
     number: u32,
     out: &mut W,
-) -> Result<(), WriteFailed>
+) -> Written
     requires bank { bank < banks }
     requires few { number < 15 }
     ensures written { W.told ≡ true → Writes (W.written out.old) (W.written out.new)

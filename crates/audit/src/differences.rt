@@ -1,17 +1,17 @@
 //! The places at which two fixed memories differ.
 
-ghost use Rattle.std.specs.Prelude.{◌≡◌, ◌<◌, ◌≤◌, true, length, IfOk};
+ghost use Rattle.std.specs.Prelude.{◌≡◌, ◌≤◌, true, length, IfOk};
 ghost use Rattle.words.specs.Devices.{Writes, failures_after};
 ghost use Rattle.arrayvec.specs.ArrayVec.{array_vec_len};
-ghost use Rattle.audit.specs.Differences.{is_compared, differing_at, differing_in, differing, difference_line};
-ghost use Rattle.audit.specs.Differences.{difference_lines, difference_text, count_line, differences};
+ghost use Rattle.audit.specs.Differences.{is_compared, differing, difference_line, difference_text};
+ghost use Rattle.audit.specs.Differences.{count_line, differences};
 ghost use Rattle.audit.specs.WordLines.{extracode_at};
 
-use crate::lines::{Line, bank_of, offset_of, push_instruction, push_place};
+use crate::by_difference::{DifferenceText, PlaceOfTwo, write_differing};
+use crate::lines::{Line, Written, push_instruction, push_place};
 use arrayvec::ArrayVec;
-use cpu::extracode_after;
 use rope::Rope;
-use space::{BANK_WORDS, Bank, FIXED_BANKS, Offset};
+use space::{Bank, Offset};
 use words::{Write, WriteFailed, push_all, push_decimal, push_octal, write_all};
 
 /// At which places the words of two fixed memories are compared.
@@ -25,7 +25,7 @@ pub enum Extent {
 
 impl Extent {
     /// Whether words are compared at a place.
-    fn has(self, old: &Rope, bank: Bank, offset: Offset) -> bool
+    pub(crate) fn has(self, old: &Rope, bank: Bank, offset: Offset) -> bool
         ensures { result ≡ is_compared self old.now bank offset }
     {
         match self {
@@ -52,85 +52,22 @@ pub fn write_differences<W: Write>(
     ensures count { IfOk result (λ count. count ≡ length (differing extent old.now new.now)) }
     ensures failures { W.failures out.new ≡ failures_after (W.failures out.old) result }
 {
-    let count = write_places(old, new, extent, out)?;
+    let count = write_differing(&DifferenceLines, old, new, extent, out)?;
     write_all(out, count_line(count).as_slice())?;
     Ok(count)
 }
 
-/// Writes the lines of all places, and answers how many.
-fn write_places<W: Write>(
-    old: &Rope,
-    new: &Rope,
-    extent: Extent,
-    out: &mut W,
-) -> Result<u32, WriteFailed>
-    ensures written { W.told ≡ true → Writes (W.written out.old) (W.written out.new)
-        (difference_lines old.now new.now (differing extent old.now new.now)) result }
-    ensures count { IfOk result (λ count. count ≡ length (differing extent old.now new.now)) }
-    ensures failures { W.failures out.new ≡ failures_after (W.failures out.old) result }
-{
-    let mut count = 0;
-    for bank in 0..FIXED_BANKS {
-        count += write_bank(old, new, extent, bank_of(bank), out)?;
-    }
-    Ok(count)
-}
+/// The lines of places.
+#[derive(Drop)]
+struct DifferenceLines;
 
-/// Writes the lines of a bank's places, and answers how many.
-fn write_bank<W: Write>(
-    old: &Rope,
-    new: &Rope,
-    extent: Extent,
-    bank: Bank,
-    out: &mut W,
-) -> Result<u32, WriteFailed>
-    ensures written { W.told ≡ true → Writes (W.written out.old) (W.written out.new)
-        (difference_lines old.now new.now (differing_in extent old.now new.now bank)) result }
-    ensures count { IfOk result (λ count. count ≡ length (differing_in extent old.now new.now bank)) }
-    ensures few { IfOk result (λ count. count ≤ 1024) }
-    ensures failures { W.failures out.new ≡ failures_after (W.failures out.old) result }
-{
-    let mut count = 0;
-    let mut extra = (false, false);
-    for number in 0..BANK_WORDS {
-        let offset = offset_of(number);
-        count += write_place(old, new, extent, bank, offset, extra, out)?;
-        extra = (
-            extracode_after(old.word(bank, offset), extra.0),
-            extracode_after(new.word(bank, offset), extra.1),
-        );
-    }
-    Ok(count)
-}
+impl DifferenceText for DifferenceLines {
+    ghost text = { λ _ old new place. difference_line old new place };
 
-/// Writes the line of a place where the words differ, and answers how many lines that is.
-#[tactic(auto, unfolding(crate::specs::Differences::difference_lines, crate::specs::Differences::differing_at))]
-fn write_place<W: Write>(
-    old: &Rope,
-    new: &Rope,
-    extent: Extent,
-    bank: Bank,
-    offset: Offset,
-    extra: (bool, bool),
-    out: &mut W,
-) -> Result<u32, WriteFailed>
-    requires old { extra.0 ≡ extracode_at old.now bank offset }
-    requires new { extra.1 ≡ extracode_at new.now bank offset }
-    ensures written { W.told ≡ true → Writes (W.written out.old) (W.written out.new)
-        (difference_lines old.now new.now (differing_at extent old.now new.now bank offset)) result }
-    ensures count { IfOk result (λ count. count ≡ length (differing_at extent old.now new.now bank offset)) }
-    ensures few { IfOk result (λ count. count ≤ 1) }
-    ensures failures { W.failures out.new ≡ failures_after (W.failures out.old) result }
-{
-    if !extent.has(old, bank, offset) {
-        return Ok(0);
+    fn write<W: Write>(&self, old: &Rope, new: &Rope, at: PlaceOfTwo, out: &mut W) -> Written {
+        let line = difference_line(old, new, at.bank, at.offset, at.extra);
+        write_all(out, line.as_slice())
     }
-    if old.word(bank, offset) == new.word(bank, offset) {
-        return Ok(0);
-    }
-    let line = difference_line(old, new, bank, offset, extra);
-    write_all(out, line.as_slice())?;
-    Ok(1)
 }
 
 /// The line of a place.

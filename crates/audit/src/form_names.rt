@@ -10,13 +10,14 @@ ghost use Rattle.audit.specs.FormNames.{form_line, form_lines, form_name, form_w
 ghost use Rattle.audit.specs.FormNames.{line_of_sums, name_if, names_in, names_of};
 
 use crate::form_sums::{form_sum, form_word, holds_sum, is_by_number};
-use crate::lines::{bank_of, offset_of};
+use crate::lines::{Written, bank_of, offset_of};
 use crate::orders::{EXTEND, NO_EXTEND, Order, PLACES, by_extends};
+use crate::ranges::{all_below, count_below};
 use crate::sums::bank_sum;
 use arrayvec::ArrayVec;
 use rope::{Rope, Version};
 use space::{BANK_WORDS, Bank, FIXED_BANKS, Offset};
-use words::{Word, Write, WriteFailed, push_all, push_octal, write_all};
+use words::{Word, Write, push_all, push_octal, write_all};
 
 /// The most bytes of a line: a number of 2 digits, two of 5, the names of the forms, and what stands between.
 const LINE: usize = 384;
@@ -44,11 +45,7 @@ pub struct Complements {
 /// Whether words are complemented no sum tells: EXTEND does, and else the empty banks.
 ///
 /// After a failure a beginning of it was written.
-pub fn write_form_sums<W: Write>(
-    rope: &Rope,
-    version: Version,
-    out: &mut W,
-) -> Result<(), WriteFailed>
+pub fn write_form_sums<W: Write>(rope: &Rope, version: Version, out: &mut W) -> Written
     ensures written { W.told ≡ true → Writes (W.written out.old) (W.written out.new) (form_lines version rope.now)
         result }
     ensures failures { W.failures out.new ≡ failures_after (W.failures out.old) result }
@@ -216,18 +213,11 @@ fn is_complemented(order: Order, version: Version, rope: &Rope) -> bool
 }
 
 /// How many words are this one in an order.
-#[tactic(auto, using(crate::proofs::Folds::count_first, crate::proofs::Folds::count_there, crate::proofs::Folds::count_passed))]
 fn words_of(order: Order, version: Version, rope: &Rope, word: u16) -> u16
     ensures count { result ≡ form_words_of order version rope.now word }
     ensures few { result ≤ fixed_places }
 {
-    let mut count = 0;
-    for number in 0..PLACES {
-        if is_word(order, version, rope, word, number) {
-            count += 1;
-        }
-    }
-    count
+    count_below(PLACES, |number| is_word(order, version, rope, word, number))
 }
 
 /// Whether the word of a number is this one.
@@ -247,32 +237,23 @@ fn has_full_bank(order: Order, version: Version, rope: &Rope) -> bool
 }
 
 /// How many banks have this word alone.
-#[tactic(auto, using(crate::proofs::Folds::count_first, crate::proofs::Folds::count_there, crate::proofs::Folds::count_passed))]
 fn banks_of(order: Order, version: Version, rope: &Rope, word: u16) -> u16
     ensures count { result ≡ count_before (form_is_all order version rope.now word) banks }
     ensures few { result ≤ banks }
 {
-    let mut count = 0;
-    for number in 0..FIXED_BANKS {
-        if is_all(order, version, rope, word, bank_of(number)) {
-            count += 1;
-        }
-    }
-    count
+    count_below(
+        FIXED_BANKS,
+        |number| is_all(order, version, rope, word, bank_of(number)),
+    )
 }
 
 /// Whether all words of a bank are this one.
-#[tactic(auto, using(crate::proofs::Folds::all_first, crate::proofs::Folds::all_there, crate::proofs::Folds::all_passed))]
 fn is_all(order: Order, version: Version, rope: &Rope, word: u16, bank: Bank) -> bool
     ensures { result ≡ form_is_all order version rope.now word bank }
 {
-    let mut all = true;
-    for number in 0..BANK_WORDS {
-        if form_word_at(order, version, rope, bank, offset_of(number)).to_u16() != word {
-            all = false;
-        }
-    }
-    all
+    all_below(BANK_WORDS, |number| {
+        form_word_at(order, version, rope, bank, offset_of(number)).to_u16() == word
+    })
 }
 
 /// The word that the bytes of a place are in an order.

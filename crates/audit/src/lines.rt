@@ -20,17 +20,16 @@ const LINE: usize = 48;
 
 pub type Line = ArrayVec<u8, LINE>;
 
+/// What comes of writing a text.
+pub type Written = Result<(), WriteFailed>;
+
 /// Writes a line for each word of a bank, or of all banks by their numbers, as `02,4001 64005 AD 4005`: its place, the
 /// word, and the instruction that it is. A word is read as an extracode where the words before it in the bank put
 /// extracode in force: EXTEND, or INDEX that is itself read so.
 ///
 /// After a failure a beginning of it was written.
 #[tactic(auto, unfolding(crate::specs::WordLines::bank_lines))]
-pub fn write_words<W: Write>(
-    rope: &Rope,
-    bank: Option<Bank>,
-    out: &mut W,
-) -> Result<(), WriteFailed>
+pub fn write_words<W: Write>(rope: &Rope, bank: Option<Bank>, out: &mut W) -> Written
     ensures written { W.told ≡ true → Writes (W.written out.old) (W.written out.new) (word_lines rope.now bank) result }
     ensures failures { W.failures out.new ≡ failures_after (W.failures out.old) result }
 {
@@ -44,7 +43,7 @@ struct WordTexts;
 impl WordText for WordTexts {
     ghost text = { λ _ words bank offset. word_line words bank offset };
 
-    fn write<W: Write>(&self, rope: &Rope, word: WordAt, out: &mut W) -> Result<(), WriteFailed> {
+    fn write<W: Write>(&self, rope: &Rope, word: WordAt, out: &mut W) -> Written {
         let line = word_line(rope, word.bank, word.offset, word.extra);
         write_all(out, line.as_slice())
     }

@@ -9,11 +9,12 @@ ghost use Rattle.audit.specs.Damages.{module_banks, module_line, module_text, mo
 
 use crate::bank_facts::{is_uniform, is_wrong};
 use crate::damages::{BankLine, is_damaged, of_uniform, push_of_wrong_parity, write_bank};
-use crate::lines::{bank_of, offset_of};
+use crate::lines::{Written, bank_of, offset_of};
+use crate::ranges::{all_below, count_below};
 use arrayvec::ArrayVec;
 use rope::Dump;
 use space::{BANK_WORDS, Bank};
-use words::{Word, Write, WriteFailed, push_all, push_octal, write_all};
+use words::{Word, Write, push_all, push_octal, write_all};
 
 /// How many banks a module has.
 const MODULE_BANKS: u16 = 6;
@@ -24,12 +25,7 @@ const MODULE_WORDS: u16 = 6 * 1024;
 /// Writes the text of a module: a line where all its words are one and none of its banks is empty, else the texts of
 /// its banks.
 #[tactic(auto, unfolding(crate::specs::Damages::module_text))]
-pub(crate) fn write_module<W: Write>(
-    image: &Dump,
-    turned: bool,
-    nth: u16,
-    out: &mut W,
-) -> Result<(), WriteFailed>
+pub(crate) fn write_module<W: Write>(image: &Dump, turned: bool, nth: u16, out: &mut W) -> Written
     requires { nth < modules }
     ensures written { W.told ≡ true → Writes (W.written out.old) (W.written out.new)
         (module_text image.now turned nth) result }
@@ -43,12 +39,7 @@ pub(crate) fn write_module<W: Write>(
 }
 
 /// Writes the texts of the banks of a module.
-fn write_banks<W: Write>(
-    image: &Dump,
-    turned: bool,
-    nth: u16,
-    out: &mut W,
-) -> Result<(), WriteFailed>
+fn write_banks<W: Write>(image: &Dump, turned: bool, nth: u16, out: &mut W) -> Written
     requires { nth < modules }
     ensures written { W.told ≡ true → Writes (W.written out.old) (W.written out.new)
         (bank_texts image.now turned nth) result }
@@ -70,20 +61,16 @@ fn first_bank(nth: u16) -> u16
 }
 
 /// Whether all words of a module are one, though none of its banks is empty.
-#[tactic(auto, using(crate::proofs::Folds::all_first, crate::proofs::Folds::all_there, crate::proofs::Folds::all_passed))]
 fn is_lost_module(image: &Dump, turned: bool, nth: u16) -> bool
     requires { nth < modules }
     ensures { result ≡ is_lost_module image.now turned nth }
 {
     let first = first_bank(nth);
     let word = image.word(bank_of(first), offset_of(0));
-    let mut all = true;
-    for number in 0..MODULE_BANKS {
-        if !is_lost_bank(image, turned, word, bank_of(first + number)) {
-            all = false;
-        }
-    }
-    all
+    all_below(
+        MODULE_BANKS,
+        |number| is_lost_bank(image, turned, word, bank_of(first + number)),
+    )
 }
 
 /// Whether all words of a bank are this one, though it is not empty.
@@ -96,20 +83,16 @@ fn is_lost_bank(image: &Dump, turned: bool, word: Word, bank: Bank) -> bool
 }
 
 /// How many words of a module have a wrong parity.
-#[tactic(auto, using(crate::proofs::Folds::count_first, crate::proofs::Folds::count_there, crate::proofs::Folds::count_passed))]
 fn wrong_in_module(image: &Dump, turned: bool, nth: u16) -> u16
     requires { nth < modules }
     ensures count { result ≡ wrong_in_module image.now turned nth }
     ensures few { result ≤ module_banks * bank_words }
 {
     let first = first_bank(nth);
-    let mut count = 0;
-    for number in 0..MODULE_WORDS {
-        if is_wrong_word(image, turned, first, number) {
-            count += 1;
-        }
-    }
-    count
+    count_below(
+        MODULE_WORDS,
+        |number| is_wrong_word(image, turned, first, number),
+    )
 }
 
 /// Whether the word of a number has, counted from the first of a bank.

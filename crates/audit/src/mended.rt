@@ -10,12 +10,13 @@ ghost use Rattle.audit.specs.Mended.{mended_source, remark, wrong_bit};
 ghost use Rattle.audit.specs.BankFacts.{count_before};
 
 use crate::bank_facts::{is_blank, is_lost, is_turned, is_wrong, mended_word, mends, wrong_words};
-use crate::lines::{Line, bank_of, offset_of, push_place};
+use crate::lines::{Line, Written, bank_of, offset_of, push_place};
+use crate::ranges::count_below;
 use crate::source::bank_line;
 use arrayvec::ArrayVec;
 use rope::Dump;
 use space::{BANK_WORDS, Bank, FIXED_BANKS, Offset};
-use words::{Write, WriteFailed, push_all, push_octal, write_all};
+use words::{Write, push_all, push_octal, write_all};
 
 /// Writes a source that gives the words of an image, as `write_source` does: where one bit alone can have been wrong in
 /// a bank's words of wrong parity, by its sum, they are written with that bit turned, and the comment tells what they
@@ -24,7 +25,7 @@ use words::{Write, WriteFailed, push_all, push_octal, write_all};
 /// told.
 ///
 /// After a failure a beginning of it was written.
-pub fn write_mended<W: Write>(image: &Dump, out: &mut W) -> Result<(), WriteFailed>
+pub fn write_mended<W: Write>(image: &Dump, out: &mut W) -> Written
     ensures written { W.told ≡ true → Writes (W.written out.old) (W.written out.new) (mended_source image.now) result }
     ensures failures { W.failures out.new ≡ failures_after (W.failures out.old) result }
 {
@@ -32,7 +33,7 @@ pub fn write_mended<W: Write>(image: &Dump, out: &mut W) -> Result<(), WriteFail
 }
 
 /// Writes the lines of all banks.
-fn write_banks<W: Write>(image: &Dump, turned: bool, out: &mut W) -> Result<(), WriteFailed>
+fn write_banks<W: Write>(image: &Dump, turned: bool, out: &mut W) -> Written
     ensures written { W.told ≡ true → Writes (W.written out.old) (W.written out.new)
         (flat_map (mended_bank image.now turned) (range_with_len 0 banks)) result }
     ensures failures { W.failures out.new ≡ failures_after (W.failures out.old) result }
@@ -44,12 +45,7 @@ fn write_banks<W: Write>(image: &Dump, turned: bool, out: &mut W) -> Result<(), 
 }
 
 /// Writes the lines of a bank.
-fn write_bank<W: Write>(
-    image: &Dump,
-    turned: bool,
-    bank: Bank,
-    out: &mut W,
-) -> Result<(), WriteFailed>
+fn write_bank<W: Write>(image: &Dump, turned: bool, bank: Bank, out: &mut W) -> Written
     requires { bank < banks }
     ensures written { W.told ≡ true → Writes (W.written out.old) (W.written out.new) (mended_bank image.now turned bank)
         result }
@@ -60,12 +56,7 @@ fn write_bank<W: Write>(
 }
 
 /// Writes the lines of a bank's words.
-fn write_words<W: Write>(
-    image: &Dump,
-    turned: bool,
-    bank: Bank,
-    out: &mut W,
-) -> Result<(), WriteFailed>
+fn write_words<W: Write>(image: &Dump, turned: bool, bank: Bank, out: &mut W) -> Written
     requires { bank < banks }
     ensures written { W.told ≡ true → Writes (W.written out.old) (W.written out.new)
         (mended_lines image.now turned bank) result }
@@ -91,19 +82,12 @@ fn is_sure(image: &Dump, turned: bool, bank: Bank) -> bool
 }
 
 /// How many bits may be.
-#[tactic(auto, using(crate::proofs::Folds::count_first, crate::proofs::Folds::count_there, crate::proofs::Folds::count_passed))]
 fn bits(image: &Dump, turned: bool, bank: Bank) -> u16
     requires { bank < banks }
     ensures count { result ≡ count_before (may_be_wrong image.now turned bank) 16 }
     ensures few { result ≤ 16 }
 {
-    let mut count = 0;
-    for bit in 0..16 {
-        if may_be_wrong(image, turned, bank, bit) {
-            count += 1;
-        }
-    }
-    count
+    count_below(16, |bit| may_be_wrong(image, turned, bank, u32::from(bit)))
 }
 
 /// Whether a bit may be wrong in each of a bank's words of wrong parity.
@@ -133,7 +117,7 @@ fn wrong_bit(image: &Dump, turned: bool, bank: Bank, sure: bool) -> u32
 }
 
 /// The highest bit that may be wrong.
-#[tactic(auto, using(crate::proofs::Folds::last_first, crate::proofs::Folds::last_there, crate::proofs::Folds::last_passed))]
+#[tactic(auto, using(crate::proofs::Folds::last_steps))]
 fn last_bit(image: &Dump, turned: bool, bank: Bank) -> u32
     requires { bank < banks }
     ensures bit { result ≡ last_before (may_be_wrong image.now turned bank) 16 }

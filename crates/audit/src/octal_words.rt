@@ -31,7 +31,7 @@ type Next = (Option<Bank>, u16);
 /// its first place on, five octal digits each, as many in a line as there are. A semicolon begins a comment, a line may
 /// be empty, and one may end with a carriage return. Inside is an
 /// `Err` with the number of the first line of another form.
-#[tactic(auto, using(crate::proofs::OctalSteps::reads_none, crate::proofs::OctalSteps::reads_refused, crate::proofs::OctalSteps::reads_next))]
+#[tactic(auto, using(crate::proofs::OctalSteps::reads_steps))]
 pub fn octal_words(alloc: Global, text: &[u8]) -> Result<Result<Rope, u64>, RopeFault>
     ensures { IfOk result (λ words. words ≡ octal_words text.now) }
 {
@@ -217,7 +217,7 @@ fn is_free(words: &Rope, bank: Bank, offset: u16) -> bool
 }
 
 /// Puts the words of a text's fields, one after another.
-#[tactic(auto, using(crate::proofs::OctalSteps::puts_none, crate::proofs::OctalSteps::puts_refused, crate::proofs::OctalSteps::puts_next))]
+#[tactic(auto, using(crate::proofs::OctalSteps::puts_steps))]
 fn put_all(words: &mut Rope, next: Next, text: &[u8]) -> Option<Next>
     ensures { MatchOption result
         (put_all (state words.old next.0 next.1) (texts (runs text.now)) ≡ None)

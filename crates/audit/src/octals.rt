@@ -5,21 +5,17 @@ ghost use Rattle.words.specs.Devices.{Writes, failures_after};
 ghost use Rattle.audit.specs.Octals.{bank_head, bank_octals, behind, octal_word, octals_text};
 
 use crate::by_bank::{BankText, WordAt, WordText, write_by_bank, write_words_of};
-use crate::lines::{Line, heading};
+use crate::lines::{Line, Written, heading};
 use arrayvec::ArrayVec;
 use rope::Rope;
 use space::{Bank, Offset};
-use words::{Write, WriteFailed, push_all, push_octal, write_all};
+use words::{Write, push_all, push_octal, write_all};
 
 /// Writes the words of a bank, or of all banks by their numbers, as a text of octal words: a line as `BANK=02` for each
 /// bank, and below it its words of five digits, eight a line.
 ///
 /// After a failure a beginning of it was written.
-pub fn write_octals<W: Write>(
-    rope: &Rope,
-    bank: Option<Bank>,
-    out: &mut W,
-) -> Result<(), WriteFailed>
+pub fn write_octals<W: Write>(rope: &Rope, bank: Option<Bank>, out: &mut W) -> Written
     ensures written { W.told ≡ true → Writes (W.written out.old) (W.written out.new) (octals_text rope.now bank)
         result }
     ensures failures { W.failures out.new ≡ failures_after (W.failures out.old) result }
@@ -34,7 +30,7 @@ struct OctalTexts;
 impl BankText for OctalTexts {
     ghost text = { λ _ words bank. bank_octals words bank };
 
-    fn write<W: Write>(&self, rope: &Rope, bank: Bank, out: &mut W) -> Result<(), WriteFailed> {
+    fn write<W: Write>(&self, rope: &Rope, bank: Bank, out: &mut W) -> Written {
         write_all(out, bank_head(bank).as_slice())?;
         write_words_of(self, rope, bank, out)
     }
@@ -43,7 +39,7 @@ impl BankText for OctalTexts {
 impl WordText for OctalTexts {
     ghost text = { λ _ words bank offset. octal_word words bank offset };
 
-    fn write<W: Write>(&self, rope: &Rope, word: WordAt, out: &mut W) -> Result<(), WriteFailed> {
+    fn write<W: Write>(&self, rope: &Rope, word: WordAt, out: &mut W) -> Written {
         write_all(out, octal_word(rope, word.bank, word.offset).as_slice())
     }
 }

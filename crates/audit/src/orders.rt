@@ -12,6 +12,7 @@ ghost use Rattle.audit.specs.WordOrders.{by_extends, bytes_exchanged, extend, no
 use crate::bank_facts::{is_turned, is_uniform, wrong_words};
 use crate::form_sums::{holds_sum, lowest_bit};
 use crate::lines::{bank_of, offset_of};
+use crate::ranges::{all_below, count_below};
 use crate::sums::added;
 use rope::{Dump, Version};
 use space::{BANK_WORDS, Bank, FIXED_BANKS, Offset};
@@ -45,7 +46,7 @@ pub struct Arrangement {
 const FIRST_BANKS: u16 = 4;
 
 /// How many words fixed memory has.
-pub(crate) const PLACES: u16 = 36 * 1024;
+pub const PLACES: u16 = 36 * 1024;
 
 /// EXTEND.
 pub(crate) const EXTEND: u16 = 0o6;
@@ -96,17 +97,13 @@ fn is_by_number(order: Order, image: &Dump) -> bool
 
 /// Whether each of the first four banks of more than one word has the sum of the one that stands in its place by the
 /// numbers.
-#[tactic(auto, using(crate::proofs::Folds::all_first, crate::proofs::Folds::all_there, crate::proofs::Folds::all_passed))]
 fn stand_by_number(order: Order, image: &Dump) -> bool
     ensures { result ≡ all_before (stands_by_number order image.now) 4 }
 {
-    let mut all = true;
-    for number in 0..FIRST_BANKS {
-        if !stands_by_number(order, image, bank_of(number)) {
-            all = false;
-        }
-    }
-    all
+    all_below(
+        FIRST_BANKS,
+        |number| stands_by_number(order, image, bank_of(number)),
+    )
 }
 
 /// Whether one of the first four banks has.
@@ -131,17 +128,10 @@ pub(crate) fn partner(bank: Bank) -> Bank
 }
 
 /// Whether all words of each of the first four banks are one.
-#[tactic(auto, using(crate::proofs::Folds::all_first, crate::proofs::Folds::all_there, crate::proofs::Folds::all_passed))]
 fn are_uniform(image: &Dump) -> bool
     ensures { result ≡ all_before (is_uniform image.now) 4 }
 {
-    let mut all = true;
-    for number in 0..FIRST_BANKS {
-        if !is_uniform(image, bank_of(number)) {
-            all = false;
-        }
-    }
-    all
+    all_below(FIRST_BANKS, |number| is_uniform(image, bank_of(number)))
 }
 
 /// Whether an image is complemented in an order.
@@ -172,18 +162,11 @@ pub(crate) fn by_extends(extends: u16, others: u16, otherwise: bool) -> bool
 }
 
 /// How many words of an image are this one in an order.
-#[tactic(auto, using(crate::proofs::Folds::count_first, crate::proofs::Folds::count_there, crate::proofs::Folds::count_passed))]
 fn words_of(order: Order, image: &Dump, word: u16) -> u16
     ensures count { result ≡ words_of order image.now word }
     ensures few { result ≤ fixed_places }
 {
-    let mut count = 0;
-    for number in 0..PLACES {
-        if is_word(order, image, word, number) {
-            count += 1;
-        }
-    }
-    count
+    count_below(PLACES, |number| is_word(order, image, word, number))
 }
 
 /// Whether the word of a number is this one.
@@ -203,18 +186,14 @@ fn has_full_bank(order: Order, image: &Dump, turned: bool) -> bool
 }
 
 /// How many banks have this word alone.
-#[tactic(auto, using(crate::proofs::Folds::count_first, crate::proofs::Folds::count_there, crate::proofs::Folds::count_passed))]
 fn banks_of(order: Order, image: &Dump, turned: bool, word: u16) -> u16
     ensures count { result ≡ count_before (is_all order image.now turned word) banks }
     ensures few { result ≤ banks }
 {
-    let mut count = 0;
-    for number in 0..FIXED_BANKS {
-        if is_all(order, image, turned, word, bank_of(number)) {
-            count += 1;
-        }
-    }
-    count
+    count_below(
+        FIXED_BANKS,
+        |number| is_all(order, image, turned, word, bank_of(number)),
+    )
 }
 
 /// Whether all words of a bank are this one, and have the right parity.
@@ -226,18 +205,14 @@ fn is_all(order: Order, image: &Dump, turned: bool, word: u16, bank: Bank) -> bo
 }
 
 /// Whether all words of a bank are this one.
-#[tactic(auto, using(crate::proofs::Folds::all_first, crate::proofs::Folds::all_there, crate::proofs::Folds::all_passed))]
 fn are_all(order: Order, image: &Dump, word: u16, bank: Bank) -> bool
     requires { bank < banks }
     ensures { result ≡ all_before (λ offset. word_in_at order image.now bank offset == word) bank_words }
 {
-    let mut all = true;
-    for number in 0..BANK_WORDS {
-        if word_in_at(order, image, bank, offset_of(number)).to_u16() != word {
-            all = false;
-        }
-    }
-    all
+    all_below(
+        BANK_WORDS,
+        |number| word_in_at(order, image, bank, offset_of(number)).to_u16() == word,
+    )
 }
 
 /// The order in which most banks have their own sums, by how many have: as written, where no other has more.
@@ -256,18 +231,14 @@ fn most_of(written: u16, exchanged: u16, hardware: u16, both: u16) -> Order
 }
 
 /// How many banks of more than one word have their own sums in an order.
-#[tactic(auto, using(crate::proofs::Folds::count_first, crate::proofs::Folds::count_there, crate::proofs::Folds::count_passed))]
 fn held_in(order: Order, image: &Dump) -> u16
     ensures count { result ≡ held_in order image.now }
     ensures few { result ≤ banks }
 {
-    let mut count = 0;
-    for number in 0..FIXED_BANKS {
-        if holds_in(order, image, bank_of(number)) {
-            count += 1;
-        }
-    }
-    count
+    count_below(
+        FIXED_BANKS,
+        |number| holds_in(order, image, bank_of(number)),
+    )
 }
 
 /// Whether a bank of more than one word has its own sum in an order.

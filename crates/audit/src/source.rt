@@ -6,22 +6,18 @@ ghost use Rattle.audit.specs.SourceLines.{bank_line, octal_line, bank_source, so
 ghost use Rattle.audit.specs.WordLines.{extracode_at};
 
 use crate::by_bank::{BankText, WordAt, WordText, write_by_bank, write_words_of};
-use crate::lines::{Line, heading, push_instruction, push_place};
+use crate::lines::{Line, Written, heading, push_instruction, push_place};
 use arrayvec::ArrayVec;
 use rope::Rope;
 use space::{Bank, Offset};
-use words::{Write, WriteFailed, push_all, push_octal, write_all};
+use words::{Write, push_all, push_octal, write_all};
 
 /// Writes a source that gives the words of a bank, or of all banks by their numbers: a line BANK for each bank, and
 /// below it a line for each of its words, as `        OCT     64005   # 02,4001 AD 4005`, where the place and the
 /// instruction that the word is are a comment.
 ///
 /// After a failure a beginning of it was written.
-pub fn write_source<W: Write>(
-    rope: &Rope,
-    bank: Option<Bank>,
-    out: &mut W,
-) -> Result<(), WriteFailed>
+pub fn write_source<W: Write>(rope: &Rope, bank: Option<Bank>, out: &mut W) -> Written
     ensures written { W.told ≡ true → Writes (W.written out.old) (W.written out.new) (source_text rope.now bank)
         result }
     ensures failures { W.failures out.new ≡ failures_after (W.failures out.old) result }
@@ -36,7 +32,7 @@ struct SourceTexts;
 impl BankText for SourceTexts {
     ghost text = { λ _ words bank. bank_source words bank };
 
-    fn write<W: Write>(&self, rope: &Rope, bank: Bank, out: &mut W) -> Result<(), WriteFailed> {
+    fn write<W: Write>(&self, rope: &Rope, bank: Bank, out: &mut W) -> Written {
         write_all(out, bank_line(bank).as_slice())?;
         write_words_of(self, rope, bank, out)
     }
@@ -45,7 +41,7 @@ impl BankText for SourceTexts {
 impl WordText for SourceTexts {
     ghost text = { λ _ words bank offset. octal_line words bank offset };
 
-    fn write<W: Write>(&self, rope: &Rope, word: WordAt, out: &mut W) -> Result<(), WriteFailed> {
+    fn write<W: Write>(&self, rope: &Rope, word: WordAt, out: &mut W) -> Written {
         let line = octal_line(rope, word.bank, word.offset, word.extra);
         write_all(out, line.as_slice())
     }

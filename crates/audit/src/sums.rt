@@ -5,18 +5,18 @@ ghost use Rattle.words.specs.Devices.{Writes, failures_after};
 ghost use Rattle.rope.specs.Places.{bank_words};
 ghost use Rattle.audit.specs.Sums.{added, sum_before, sum_line, sum_lines};
 
-use crate::lines::{Line, bank_of, offset_of};
+use crate::lines::{Line, Written, bank_of, offset_of};
 use arrayvec::ArrayVec;
 use rope::Rope;
 use space::{BANK_WORDS, Bank, FIXED_BANKS};
-use words::{Overflow, Word, Write, WriteFailed, push_all, push_octal, write_all};
+use words::{Overflow, Word, Write, push_all, push_octal, write_all};
 
 /// Writes a line for each bank by its number, as `02 00002`: the number, and the ones' complement sum of the bank's
 /// words as a program adds them up that checks its own memory. Where a sum overflows, plus or minus one is added to
 /// what is stored.
 ///
 /// After a failure a beginning of it was written.
-pub fn write_sums<W: Write>(rope: &Rope, out: &mut W) -> Result<(), WriteFailed>
+pub fn write_sums<W: Write>(rope: &Rope, out: &mut W) -> Written
     ensures written { W.told ≡ true → Writes (W.written out.old) (W.written out.new) (sum_lines rope.now) result }
     ensures failures { W.failures out.new ≡ failures_after (W.failures out.old) result }
 {

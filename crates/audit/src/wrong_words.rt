@@ -8,7 +8,7 @@ ghost use Rattle.audit.specs.Damages.{candidate, candidate_text, candidates, is_
 ghost use Rattle.audit.specs.Damages.{wrong_head, wrong_lines, wrong_text};
 
 use crate::bank_facts::{is_blank, is_wrong, mends, ways_to_mend, with_bit_turned, wrong_words};
-use crate::lines::{Line, offset_of, push_place};
+use crate::lines::{Line, Written, offset_of, push_place};
 use arrayvec::ArrayVec;
 use rope::Dump;
 use space::{BANK_WORDS, Bank, Offset};
@@ -23,7 +23,7 @@ pub(crate) fn write_wrong_words<W: Write>(
     turned: bool,
     bank: Bank,
     out: &mut W,
-) -> Result<(), WriteFailed>
+) -> Written
     requires { bank < banks }
     ensures written { W.told ≡ true → Writes (W.written out.old) (W.written out.new) (wrong_lines image.now turned bank)
         result }
@@ -55,7 +55,7 @@ fn write_wrong_word<W: Write>(
     offset: Offset,
     told: bool,
     out: &mut W,
-) -> Result<(), WriteFailed>
+) -> Written
     requires bank { bank < banks }
     requires told { told ≡ is_told_by_sum image.now turned bank }
     ensures written { W.told ≡ true → Writes (W.written out.old) (W.written out.new)
@@ -89,7 +89,7 @@ fn write_verdict<W: Write>(
     word: Word,
     told: bool,
     out: &mut W,
-) -> Result<(), WriteFailed>
+) -> Written
     requires bank { bank < banks }
     requires told { told ≡ is_told_by_sum image.now turned bank }
     ensures written { W.told ≡ true → Writes (W.written out.old) (W.written out.new)
@@ -110,7 +110,7 @@ fn write_candidates<W: Write>(
     bank: Bank,
     word: Word,
     out: &mut W,
-) -> Result<(), WriteFailed>
+) -> Written
     requires { bank < banks }
     ensures written { W.told ≡ true → Writes (W.written out.old) (W.written out.new)
         (candidates image.now turned bank word) result }

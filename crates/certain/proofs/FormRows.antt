@@ -6,7 +6,6 @@ use Rattle.agc_text.specs.Fields.{runs}
 use Rattle.rope.specs.Places.{Words, word_at}
 use Rattle.yayul.specs.Listing.{number_column}
 use Rattle.yayul.specs.Readings.{parts_for}
-use Rattle.yayul.specs.Roles.{roles, flight_roles}
 use Rattle.yayul.specs.declared.language.Language.TheVariants.{Flight}
 use Rattle.certain.specs.declared.form.UncertainForm.{UncertainForm}
 use Rattle.certain.specs.declared.form.UncertainForm.TheVariants.{SuperbankBits, HeldBank, GeneralAddress, Downlist, Complement, OctalWords}
@@ -17,6 +16,8 @@ use Rattle.certain.specs.Comparison.{form_text, uncertain_text}
 use Rattle.certain.specs.LineForms.{both, ebank_after, forms_on, second_at}
 use Rattle.certain.specs.Places.{row_passed, rows_passed, start_with}
 use Rattle.yayul.specs.PlaceMargin.{is_second, place_before, place_margin, text_on}
+use Rattle.yayul.specs.Operators.{operator_rows}
+use Rattle.yayul.specs.Flight.{flight_rows}
 
 abbrev lf : List ℕ
 lf = 10 ∷ []
@@ -33,127 +34,127 @@ abbrev pair : Option UncertainForm → Option UncertainForm → Bool → LineFor
 pair first second far = record { first = first; second = second; is_far = far }
 
 instruction : of_line (codes " CA X") ≡ both None
-unfolding forms_on runs roles flight_roles
+unfolding forms_on runs operator_rows flight_rows
 instruction = refl
 
 octal : of_line (codes "TEN OCT 12") ≡ both None
-unfolding forms_on runs roles flight_roles
+unfolding forms_on runs operator_rows flight_rows
 octal = refl
 
 octal_with_sign : of_line (codes " OCT -20000") ≡ both (Some SignedOctal)
-unfolding forms_on runs roles flight_roles
+unfolding forms_on runs operator_rows flight_rows
 octal_with_sign = refl
 
 octal_by_its_long_name : of_line (codes " OCTAL 12") ≡ both (Some OctalWords)
-unfolding forms_on runs roles flight_roles
+unfolding forms_on runs operator_rows flight_rows
 octal_by_its_long_name = refl
 
 octal_pair : of_line (codes " 2OCT 0000100002") ≡ both (Some OctalWords)
-unfolding forms_on runs roles flight_roles
+unfolding forms_on runs operator_rows flight_rows
 octal_pair = refl
 
 verb_and_noun : of_line (codes " VN 0616") ≡ both (Some VerbNoun)
-unfolding forms_on runs roles flight_roles
+unfolding forms_on runs operator_rows flight_rows
 verb_and_noun = refl
 
 decimal_number : of_line (codes " DEC 5") ≡ both None
-unfolding forms_on runs roles flight_roles
+unfolding forms_on runs operator_rows flight_rows
 decimal_number = refl
 
 decimal_with_a_point : of_line (codes " DEC .5") ≡ both (Some ScaledDecimal)
-unfolding forms_on runs roles flight_roles
+unfolding forms_on runs operator_rows flight_rows
 decimal_with_a_point = refl
 
 decimal_with_a_scale : of_line (codes " DEC 5 B-4") ≡ both (Some ScaledDecimal)
-unfolding forms_on runs roles flight_roles
+unfolding forms_on runs operator_rows flight_rows
 decimal_with_a_scale = refl
 
 decimal_pair : of_line (codes " 2DEC 1.5 B-4") ≡ both (Some ScaledDecimal)
-unfolding forms_on runs roles flight_roles
+unfolding forms_on runs operator_rows flight_rows
 decimal_pair = refl
 
 address : of_line (codes " ADRES X") ≡ both None
-unfolding forms_on runs roles flight_roles
+unfolding forms_on runs operator_rows flight_rows
 address = refl
 
 general_address : of_line (codes " +1 GENADR FAR") ≡ both (Some GeneralAddress)
-unfolding forms_on runs roles flight_roles
+unfolding forms_on runs operator_rows flight_rows
 general_address = refl
 
 remote_address : of_line (codes " REMADR FAR") ≡ both (Some GeneralAddress)
-unfolding forms_on runs roles flight_roles
+unfolding forms_on runs operator_rows flight_rows
 remote_address = refl
 
 general_complement : of_line (codes " -GENADR FAR") ≡ both (Some Complement)
-unfolding forms_on runs roles flight_roles
+unfolding forms_on runs operator_rows flight_rows
 general_complement = refl
 
 complement_of_a_place : of_line (codes " -CADR FAR") ≡ both (Some Complement)
-unfolding forms_on runs roles flight_roles
+unfolding forms_on runs operator_rows flight_rows
 complement_of_a_place = refl
 
 complement_of_an_instruction : of_line (codes " -CCS X") ≡ both (Some Complement)
-unfolding forms_on runs roles flight_roles
+unfolding forms_on runs operator_rows flight_rows
 complement_of_an_instruction = refl
 
 downlist : of_line (codes " 3DNADR X") ≡ both (Some Downlist)
-unfolding forms_on runs roles flight_roles
+unfolding forms_on runs operator_rows flight_rows
 downlist = refl
 
 downlist_complement : of_line (codes " -3DNADR X") ≡ both (Some Complement)
-unfolding forms_on runs roles flight_roles
+unfolding forms_on runs operator_rows flight_rows
 downlist_complement = refl
 
 downlist_channel : of_line (codes " DNCHAN 34") ≡ both (Some Downlist)
-unfolding forms_on runs roles flight_roles
+unfolding forms_on runs operator_rows flight_rows
 downlist_channel = refl
 
 number_of_a_place : of_line (codes " TC 12000") ≡ both (Some PlaceNumber)
-unfolding forms_on runs roles flight_roles
+unfolding forms_on runs operator_rows flight_rows
 number_of_a_place = refl
 
 decimal_number_of_a_place : of_line (codes " TC 4096D") ≡ both (Some PlaceNumber)
-unfolding forms_on runs roles flight_roles
+unfolding forms_on runs operator_rows flight_rows
 decimal_number_of_a_place = refl
 
 number_of_an_address : of_line (codes " TC 07777") ≡ both None
-unfolding forms_on runs roles flight_roles
+unfolding forms_on runs operator_rows flight_rows
 number_of_an_address = refl
 
 name_with_a_sign : of_line (codes " CA -Y") ≡ both (Some SignedName)
-unfolding forms_on runs roles flight_roles
+unfolding forms_on runs operator_rows flight_rows
 name_with_a_sign = refl
 
 from_here : of_line (codes " CA -1") ≡ both None
-unfolding forms_on runs roles flight_roles
+unfolding forms_on runs operator_rows flight_rows
 from_here = refl
 
 selector : of_line (codes " BBCON FAR") ≡ both None
-unfolding forms_on runs roles flight_roles
+unfolding forms_on runs operator_rows flight_rows
 selector = refl
 
 held_selector : of_held_line (codes " BBCON FAR") ≡ both (Some HeldBank)
-unfolding forms_on runs roles flight_roles
+unfolding forms_on runs operator_rows flight_rows
 held_selector = refl
 
 far_address : of_line (codes " 2CADR FAR") ≡ pair None None true
-unfolding forms_on runs roles flight_roles
+unfolding forms_on runs operator_rows flight_rows
 far_address = refl
 
 held_address : of_held_line (codes " 2CADR FAR") ≡ pair None (Some HeldBank) true
-unfolding forms_on runs roles flight_roles
+unfolding forms_on runs operator_rows flight_rows
 held_address = refl
 
 far_number : of_line (codes " 2CADR 62000") ≡ pair (Some PlaceNumber) (Some PlaceNumber) true
-unfolding forms_on runs roles flight_roles
+unfolding forms_on runs operator_rows flight_rows
 far_number = refl
 
 far_complement : of_line (codes " -2CADR FAR") ≡ pair (Some Complement) (Some Complement) false
-unfolding forms_on runs roles flight_roles
+unfolding forms_on runs operator_rows flight_rows
 far_complement = refl
 
 held_complement : of_held_line (codes " -2CADR FAR") ≡ pair (Some Complement) (Some HeldBank) false
-unfolding forms_on runs roles flight_roles
+unfolding forms_on runs operator_rows flight_rows
 held_complement = refl
 
 -- ## Second words: bank 031 with EB 3, bank 027, bank 040
@@ -174,23 +175,23 @@ of_no_far_address = refl
 
 -- ## EBANK=
 before_any : ebank_after Missing (parts_for Flight (codes " 2CADR FAR")).role ≡ Missing
-unfolding runs roles flight_roles
+unfolding runs operator_rows flight_rows
 before_any = refl
 
 used : ebank_after Unused (parts_for Flight (codes " 2CADR FAR")).role ≡ Used
-unfolding runs roles flight_roles
+unfolding runs operator_rows flight_rows
 used = refl
 
 used_by_complement : ebank_after Unused (parts_for Flight (codes " -2CADR FAR")).role ≡ Used
-unfolding runs roles flight_roles
+unfolding runs operator_rows flight_rows
 used_by_complement = refl
 
 anew : ebank_after Used (parts_for Flight (codes " EBANK= X")).role ≡ Unused
-unfolding runs roles flight_roles
+unfolding runs operator_rows flight_rows
 anew = refl
 
 kept : ebank_after Unused (parts_for Flight (codes " CA X")).role ≡ Unused
-unfolding runs roles flight_roles
+unfolding runs operator_rows flight_rows
 kept = refl
 
 -- ## Rows: before the row of 02,5777 stand B, _ and _
@@ -235,7 +236,7 @@ six = None ∷ None ∷ None ∷ None ∷ None ∷ None ∷ []
 
 two_uncertain : (words : Words) → word_at words 0 1 ≡ 0o10003 → word_at words 0 3 ≡ 0o10003
     → (rows_passed words (start_with six) used_twice).forms ≡ None ∷ None ∷ None ∷ Some HeldBank ∷ Some GeneralAddress ∷ None ∷ []
-unfolding row_passed forms_on runs roles flight_roles number_column digits
+unfolding row_passed forms_on runs operator_rows flight_rows number_column digits
 two_uncertain words first second = rw (first, second) refl
 
 -- ## Counts

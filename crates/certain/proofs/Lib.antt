@@ -1,5 +1,4 @@
 pub mod Sets
-pub mod Told
 pub mod Whole
 pub mod FormRows
 pub mod Feeds

@@ -9,7 +9,7 @@ use Rattle.yayul.specs.Layout.{Layout, line_effect, start, statement_on}
 use Rattle.yayul.specs.Listing.{Shown, number_column, row_front, shown, word_columns}
 use Rattle.yayul.specs.PlaceRows.{ListedLine, listed_lines}
 use Rattle.yayul.specs.Program.{Source}
-use Rattle.diagnostics.specs.declared.told.Warning.{Warning}
+use Rattle.warnings.specs.declared.told.Warning.{Warning}
 use Rattle.certain.specs.declared.doubted.WarnedLine.{WarnedLine}
 use Rattle.certain.specs.Doubted.{WarnedAreUncertain, before_lines, doubt_at, doubted, doubted_by, doubted_on, doubted_rows, line_with}
 use Rattle.certain.specs.Doubted.{warned_line}

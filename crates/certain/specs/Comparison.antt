@@ -22,7 +22,7 @@ unfoldable pub told_line : UncertainWords → Words → Words → ℕ × ℕ →
 told_line uncertain old new place = difference_text old new place ++ remark (form_at uncertain place.0 place.1) ++ codes "\n"
 
 -- the lines of some places
-unfoldable pub told_lines : UncertainWords → Words → Words → List (ℕ × ℕ) → List ℕ
+abbrev pub told_lines : UncertainWords → Words → Words → List (ℕ × ℕ) → List ℕ
 told_lines uncertain old new places = flat_map (told_line uncertain old new) places
 
 -- ## Counts

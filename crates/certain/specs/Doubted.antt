@@ -12,9 +12,9 @@ use Rattle.yayul.specs.PlaceRows.{ListedLine, listed_lines}
 use Rattle.yayul.specs.Program.{Source}
 use Rattle.yayul.specs.Readings.{parts_for}
 use Rattle.yayul.specs.Survey.{span_of}
-use Rattle.diagnostics.specs.declared.told.Doubt.{Doubt}
-use Rattle.diagnostics.specs.declared.told.Doubt.TheVariants as doubt
-use Rattle.diagnostics.specs.declared.told.Warning.{Warning}
+use Rattle.warnings.specs.declared.told.Doubt.{Doubt}
+use Rattle.warnings.specs.declared.told.Doubt.TheVariants as doubt
+use Rattle.warnings.specs.declared.told.Warning.{Warning}
 use Rattle.certain.specs.declared.doubted.WarnedLine.{WarnedLine}
 use Rattle.certain.specs.declared.form.UncertainForm.{UncertainForm}
 use Rattle.certain.specs.declared.form.UncertainForm.TheVariants.{HeldBank, SuperbankBits}

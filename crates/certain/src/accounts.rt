@@ -9,10 +9,10 @@ ghost use Rattle.certain.specs.Accounts.{count_of_kind, is_certain, is_hole, is_
 
 use crate::places::UncertainPlaces;
 use arrayvec::ArrayVec;
-use audit::{bank_of, offset_of};
+use audit::{Written, bank_of, count_below, offset_of};
 use rope::Rope;
 use space::{BANK_WORDS, Bank, FIXED_BANKS, Offset};
-use words::{Write, WriteFailed, push_all, push_decimal, push_octal, write_all};
+use words::{Write, push_all, push_decimal, push_octal, write_all};
 
 /// The most bytes of a line: its words, the number of a bank, and four numbers of at most 20 digits.
 const LINE: usize = 128;
@@ -53,7 +53,7 @@ pub fn write_accounts<W: Write>(
     other: &Rope,
     new: &Rope,
     out: &mut W,
-) -> Result<(), WriteFailed>
+) -> Written
     ensures written { W.told ≡ true → Writes (W.written out.old) (W.written out.new)
         (accounts uncertain.now words.now other.now new.now) result }
     ensures failures { W.failures out.new ≡ failures_after (W.failures out.old) result }
@@ -105,7 +105,6 @@ fn account_of(
 }
 
 // How many places of a bank are of a kind.
-#[tactic(auto, using(audit::proofs::Folds::count_first, audit::proofs::Folds::count_there, audit::proofs::Folds::count_passed))]
 fn count_of(
     kind: Kind,
     uncertain: &UncertainPlaces,
@@ -117,13 +116,9 @@ fn count_of(
     ensures count { result ≡ count_of_kind kind uncertain.now words.now other.now new.now bank }
     ensures few { result ≤ bank_words }
 {
-    let mut count = 0;
-    for number in 0..BANK_WORDS {
-        if is_of(kind, uncertain, words, other, new, bank, offset_of(number)) {
-            count += 1;
-        }
-    }
-    count
+    u32::from(count_below(BANK_WORDS, |number| {
+        is_of(kind, uncertain, words, other, new, bank, offset_of(number))
+    }))
 }
 
 // Whether a place is of a kind.

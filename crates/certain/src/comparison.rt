@@ -3,19 +3,20 @@
 ghost use Rattle.std.specs.Prelude.{◌≡◌, ◌≤◌, ◌++◌, true, length, IfOk};
 ghost use Rattle.arrayvec.specs.ArrayVec.{array_vec_len};
 ghost use Rattle.words.specs.Devices.{Writes, failures_after};
-ghost use Rattle.audit.specs.Differences.{count_line, differing, differing_at, differing_in};
+ghost use Rattle.audit.specs.Differences.{count_line, differing};
 ghost use Rattle.audit.specs.WordLines.{extracode_at};
 ghost use Rattle.audit.specs.declared.differences.Extent.TheVariants.{Filled};
-ghost use Rattle.certain.specs.Comparison.{comparison, form_lines, remark, told_line, told_lines, uncertain_line};
+ghost use Rattle.certain.specs.Comparison.{comparison, form_lines, remark, told_line, uncertain_line};
 
 use crate::form::UncertainForm;
 use crate::form_lines::{write_form_lines, write_uncertain_line};
 use crate::places::UncertainPlaces;
 use arrayvec::ArrayVec;
-use audit::{bank_of, count_line, difference_text, offset_of};
-use cpu::extracode_after;
+use audit::{
+    DifferenceText, Extent, PlaceOfTwo, Written, count_line, difference_text, write_differing,
+};
 use rope::Rope;
-use space::{BANK_WORDS, Bank, FIXED_BANKS, Offset};
+use space::{Bank, Offset};
 use words::{Write, WriteFailed, push_all, write_all};
 
 /// The most bytes of a line: those of a difference, ` UNCERTAIN `, a name of 6 bytes, and a line feed.
@@ -40,7 +41,7 @@ pub fn write_comparison<W: Write>(
     ensures count { IfOk result (λ count. count ≡ length (differing Filled old.now new.now)) }
     ensures failures { W.failures out.new ≡ failures_after (W.failures out.old) result }
 {
-    let count = write_places(uncertain, old, new, out)?;
+    let count = write_differing(&PlaceLines { uncertain }, old, new, Extent::Filled, out)?;
     write_counts(count, uncertain, old, new, out)?;
     Ok(count)
 }
@@ -52,7 +53,7 @@ fn write_counts<W: Write>(
     old: &Rope,
     new: &Rope,
     out: &mut W,
-) -> Result<(), WriteFailed>
+) -> Written
     ensures written { W.told ≡ true → Writes (W.written out.old) (W.written out.new)
         (count_line count ++ (uncertain_line uncertain.now old.now new.now ++ form_lines uncertain.now old.now new.now))
         result }
@@ -68,7 +69,7 @@ fn write_uncertain<W: Write>(
     old: &Rope,
     new: &Rope,
     out: &mut W,
-) -> Result<(), WriteFailed>
+) -> Written
     ensures written { W.told ≡ true → Writes (W.written out.old) (W.written out.new)
         (uncertain_line uncertain.now old.now new.now ++ form_lines uncertain.now old.now new.now) result }
     ensures failures { W.failures out.new ≡ failures_after (W.failures out.old) result }
@@ -77,80 +78,19 @@ fn write_uncertain<W: Write>(
     write_form_lines(uncertain, old, new, out)
 }
 
-/// Writes the lines of all places, and answers how many.
-fn write_places<W: Write>(
-    uncertain: &UncertainPlaces,
-    old: &Rope,
-    new: &Rope,
-    out: &mut W,
-) -> Result<u32, WriteFailed>
-    ensures written { W.told ≡ true → Writes (W.written out.old) (W.written out.new)
-        (told_lines uncertain.now old.now new.now (differing Filled old.now new.now)) result }
-    ensures count { IfOk result (λ count. count ≡ length (differing Filled old.now new.now)) }
-    ensures failures { W.failures out.new ≡ failures_after (W.failures out.old) result }
-{
-    let mut count = 0;
-    for bank in 0..FIXED_BANKS {
-        count += write_bank(uncertain, old, new, bank_of(bank), out)?;
-    }
-    Ok(count)
+/// The lines of places.
+#[derive(Drop)]
+struct PlaceLines<'a> {
+    uncertain: &'a UncertainPlaces,
 }
 
-/// Writes the lines of a bank's places, and answers how many.
-fn write_bank<W: Write>(
-    uncertain: &UncertainPlaces,
-    old: &Rope,
-    new: &Rope,
-    bank: Bank,
-    out: &mut W,
-) -> Result<u32, WriteFailed>
-    ensures written { W.told ≡ true → Writes (W.written out.old) (W.written out.new)
-        (told_lines uncertain.now old.now new.now (differing_in Filled old.now new.now bank)) result }
-    ensures count { IfOk result (λ count. count ≡ length (differing_in Filled old.now new.now bank)) }
-    ensures few { IfOk result (λ count. count ≤ 1024) }
-    ensures failures { W.failures out.new ≡ failures_after (W.failures out.old) result }
-{
-    let mut count = 0;
-    let mut extra = (false, false);
-    for number in 0..BANK_WORDS {
-        let offset = offset_of(number);
-        count += write_place(uncertain, old, new, bank, offset, extra, out)?;
-        extra = (
-            extracode_after(old.word(bank, offset), extra.0),
-            extracode_after(new.word(bank, offset), extra.1),
-        );
-    }
-    Ok(count)
-}
+impl<'a> DifferenceText for PlaceLines<'a> {
+    ghost text = { λ lines old new place. told_line lines.uncertain.now old new place };
 
-/// Writes the line of a place where the words differ, and answers how many lines that is.
-#[tactic(auto, unfolding(crate::specs::Comparison::told_lines, audit::specs::Differences::differing_at))]
-fn write_place<W: Write>(
-    uncertain: &UncertainPlaces,
-    old: &Rope,
-    new: &Rope,
-    bank: Bank,
-    offset: Offset,
-    extra: (bool, bool),
-    out: &mut W,
-) -> Result<u32, WriteFailed>
-    requires old { extra.0 ≡ extracode_at old.now bank offset }
-    requires new { extra.1 ≡ extracode_at new.now bank offset }
-    ensures written { W.told ≡ true → Writes (W.written out.old) (W.written out.new)
-        (told_lines uncertain.now old.now new.now (differing_at Filled old.now new.now bank offset)) result }
-    ensures count { IfOk result (λ count. count ≡ length (differing_at Filled old.now new.now bank offset)) }
-    ensures few { IfOk result (λ count. count ≤ 1) }
-    ensures failures { W.failures out.new ≡ failures_after (W.failures out.old) result }
-{
-    if !old.has(bank, offset) {
-        return Ok(0);
+    fn write<W: Write>(&self, old: &Rope, new: &Rope, at: PlaceOfTwo, out: &mut W) -> Written {
+        let line = told_line(self.uncertain, old, new, at.bank, at.offset, at.extra);
+        write_all(out, line.as_slice())
     }
-    if old.word(bank, offset) == new.word(bank, offset) {
-        return Ok(0);
-    }
-    let line = told_line(uncertain, old, new, bank, offset, extra);
-    write_all(out, line.as_slice())?;
-    Ok(1)
 }
 
 /// The line of a place.

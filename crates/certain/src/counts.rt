@@ -6,15 +6,11 @@ ghost use Rattle.certain.specs.Comparison.{count_of, differs, is_asked, is_count
 
 use crate::form::UncertainForm;
 use crate::places::UncertainPlaces;
-use audit::{bank_of, offset_of};
+use audit::{PLACES, bank_of, count_below, offset_of};
 use rope::Rope;
-use space::{BANK_WORDS, FIXED_BANKS};
-
-/// How many places fixed memory has.
-const PLACES: u32 = BANK_WORDS as u32 * FIXED_BANKS as u32;
+use space::BANK_WORDS;
 
 /// How many places are uncertain by a form, or by any where none is asked for, where the words differ, or do not.
-#[tactic(auto, using(audit::proofs::Folds::count_first, audit::proofs::Folds::count_there, audit::proofs::Folds::count_passed))]
 pub(crate) fn count_of(
     uncertain: &UncertainPlaces,
     old: &Rope,
@@ -25,13 +21,9 @@ pub(crate) fn count_of(
     ensures count { result ≡ count_of uncertain.now old.now new.now asked wrong }
     ensures few { result ≤ fixed_places }
 {
-    let mut count = 0;
-    for place in 0..PLACES {
-        if is_counted(uncertain, old, new, asked, wrong, place) {
-            count += 1;
-        }
-    }
-    count
+    u32::from(count_below(PLACES, |place| {
+        is_counted(uncertain, old, new, asked, wrong, u32::from(place))
+    }))
 }
 
 // Whether a place is one of them.
@@ -61,8 +53,8 @@ fn is_asked(asked: Option<u16>, form: UncertainForm) -> bool
     }
 }
 
-// Whether the words at a place differ.
-fn differs(old: &Rope, new: &Rope, place: u32) -> bool
+/// Whether the words at a place differ.
+pub fn differs(old: &Rope, new: &Rope, place: u32) -> bool
     requires { place < fixed_places }
     ensures { result ≡ differs old.now new.now place }
 {

@@ -9,9 +9,9 @@ ghost use Rattle.yayul.specs.PlaceMargin.{place_before};
 use crate::form::UncertainForm;
 use crate::places::UncertainPlaces;
 use agc_text::next_line;
-use diagnostics::{Doubt, Warning};
 use rope::Rope;
 use std::alloc::{AllocError, Global};
+use warnings::{Doubt, Warning};
 use yayul::{
     Language, SourceRows, Span, is_second, place_before, placed_rows, reading_of, text_on,
 };

@@ -10,8 +10,9 @@ use crate::counts::count_of;
 use crate::form::{FORMS, UncertainForm};
 use crate::places::UncertainPlaces;
 use arrayvec::ArrayVec;
+use audit::Written;
 use rope::Rope;
-use words::{Write, WriteFailed, push_all, push_decimal, write_all};
+use words::{Write, push_all, push_decimal, write_all};
 
 /// The most bytes of a line: two numbers of at most 20 digits, a name, and what stands between.
 const LINE: usize = 80;
@@ -25,7 +26,7 @@ pub(crate) fn write_uncertain_line<W: Write>(
     old: &Rope,
     new: &Rope,
     out: &mut W,
-) -> Result<(), WriteFailed>
+) -> Written
     ensures written { W.told ≡ true → Writes (W.written out.old) (W.written out.new)
         (uncertain_line uncertain.now old.now new.now) result }
     ensures failures { W.failures out.new ≡ failures_after (W.failures out.old) result }
@@ -42,7 +43,7 @@ pub(crate) fn write_form_lines<W: Write>(
     old: &Rope,
     new: &Rope,
     out: &mut W,
-) -> Result<(), WriteFailed>
+) -> Written
     ensures written { W.told ≡ true → Writes (W.written out.old) (W.written out.new)
         (form_lines uncertain.now old.now new.now) result }
     ensures failures { W.failures out.new ≡ failures_after (W.failures out.old) result }

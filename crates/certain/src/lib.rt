@@ -14,6 +14,7 @@ mod places;
 
 pub use accounts::write_accounts;
 pub use comparison::write_comparison;
+pub use counts::differs;
 pub use doubted::doubted_lines;
 pub use form::UncertainForm;
 pub use places::UncertainPlaces;

@@ -15,3 +15,5 @@ given_drop n given = sym (drop-map pair_of n given)
 
 pub given_length : (given : List Given) → length (given_of given) ≡ length given
 given_length given = length-map given pair_of
+
+pub ruleset given_views = (given_take, given_drop, given_length)

@@ -224,7 +224,7 @@ impl<'a> Reader<'a> {
     }
 
     // Tries the values of the argument that is open.
-    #[tactic(auto, using(crate::proofs::Views::given_take, crate::proofs::Views::given_drop, crate::proofs::Views::given_length), unfolding(crate::specs::Reading::settle))]
+    #[tactic(auto, using(crate::proofs::Views::given_views), unfolding(crate::specs::Reading::settle))]
     fn settle(&mut self) -> Result<(), Refusal>
         ensures read { OnOk result (settle (reading_of self.old) ≡ Ok (reading_of self.new)) }
         ensures refused { IfErr result (λ e. settle (reading_of self.old) ≡ Err e) }

@@ -105,6 +105,48 @@ static WORDS_ROWS: [Row; 12] = [
     FORM_OPTION,
 ];
 
+// The first of two images.
+const OLD_IMAGE: Row = Row {
+    name: OLD,
+    help: "The first rope image, a file",
+    ..NEEDED
+};
+
+// The second.
+const NEW_IMAGE: Row = Row {
+    name: NEW,
+    help: "The second rope image, a file",
+    ..NEEDED
+};
+
+// The version of the first.
+const OLD_VERSION_OPTION: Row = Row {
+    name: OLD_VERSION,
+    long: Some("old"),
+    ..VERSION_OPTION
+};
+
+// The version of the second.
+const NEW_VERSION_OPTION: Row = Row {
+    name: NEW_VERSION,
+    long: Some("new"),
+    ..VERSION_OPTION
+};
+
+// The form of the first.
+const OLD_FORM_OPTION: Row = Row {
+    name: OLD_FORM,
+    long: Some("old-form"),
+    ..FORM_OPTION
+};
+
+// The form of the second.
+const NEW_FORM_OPTION: Row = Row {
+    name: NEW_FORM,
+    long: Some("new-form"),
+    ..FORM_OPTION
+};
+
 /// `agcws compare`.
 pub fn compare() -> Subcommand {
     Subcommand {
@@ -116,16 +158,8 @@ pub fn compare() -> Subcommand {
 }
 
 static COMPARE_ROWS: [Row; 12] = [
-    Row {
-        name: OLD,
-        help: "The first rope image, a file",
-        ..NEEDED
-    },
-    Row {
-        name: NEW,
-        help: "The second rope image, a file",
-        ..NEEDED
-    },
+    OLD_IMAGE,
+    NEW_IMAGE,
     Row {
         name: ONLY,
         long: Some("only"),
@@ -152,27 +186,11 @@ static COMPARE_ROWS: [Row; 12] = [
         ..FLAG
     },
     ASSUME_OPTION,
-    Row {
-        name: OLD_VERSION,
-        long: Some("old"),
-        ..VERSION_OPTION
-    },
-    Row {
-        name: NEW_VERSION,
-        long: Some("new"),
-        ..VERSION_OPTION
-    },
+    OLD_VERSION_OPTION,
+    NEW_VERSION_OPTION,
     PARITY_OPTION,
-    Row {
-        name: OLD_FORM,
-        long: Some("old-form"),
-        ..FORM_OPTION
-    },
-    Row {
-        name: NEW_FORM,
-        long: Some("new-form"),
-        ..FORM_OPTION
-    },
+    OLD_FORM_OPTION,
+    NEW_FORM_OPTION,
 ];
 
 /// `agcws align`.
@@ -186,41 +204,17 @@ pub fn align() -> Subcommand {
 }
 
 static ALIGN_ROWS: [Row; 8] = [
-    Row {
-        name: OLD,
-        help: "The first rope image, a file",
-        ..NEEDED
-    },
-    Row {
-        name: NEW,
-        help: "The second rope image, a file",
-        ..NEEDED
-    },
+    OLD_IMAGE,
+    NEW_IMAGE,
     Row {
         help: "Carries the names of OLD to NEW, a file",
         ..SYMBOLS_OPTION
     },
-    Row {
-        name: OLD_VERSION,
-        long: Some("old"),
-        ..VERSION_OPTION
-    },
-    Row {
-        name: NEW_VERSION,
-        long: Some("new"),
-        ..VERSION_OPTION
-    },
+    OLD_VERSION_OPTION,
+    NEW_VERSION_OPTION,
     PARITY_OPTION,
-    Row {
-        name: OLD_FORM,
-        long: Some("old-form"),
-        ..FORM_OPTION
-    },
-    Row {
-        name: NEW_FORM,
-        long: Some("new-form"),
-        ..FORM_OPTION
-    },
+    OLD_FORM_OPTION,
+    NEW_FORM_OPTION,
 ];
 
 /// `agcws find`.

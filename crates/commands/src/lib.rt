@@ -28,6 +28,7 @@ pub use line::{COMMAND_LENGTH, CommandLine};
 pub use named_places::{begins_with_plus, moved_on, named_place, unnamed_place};
 pub use parsing::parsed_line;
 pub use phrase::Phrase;
+pub use places::erasable_number;
 pub use reading::{DeviceFault, LineReader};
 pub use subject::{Subject, channel_named};
 pub use survey::{MOST_BUCKETS, MOST_SURVEYED, Subjects, Surveyed};

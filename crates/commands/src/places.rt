@@ -76,8 +76,8 @@ fn fixed_place_of(bank: &[u8], offset: &[u8]) -> Option<Linear>
     }
 }
 
-// The number of an erasable place.
-pub(crate) fn erasable_number(place: Linear) -> Option<Eras>
+/// The number of an erasable place.
+pub fn erasable_number(place: Linear) -> Option<Eras>
     ensures { result ≡ erasable_number place }
 {
     match place {

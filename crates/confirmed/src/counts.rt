@@ -9,13 +9,10 @@ ghost use Rattle.confirmed.specs.Confirmed.{assumed_lines, count_of, is_counted,
 use crate::places::AssumedPlaces;
 use arrayvec::ArrayVec;
 use assumed::Wording;
-use audit::{bank_of, offset_of};
+use audit::{PLACES, Written, count_below};
+use certain::differs;
 use rope::Rope;
-use space::{BANK_WORDS, FIXED_BANKS};
-use words::{Write, WriteFailed, push_all, push_decimal, write_all};
-
-/// How many places fixed memory has.
-const PLACES: u32 = BANK_WORDS as u32 * FIXED_BANKS as u32;
+use words::{Write, push_all, push_decimal, write_all};
 
 /// The most bytes of a line: two numbers of at most 20 digits, a name, and what stands between.
 const LINE: usize = 96;
@@ -33,7 +30,7 @@ pub fn write_assumed_lines<W: Write>(
     old: &Rope,
     new: &Rope,
     out: &mut W,
-) -> Result<(), WriteFailed>
+) -> Written
     ensures written { W.told ≡ true → Writes (W.written out.old) (W.written out.new)
         (assumed_lines wordings.now places.now old.now new.now) result }
     ensures failures { W.failures out.new ≡ failures_after (W.failures out.old) result }
@@ -84,18 +81,13 @@ fn wording_text(wording: Wording, right: u32, wrong: u32) -> Line
 }
 
 // How many places stand by a wording where the words differ, or do not.
-#[tactic(auto, using(audit::proofs::Folds::count_first, audit::proofs::Folds::count_there, audit::proofs::Folds::count_passed))]
 fn count_of(places: &AssumedPlaces, old: &Rope, new: &Rope, wording: Wording, wrong: bool) -> u32
     ensures count { result ≡ count_of places.now old.now new.now wording wrong }
     ensures few { result ≤ fixed_places }
 {
-    let mut count = 0;
-    for place in 0..PLACES {
-        if is_counted(places, old, new, wording, wrong, place) {
-            count += 1;
-        }
-    }
-    count
+    u32::from(count_below(PLACES, |place| {
+        is_counted(places, old, new, wording, wrong, u32::from(place))
+    }))
 }
 
 // Whether a place is one of them.
@@ -114,15 +106,4 @@ fn is_counted(
         Some(other) => other.name() == wording.name() && differs(old, new, place) == wrong,
         None => false,
     }
-}
-
-// Whether the words at a place differ.
-fn differs(old: &Rope, new: &Rope, place: u32) -> bool
-    requires { place < fixed_places }
-    ensures { result ≡ differs old.now new.now place }
-{
-    let words = u32::from(BANK_WORDS);
-    let bank = bank_of((place / words) as u16);
-    let offset = offset_of((place % words) as u16);
-    !(old.word(bank, offset) == new.word(bank, offset))
 }

@@ -1,12 +1,13 @@
 -- The figures of a run, step by step.
-use Rattle.std.proofs.Common.{◌≡◌, ℕ, zero, suc, ◌+◌, ◌<◌, ◌≤◌, ◌^◌, true, false, List, length, replicate, get_or, set, refl, sym, ap, ◌∙◌}
-use Rattle.std.proofs.Common.{inl, inr, arith, add-one}
+use Rattle.std.proofs.Common.{◌≡◌, ℕ, zero, suc, ◌+◌, ◌-◌, ◌<◌, ◌≤◌, ◌^◌, Bool, true, false, List, length, replicate, get_or, set, refl}
+use Rattle.std.proofs.Common.{sym, ap, ◌∙◌, inl, inr, arith, add-one, subst, if◌then◌else◌}
 use Rattle.std.proofs.lemmas.Bool.{cases_Bool}
 use Rattle.std.proofs.lemmas.Bool.Decides.{eqb_tells}
 use Rattle.std.proofs.lemmas.List.{get_or-set_same, get_or-set_other, length-replicate, length-set}
 use Rattle.words.proofs.Replicated.{get_replicated}
 use Rattle.cpu.specs.declared.account.Account.{Account}
 use Rattle.cpu.specs.Profiles.{account_of, count_at, cycles_at, same_account, step_cycles}
+use Rattle.cpu.specs.Next.{next}
 use Rattle.cpu.specs.Run.{run}
 use Rattle.space.specs.declared.place.Linear.TheVariants.{Erasable, Fixed}
 use Rattle.cpu.specs.declared.account.Account.TheVariants.{Input, Entry, Waiting, Place}
@@ -138,6 +139,27 @@ small scenario n figures few counts a known =
     let count : (figures_at figures a).count ≡ count_at scenario a n = ap (λ f. f.count) (counts.profile a known) in
     let cycles : (figures_at figures a).cycles ≡ cycles_at scenario a n = ap (λ f. f.cycles) (counts.profile a known) in
     (omega (arith, few, count, few_counts scenario a n), omega (arith, few, cycles, few_cycles_at scenario a n, cycles-run scenario n))
+
+-- those at a number are, and a step is counted there
+pub small_here : (scenario : Scenario) (n : ℕ) (figures : List Figures) (a : Account) (number : ℕ) → n < 2 ^ 40 → Counts scenario n figures
+    → IsAccount a → is_account a ≡ true → number ≡ account_number a → AreSmall (get_or figures number no_figures)
+small_here scenario n figures a number few counts known there e =
+    rw e (subst (λ (b : Bool). AreSmall (if b then get_or figures (account_number a) no_figures else no_figures)) there
+    (small scenario n figures few counts a known))
+
+pub counts_here : (scenario : Scenario) (n : ℕ) (s t : State) (a : Account) (number cycles : ℕ) (old new : List Figures)
+    → s ≡ run scenario n → t ≡ (next scenario s).0 → a ≡ account_of scenario s → IsAccount a → is_account a ≡ true
+    → number ≡ account_number a → cycles ≡ t.cycles - s.cycles → Counts scenario n old
+    → new ≡ set old number (one_step_more (get_or old number no_figures) cycles) → Counts scenario (n + 1) new
+counts_here scenario n s t a number cycles old new at made account known there numbered took before e =
+    let took = took ∙ ap (λ (u : State). u.cycles - s.cycles) made in
+    let held : get_or old number no_figures ≡ figures_at old a =
+    ap (λ (k : ℕ). get_or old k no_figures) numbered
+    ∙ sym (ap (λ (b : Bool). if b then get_or old (account_number a) no_figures else no_figures) there) in
+    counts_more scenario scenario n s old new refl at before (subst IsAccount account known)
+    (e ∙ ap (λ (f : Figures). set old number (one_step_more f cycles)) held
+    ∙ ap (λ (k : ℕ). set old k (one_step_more (figures_at old a) cycles)) numbered ∙ ap (put_down old a) took
+    ∙ ap (λ (b : Account). put_down old b (step_cycles scenario s)) account)
 
 -- what is no account has no figures
 no_other : (scenario : Scenario) (n : ℕ) (a : Account) → is_account a ≡ false

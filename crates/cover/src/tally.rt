@@ -2,13 +2,12 @@
 
 ghost use Rattle.std.specs.Prelude.{◌≡◌, ◌+◌, ◌-◌, ◌<◌, ◌≤◌, ◌^◌, IfOk, get_or, set, true};
 ghost use Rattle.cpu.specs.declared.account.Account.TheVariants.{Place};
-ghost use Rattle.cpu.specs.Next.{next};
-ghost use Rattle.cpu.specs.Profiles.{account_of, step_cycles};
 ghost use Rattle.cpu.specs.Run.{run};
-ghost use Rattle.cpu.specs.State.{FitsRun, Scenario};
+ghost use Rattle.cpu.specs.State.{Scenario};
 ghost use Rattle.cover.specs.Tallies.{account_count, account_number, AllAddUp, AreSmall, Counts, ShownAddUp};
 ghost use Rattle.cover.specs.Tallies.{figures_at, is_account, IsAccount, no_figures, one_step_more, put_down};
 
+use crate::recorder::{Profiler, Recorder, record_steps};
 use cpu::{Account, Machine, Processor, make_step};
 use space::{BANK_WORDS, Linear};
 use std::alloc::{AllocError, Global};
@@ -76,8 +75,7 @@ impl Tally {
         self.figures[number_of(account)]
     }
 
-    /// Makes more steps of a run of which some are done, and counts each. What they put out is passed over. It is for
-    /// one caller, into which it is brought: for another there is `make_steps_apart`.
+    /// Makes more steps of a run of which some are done, and counts each. What they put out is passed over.
     pub fn make_steps(
         &mut self,
         processor: &mut Processor,
@@ -96,67 +94,7 @@ impl Tally {
         ensures adds_up { AllAddUp processor.old.scenario stop }
         ensures shown_add_up { ShownAddUp processor.old.scenario stop }
     {
-        for _ in done..stop {
-            self.step(processor, machine);
-        }
-    }
-
-    /// The same as `make_steps`, by calls of `make_step`: slower, and another copy of the step that costs no other.
-    pub fn make_steps_apart(
-        &mut self,
-        processor: &mut Processor,
-        machine: &mut Machine,
-        done: u64,
-        stop: u64,
-    )
-        requires within { done ≤ stop }
-        requires few { stop ≤ 2 ^ 40 }
-        requires state { machine.old ≡ run processor.old.scenario done }
-        requires counts { Counts processor.old.scenario done self.old }
-        ensures scenario { processor.new.scenario ≡ processor.old.scenario }
-        ensures meter { processor.new.meter + done ≤ processor.old.meter + stop }
-        ensures state { machine.new ≡ run processor.old.scenario stop }
-        ensures counts { Counts processor.old.scenario stop self.new }
-    {
-        for _ in done..stop {
-            self.step_apart(processor, machine);
-        }
-    }
-
-    /// Makes a step by a call, and counts it. What it puts out is passed over.
-    fn step_apart(&mut self, processor: &mut Processor, machine: &mut Machine)
-        requires cycles { machine.old.cycles ≤ 2 ^ 62 }
-        requires fits { FitsRun processor.old.scenario machine.old }
-        requires small { (a : Account) → IsAccount a → AreSmall (figures_at self.old a) }
-        ensures scenario { processor.new.scenario ≡ processor.old.scenario }
-        ensures meter { processor.new.meter ≤ processor.old.meter + 1 }
-        ensures state { machine.new ≡ (next processor.old.scenario machine.old).0 }
-        ensures known { IsAccount (account_of processor.old.scenario machine.old) }
-        ensures counted { self.new ≡ put_down self.old (account_of processor.old.scenario machine.old)
-            (step_cycles processor.old.scenario machine.old) }
-    {
-        let number = number_of(processor.account(machine));
-        let before = machine.cycles();
-        make_step(processor, machine);
-        self.put_down(number, machine.cycles() - before);
-    }
-
-    /// Makes a step, and counts it. What it puts out is passed over.
-    fn step(&mut self, processor: &mut Processor, machine: &mut Machine)
-        requires cycles { machine.old.cycles ≤ 2 ^ 62 }
-        requires fits { FitsRun processor.old.scenario machine.old }
-        requires small { (a : Account) → IsAccount a → AreSmall (figures_at self.old a) }
-        ensures scenario { processor.new.scenario ≡ processor.old.scenario }
-        ensures meter { processor.new.meter ≤ processor.old.meter + 1 }
-        ensures state { machine.new ≡ (next processor.old.scenario machine.old).0 }
-        ensures known { IsAccount (account_of processor.old.scenario machine.old) }
-        ensures counted { self.new ≡ put_down self.old (account_of processor.old.scenario machine.old)
-            (step_cycles processor.old.scenario machine.old) }
-    {
-        let number = number_of(processor.account(machine));
-        let before = machine.cycles();
-        processor.step(machine);
-        self.put_down(number, machine.cycles() - before);
+        record_steps(self, processor, machine, done, stop);
     }
 
     /// Counts a step of the account of a number.
@@ -169,6 +107,43 @@ impl Tally {
         let figures = &mut self.figures[number];
         figures.count += 1;
         figures.cycles += cycles;
+    }
+}
+
+impl Recorder for Tally {
+    type Kept = ();
+
+    ghost kept = { λ _. tt };
+
+    ghost Stands = { λ _ scenario n tally. Counts scenario n tally };
+
+    #[inline(always)]
+    fn record_plain(
+        &mut self,
+        processor: &Processor,
+        machine: &mut Machine,
+        done: u64,
+        quiet: u64,
+    ) -> bool {
+        let _ = done;
+        let fetched = processor.fetched(machine, quiet);
+        let number = number_of(Account::Place(fetched.place));
+        let before = machine.cycles();
+        if !processor.make_plain(machine, fetched.word, quiet) {
+            return false;
+        }
+        self.put_down(number, machine.cycles() - before);
+        true
+    }
+}
+
+impl Profiler for Tally {
+    fn record(&mut self, processor: &mut Processor, machine: &mut Machine, done: u64) {
+        let _ = done;
+        let number = number_of(processor.account(machine));
+        let before = machine.cycles();
+        make_step(processor, machine);
+        self.put_down(number, machine.cycles() - before);
     }
 }
 

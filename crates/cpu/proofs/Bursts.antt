@@ -120,6 +120,9 @@ plain_still rope s i k still plain =
       unasked = ap least_request (requests-after rope (fetched s) i k) ∙ still.unasked;
     }
 
+-- what a plain instruction does, and what stands still
+pub ruleset plain_steps = (plain_made, plain_still)
+
 -- How far a run has come by such steps from a state, behind step d.
 pub record HasCome (p : Scenario) (from : State) (d n : ℕ) (m : State) : Type 0 where
   pub stands : m ≡ run p n

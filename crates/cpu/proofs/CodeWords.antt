@@ -12,7 +12,7 @@ use Rattle.cpu.specs.declared.instruction.Instruction.TheVariants.{Relint, Inhin
 use Rattle.cpu.specs.declared.instruction.Instruction.TheVariants.{Cs, Index, Dxch, Ts, Xch, Ad, Mask, Read, Write, Rand, Wand, Ror, Wor}
 use Rattle.cpu.specs.declared.instruction.Instruction.TheVariants.{Rxor, Edrupt, Dv, Bzf, Msu, Qxch, Aug, Dim, Dca, Dcs, Su, Bzmf, Mp}
 use Rattle.cpu.specs.declared.instruction.Operand.{Operand}
-use Rattle.cpu.specs.declared.instruction.Operand.TheVariants.{Nothing, Short, Long, ShortPair, LongPair, Channel}
+use Rattle.cpu.specs.declared.instruction.Operand.TheVariants.{Nothing}
 use Rattle.cpu.specs.Codes.{Range, basic_rows, extracode_rows, serves, rows_serving, no_range, row_of, bits, code_of}
 use Rattle.cpu.proofs.RowLaws.{one_row}
 

@@ -9,8 +9,8 @@ use Rattle.words.specs.Numbers.{extend, correct}
 use Rattle.words.specs.BitSums.{and_sum}
 use Rattle.rope.specs.Places.{Words}
 use Rattle.space.proofs.CellLaws.{same_get}
-use Rattle.space.specs.Cells.{Cells, at, word_at as word_in, cycle_right, edit_opcode, get, put, kept, get_channel, put_channel}
-use Rattle.space.specs.Cells.{channel_cell, superbank_channel, superbank_mask, both_banks, always_zero, accumulator, return_address}
+use Rattle.space.specs.Cells.{Cells, at, cycle_right, edit_opcode, get, put, kept, get_channel, put_channel}
+use Rattle.space.specs.Cells.{channel_cell, superbank_channel, superbank_mask, both_banks, always_zero, return_address}
 use Rattle.space.specs.Cells.{erasable_bank, fixed_bank, lower_accumulator, lower_accumulator_channel, return_address_channel}
 use Rattle.space.specs.declared.place.Linear.{Linear}
 use Rattle.space.specs.declared.place.Linear.TheVariants.{Erasable, Fixed}

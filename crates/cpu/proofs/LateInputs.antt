@@ -19,23 +19,30 @@ next-same : (scenario : Scenario) (other : List Entry) (cycle : ℕ) (s : State)
 unfolding next
 next-same scenario other cycle s same below = ap (λ o. next_by scenario.rope s o (entry s)) (same s.taken s.cycles below)
 
+-- the step behind t others is the same
+step-same : (scenario : Scenario) (other : List Entry) (cycle n t : ℕ) → SameBelow cycle scenario.inputs other
+    → (run scenario n).cycles < cycle → t < n
+    → next (record scenario { inputs = other }) (run (record scenario { inputs = other }) t) ≡ next scenario (run scenario t)
+unfolding run
+step-same scenario other cycle n zero same below few =
+    next-same scenario other cycle (run scenario 0) same (let e = rise-run scenario 0 n (omega arith) in omega arith)
+step-same scenario other cycle n (suc t) same below few =
+    ap (λ p. next (record scenario { inputs = other }) p.0) (step-same scenario other cycle n t same below (omega arith))
+    ∙ next-same scenario other cycle (run scenario (suc t)) same (let e = rise-run scenario (suc t) n (omega arith) in omega arith)
+
 run-same : (scenario : Scenario) (other : List Entry) (cycle n t : ℕ) → SameBelow cycle scenario.inputs other
     → (run scenario n).cycles < cycle → t ≤ n
     → run (record scenario { inputs = other }) t ≡ run scenario t
 unfolding run
 run-same scenario other cycle n zero same below few = refl
-run-same scenario other cycle n (suc t) same below few =
-    ap (λ s. (next (record scenario { inputs = other }) s).0) (run-same scenario other cycle n t same below (omega arith))
-    ∙ ap (λ p. p.0) (next-same scenario other cycle (run scenario t) same (let e = rise-run scenario t n (omega arith) in omega arith))
+run-same scenario other cycle n (suc t) same below few = ap (λ p. p.0) (step-same scenario other cycle n t same below (omega arith))
 
 out-same : (scenario : Scenario) (other : List Entry) (cycle n t : ℕ) → SameBelow cycle scenario.inputs other
     → (run scenario n).cycles < cycle → t ≤ n
     → out (record scenario { inputs = other }) t ≡ out scenario t
 unfolding out
 out-same scenario other cycle n zero same below few = refl
-out-same scenario other cycle n (suc t) same below few =
-    ap (λ s. (next (record scenario { inputs = other }) s).1) (run-same scenario other cycle n t same below (omega arith))
-    ∙ ap (λ p. p.1) (next-same scenario other cycle (run scenario t) same (let e = rise-run scenario t n (omega arith) in omega arith))
+out-same scenario other cycle n (suc t) same below few = ap (λ p. p.1) (step-same scenario other cycle n t same below (omega arith))
 
 outs-same : (scenario : Scenario) (other : List Entry) (cycle n t : ℕ) → SameBelow cycle scenario.inputs other
     → (run scenario n).cycles < cycle → t ≤ n

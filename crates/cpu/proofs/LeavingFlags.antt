@@ -314,3 +314,7 @@ control_fixes_flags one s other t = λ c.
 
 pub control_fixes_requests : (one : Scenario) (s : State) (other : Scenario) (t : State) → ControlFixesRequests one s other t
 control_fixes_requests one s other t = λ c h. requests_depend_on_sources one s other t (control_fixes_link one s other t c) h c.requests
+
+pub ruleset flags_by = (flags_depend_on_link, control_fixes_flags)
+
+pub ruleset requests_by = (requests_depend_on_sources, control_fixes_requests)

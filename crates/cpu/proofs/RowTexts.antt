@@ -1,73 +1,85 @@
--- The row that a word lies in tells its text.
-use Rattle.std.proofs.Common.{◌≡◌, ◌≤◌, ◌<◌, ◌%◌, ◌^◌, ℕ, zero, suc, List, [], ◌∷◌, Bool, true, refl, arith, filter, find, length, get_or}
-use Rattle.std.proofs.Common.{Option, Some, ap, ◌∙◌, inl, inr}
-use Rattle.std.proofs.lemmas.Bool.{cases_Bool}
-use Rattle.std.proofs.lemmas.Bool.Decides.{nat_tests}
-use Rattle.cpu.specs.Codes.{Range, table, serves, rows_serving, row_of, bits, instruction_of, operand_of, code_of, no_range}
-use Rattle.cpu.specs.declared.instruction.Instruction.{Instruction}
-use Rattle.std.specs.Prelude.{unwrap_or}
-use Rattle.cpu.specs.Texts.{instruction_text, disassembly}
-use Rattle.cpu.specs.Next.{extra_after, extracode_after}
+-- The row that a word lies in, and how operands are shown.
+use Rattle.std.proofs.Common.{◌≡◌, ◌<◌, ◌-◌, ◌^◌, ℕ, List, [], ◌∷◌, ◌++◌, Bool, true, false, refl, arith, eqb, filter, find, length}
+use Rattle.std.proofs.Common.{Option, Some, ap, sym, inl, inr}
+use Rattle.std.specs.Prelude.{codes, unwrap_or}
+use Rattle.std.specs.List.{list_all}
+use Rattle.std.proofs.lemmas.Bool.{cases_Bool, and_parts, eqb-true}
+use Rattle.words.specs.Numerals.{octal_text}
+use Rattle.cpu.specs.Codes.{Range, table, serves, rows_serving, instruction_of, no_range}
+use Rattle.cpu.specs.Effects.{first_of}
+use Rattle.cpu.specs.Texts.{operand_text}
+use Rattle.cpu.specs.declared.instruction.Operand.{Operand}
+use Rattle.cpu.specs.declared.instruction.Operand.TheVariants.{Nothing, Short, Long, ShortPair, LongPair, Channel}
 use Rattle.cpu.proofs.RowLaws.{one_row}
 
--- what passes is among what passes
-some_pass : {A : Type 0} (p : A → Bool) (xs : List A) (k : ℕ) (d : A) → length (filter p xs) ≡ 0 → k < length xs → p (get_or xs k d) ≡ true
-    → ⊥
-some_pass p [] k d none lt pass = omega arith
-some_pass p (x ∷ xs) zero d none lt pass = absurd (let none' = rw pass at none in omega arith)
-some_pass p (x ∷ xs) (suc k) d none lt pass =
+-- where one passes alone it is found, and has what all have
+found : {A : Type 0} (p test : A → Bool) (xs : List A) → length (filter p xs) ≡ 1 → list_all test xs ≡ true
+    → (x : A) × ((find p xs ≡ Some x) × ((p x ≡ true) × (test x ≡ true)))
+found p test [] one all = absurd (omega arith)
+found p test (x ∷ xs) one all =
+    let parts = and_parts (test x) (list_all test xs) all in
     elim (cases_Bool (p x)) [
-      | inl passes ↦ absurd (let none' = rw passes at none in omega arith)
-      | inr fails ↦ some_pass p xs k d (rw fails at none) (omega arith) pass
+      | inl passes ↦ (x, (rw passes refl, (passes, parts.0)))
+      | inr fails ↦ (let h = found p test xs (rw fails at one) parts.1 in (h.0, (rw fails h.1.0, h.1.1)))
     ]
 
--- where one passes alone, it is the first that does
-the_one : {A : Type 0} (p : A → Bool) (xs : List A) (k : ℕ) (d : A) → length (filter p xs) ≡ 1 → k < length xs → p (get_or xs k d) ≡ true
-    → find p xs ≡ Some (get_or xs k d)
-the_one p [] k d one lt pass = absurd (omega arith)
-the_one p (x ∷ xs) zero d one lt pass = rw pass refl
-the_one p (x ∷ xs) (suc k) d one lt pass =
-    elim (cases_Bool (p x)) [
-      | inl passes ↦ absurd (let one' = rw passes at one in some_pass p xs k d (omega arith) (omega arith) pass)
-      | inr fails ↦ rw fails (the_one p xs k d (rw fails at one) (omega arith) pass)
-    ]
-
--- a row of a table, by its place
-abbrev pub row_at : Bool → ℕ → Range
-row_at extracode k = get_or (table extracode) k no_range
-
--- how many low bits of a row's words are the operand
-abbrev pub row_bits : Bool → ℕ → ℕ
-row_bits extracode k = bits (row_of (row_at extracode k).instruction).operand
-
--- the row's instruction of an operand, as text
-abbrev pub row_text : Bool → ℕ → ℕ → List ℕ
-row_text extracode k operand = instruction_text (record { instruction = (row_at extracode k).instruction; operand = operand })
-
--- a word in the range of a row is the row's instruction
-pub instruction_by_row : (extracode : Bool) (k word : ℕ) → k < length (table extracode) → word < 2 ^ 15 → (row_at extracode k).least ≤ word
-    → word ≤ (row_at extracode k).greatest
-    → instruction_of extracode word ≡ (row_at extracode k).instruction
+-- a word is the instruction of the row that it lies in, and of that row holds what does of all
+pub row_found : (extracode : Bool) (test : Range → Bool) (word : ℕ) → word < 2 ^ 15 → list_all test (table extracode) ≡ true
+    → (r : Range) × ((instruction_of extracode word ≡ r.instruction) × ((serves word r ≡ true) × (test r ≡ true)))
 unfolding rows_serving
-instruction_by_row extracode k word few high least greatest =
-    let lies : serves word (row_at extracode k) ≡ true = grind (arith, nat_tests) in
-    let found : find (serves word) (table extracode)
-    ≡ Some (row_at extracode k) = the_one (serves word) (table extracode) k no_range (one_row extracode word high) few lies in
-    ap (λ (o : Option Range). (unwrap_or o no_range).instruction) found
+row_found extracode test word high all =
+    let h = found (serves word) test (table extracode) (one_row extracode word high) all in
+    (h.0, (ap (λ (o : Option Range). (unwrap_or o no_range).instruction) h.1.0, h.1.1))
 
--- it is shown as the row's instruction of its operand
-pub shown_by_row : (extracode : Bool) (k word operand : ℕ) → k < length (table extracode) → word < 2 ^ 15
-    → (row_at extracode k).least ≤ word → word ≤ (row_at extracode k).greatest
-    → word % 2 ^ row_bits extracode k ≡ operand → disassembly extracode word ≡ row_text extracode k operand
-unfolding code_of
-shown_by_row extracode k word operand few high least greatest is =
-    ap (λ (i : Instruction). instruction_text (record { instruction = i; operand = operand_of i word }))
-    (instruction_by_row extracode k word few high least greatest) ∙ ap (row_text extracode k) is
+-- ## Operands
+-- what is shown as an address, as the address before one of so many, and as a channel
+abbrev pub is_address : Operand → Bool
+is_address Nothing = false
+is_address Short = true
+is_address Long = true
+is_address ShortPair = false
+is_address LongPair = false
+is_address Channel = false
 
--- and leaves extracode in force as the row's instruction does
-pub extracode_by_row : (extracode : Bool) (k word : ℕ) → k < length (table extracode) → word < 2 ^ 15 → (row_at extracode k).least ≤ word
-    → word ≤ (row_at extracode k).greatest
-    → extracode_after extracode word ≡ extra_after (row_at extracode k).instruction extracode
-unfolding code_of
-extracode_by_row extracode k word few high least greatest =
-    ap (λ (i : Instruction). extra_after i extracode) (instruction_by_row extracode k word few high least greatest)
+abbrev pub is_next_of : ℕ → Operand → Bool
+is_next_of size Nothing = false
+is_next_of size Short = false
+is_next_of size Long = false
+is_next_of size ShortPair = eqb size 0o2000
+is_next_of size LongPair = eqb size 0o10000
+is_next_of size Channel = false
+
+abbrev pub is_channel : Operand → Bool
+is_channel Nothing = false
+is_channel Short = false
+is_channel Long = false
+is_channel ShortPair = false
+is_channel LongPair = false
+is_channel Channel = true
+
+pub address_shown : (o : Operand) (k : ℕ) → is_address o ≡ true → operand_text o k ≡ codes " " ++ octal_text 4 k
+address_shown Nothing k e = absurd (cc)
+address_shown Short k e = refl
+address_shown Long k e = refl
+address_shown ShortPair k e = absurd (cc)
+address_shown LongPair k e = absurd (cc)
+address_shown Channel k e = absurd (cc)
+
+pub next_shown : (size : ℕ) (o : Operand) (k : ℕ) → is_next_of size o ≡ true
+    → operand_text o k ≡ codes " " ++ octal_text 4 (first_of (size - 1) k)
+next_shown size Nothing k e = absurd (cc)
+next_shown size Short k e = absurd (cc)
+next_shown size Long k e = absurd (cc)
+next_shown size ShortPair k e = let is : size ≡ 0o2000 = eqb-true _ _ e in
+    ap (λ (s : ℕ). codes " " ++ octal_text 4 (first_of (s - 1) k)) (sym is)
+next_shown size LongPair k e = let is : size ≡ 0o10000 = eqb-true _ _ e in
+    ap (λ (s : ℕ). codes " " ++ octal_text 4 (first_of (s - 1) k)) (sym is)
+next_shown size Channel k e = absurd (cc)
+
+pub channel_shown : (o : Operand) (k : ℕ) → is_channel o ≡ true → operand_text o k ≡ codes " " ++ octal_text 3 k
+channel_shown Nothing k e = absurd (cc)
+channel_shown Short k e = absurd (cc)
+channel_shown Long k e = absurd (cc)
+channel_shown ShortPair k e = absurd (cc)
+channel_shown LongPair k e = absurd (cc)
+channel_shown Channel k e = refl

@@ -142,245 +142,6 @@ channels s t h n =
     channel_read s.cells t.cells n (n == lower_accumulator_channel) (n == return_address_channel) (low s t h) (ret s t h)
     (h.cells (channel_cell n) (λ e. omega arith) (λ e. omega arith))
 
-same-ca : (rope : Words) (s t : State) (k : ℕ) → IsSameBut s t → IsApart (place_in s k) → ca rope t k ≡ ca rope s k
-unfolding ca
-same-ca rope s t k h a =
-    let p = places s t h k in
-    let o = operands rope s t h k a in
-    let z = nxt s t h in
-    cc
-
-same-cs : (rope : Words) (s t : State) (k : ℕ) → IsSameBut s t → IsApart (place_in s k) → cs rope t k ≡ cs rope s k
-unfolding cs
-same-cs rope s t k h a =
-    let p = places s t h k in
-    let o = operands rope s t h k a in
-    let z = nxt s t h in
-    cc
-
-same-ccs : (rope : Words) (s t : State) (k : ℕ) → IsSameBut s t → IsApart (place_in s k) → ccs rope t k ≡ ccs rope s k
-unfolding ccs
-same-ccs rope s t k h a =
-    let p = places s t h k in
-    let o = operands rope s t h k a in
-    let z = nxt s t h in
-    cc
-
-same-index : (rope : Words) (s t : State) (k : ℕ) → IsSameBut s t → IsApart (place_in s k) → index rope t k ≡ index rope s k
-unfolding index
-same-index rope s t k h a =
-    let p = places s t h k in
-    let o = operands rope s t h k a in
-    let z = nxt s t h in
-    cc
-
-same-ad : (rope : Words) (s t : State) (k : ℕ) → IsSameBut s t → IsApart (place_in s k) → ad rope t k ≡ ad rope s k
-unfolding ad
-same-ad rope s t k h a =
-    let p = places s t h k in
-    let o = operands rope s t h k a in
-    let x = acc s t h in
-    cc
-
-same-su : (rope : Words) (s t : State) (k : ℕ) → IsSameBut s t → IsApart (place_in s k) → su rope t k ≡ su rope s k
-unfolding su
-same-su rope s t k h a =
-    let p = places s t h k in
-    let o = operands rope s t h k a in
-    let x = acc s t h in
-    cc
-
-same-mask : (rope : Words) (s t : State) (k : ℕ) → IsSameBut s t → IsApart (place_in s k) → mask rope t k ≡ mask rope s k
-unfolding mask
-same-mask rope s t k h a =
-    let p = places s t h k in
-    let o = operands rope s t h k a in
-    let x = acc s t h in
-    cc
-
-same-msu : (rope : Words) (s t : State) (k : ℕ) → IsSameBut s t → IsApart (place_in s k) → msu rope t k ≡ msu rope s k
-unfolding msu
-same-msu rope s t k h a =
-    let p = places s t h k in
-    let o = operands rope s t h k a in
-    let x = acc s t h in
-    cc
-
-same-mp : (rope : Words) (s t : State) (k : ℕ) → IsSameBut s t → IsApart (place_in s k) → mp rope t k ≡ mp rope s k
-unfolding mp
-same-mp rope s t k h a =
-    let p = places s t h k in
-    let o = operands rope s t h k a in
-    let x = acc s t h in
-    cc
-
-same-dv : (rope : Words) (s t : State) (k : ℕ) → IsSameBut s t → IsApart (place_in s k) → dv rope t k ≡ dv rope s k
-unfolding dv
-same-dv rope s t k h a =
-    let p = places s t h k in
-    let o = operands rope s t h k a in
-    let x = acc s t h in
-    let l = low s t h in
-    cc
-
-same-xch : (s t : State) (k : ℕ) → IsSameBut s t → IsApart (place_in s k) → xch t k ≡ xch s k
-unfolding xch
-same-xch s t k h a =
-    let n = numbers s t h k in
-    let g = gets s t h k a in
-    let x = acc s t h in
-    cc
-
-same-lxch : (s t : State) (k : ℕ) → IsSameBut s t → IsApart (place_in s k) → lxch t k ≡ lxch s k
-unfolding lxch
-same-lxch s t k h a =
-    let n = numbers s t h k in
-    let g = gets s t h k a in
-    let l = low s t h in
-    cc
-
-same-qxch : (s t : State) (k : ℕ) → IsSameBut s t → IsApart (place_in s k) → qxch t k ≡ qxch s k
-unfolding qxch
-same-qxch s t k h a =
-    let n = numbers s t h k in
-    let g = gets s t h k a in
-    let q = ret s t h in
-    cc
-
-same-incr : (s t : State) (k : ℕ) → IsSameBut s t → IsApart (place_in s k) → incr t k ≡ incr s k
-unfolding incr
-same-incr s t k h a =
-    let n = numbers s t h k in
-    let g = gets s t h k a in
-    cc
-
-same-aug : (s t : State) (k : ℕ) → IsSameBut s t → IsApart (place_in s k) → aug t k ≡ aug s k
-unfolding aug
-same-aug s t k h a =
-    let n = numbers s t h k in
-    let g = gets s t h k a in
-    cc
-
-same-dim : (s t : State) (k : ℕ) → IsSameBut s t → IsApart (place_in s k) → dim t k ≡ dim s k
-unfolding dim
-same-dim s t k h a =
-    let n = numbers s t h k in
-    let g = gets s t h k a in
-    cc
-
-same-ads : (s t : State) (k : ℕ) → IsSameBut s t → IsApart (place_in s k) → ads t k ≡ ads s k
-unfolding ads
-same-ads s t k h a =
-    let n = numbers s t h k in
-    let g = gets s t h k a in
-    let x = acc s t h in
-    cc
-
-same-ts : (s t : State) (k : ℕ) → IsSameBut s t → IsApart (place_in s k) → ts t k ≡ ts s k
-unfolding ts
-same-ts s t k h a =
-    let n = numbers s t h k in
-    let x = acc s t h in
-    let z = nxt s t h in
-    cc
-
-same-das : (s t : State) (k : ℕ) → IsSameBut s t → IsApart (place_in s (first_of greatest_short k)) × IsApart (place_in s k)
-    → das t k ≡ das s k
-unfolding das
-same-das s t k h a =
-    let n = numbers s t h k in
-    let m = numbers s t h (first_of greatest_short k) in
-    let g = gets s t h k a.1 in
-    let f = gets s t h (first_of greatest_short k) a.0 in
-    let x = acc s t h in
-    let l = low s t h in
-    cc
-
-same-dca : (rope : Words) (s t : State) (k : ℕ) → IsSameBut s t
-    → IsApart (place_in s (first_of greatest_address k)) × IsApart (place_in s k) → dca rope t k ≡ dca rope s k
-unfolding dca
-same-dca rope s t k h a =
-    let p = places s t h k in
-    let p' = places s t h (first_of greatest_address k) in
-    let o = operands rope s t h k a.1 in
-    let o' = operands rope s t h (first_of greatest_address k) a.0 in
-    cc
-
-same-dcs : (rope : Words) (s t : State) (k : ℕ) → IsSameBut s t
-    → IsApart (place_in s (first_of greatest_address k)) × IsApart (place_in s k) → dcs rope t k ≡ dcs rope s k
-unfolding dcs
-same-dcs rope s t k h a =
-    let p = places s t h k in
-    let p' = places s t h (first_of greatest_address k) in
-    let o = operands rope s t h k a.1 in
-    let o' = operands rope s t h (first_of greatest_address k) a.0 in
-    cc
-
-same-read : (s t : State) (k : ℕ) → IsSameBut s t → read t k ≡ read s k
-unfolding read
-same-read s t k h =
-    let c = channels s t h k in
-    cc
-
-same-write : (s t : State) (k : ℕ) → IsSameBut s t → write t k ≡ write s k
-unfolding write
-same-write s t k h =
-    let x = acc s t h in
-    cc
-
-same-rand : (s t : State) (k : ℕ) → IsSameBut s t → rand t k ≡ rand s k
-unfolding rand
-same-rand s t k h =
-    let c = channels s t h k in
-    let x = acc s t h in
-    cc
-
-same-ror : (s t : State) (k : ℕ) → IsSameBut s t → ror t k ≡ ror s k
-unfolding ror
-same-ror s t k h =
-    let c = channels s t h k in
-    let x = acc s t h in
-    cc
-
-same-rxor : (s t : State) (k : ℕ) → IsSameBut s t → rxor t k ≡ rxor s k
-unfolding rxor
-same-rxor s t k h =
-    let c = channels s t h k in
-    let x = acc s t h in
-    cc
-
-same-wand : (s t : State) (k : ℕ) → IsSameBut s t → wand t k ≡ wand s k
-unfolding wand
-same-wand s t k h =
-    let c = channels s t h k in
-    let x = acc s t h in
-    cc
-
-same-wor : (s t : State) (k : ℕ) → IsSameBut s t → wor t k ≡ wor s k
-unfolding wor
-same-wor s t k h =
-    let c = channels s t h k in
-    let x = acc s t h in
-    cc
-
-same-tc : (s t : State) (k : ℕ) → IsSameBut s t → tc t k ≡ tc s k
-unfolding tc
-same-tc s t k h =
-    let z = nxt s t h in
-    cc
-
-same-bzf : (s t : State) (k : ℕ) → IsSameBut s t → bzf t k ≡ bzf s k
-unfolding bzf
-same-bzf s t k h =
-    let x = acc s t h in
-    cc
-
-same-bzmf : (s t : State) (k : ℕ) → IsSameBut s t → bzmf t k ≡ bzmf s k
-unfolding bzmf
-same-bzmf s t k h =
-    let x = acc s t h in
-    cc
-
 number_read : (s u v : State) → IsSameBut u v → (k : ℕ) → IsApart (place_in s k)
     → get v.cells (erasable_in s k) ≡ get u.cells (erasable_in s k)
 unfolding erasable_in
@@ -403,7 +164,8 @@ same-dxch s t k h a =
 
 pub same_after : (rope : Words) (s t : State) (i : Instruction) (k : ℕ) → IsSameBut s t → i ≢ Resume → NamesNeither s (row_of i).operand k
     → IsSameBut (after rope s i k) (after rope t i k)
-unfolding after
+unfolding after ca cs ccs index ad su mask msu mp dv xch lxch qxch incr aug dim ads ts das dca dcs read write rand ror rxor wand wor tc
+    bzf bzmf
 same_after rope s t Resume k h differs a = absurd (differs refl)
 same_after rope s t Extend k h differs a = h
 same_after rope s t Edrupt k h differs a = h
@@ -411,34 +173,56 @@ same_after rope s t Relint k h differs a = same_changes s t relint h
 same_after rope s t Inhint k h differs a = same_changes s t inhint h
 same_after rope s t Tcf k h differs a = same_changes s t (tcf k) h
 same_after rope s t Dxch k h differs a = same-dxch s t k h a
-same_after rope s t Ca k h differs a = same_by s t (ca rope s k) (ca rope t k) h (same-ca rope s t k h a)
-same_after rope s t Cs k h differs a = same_by s t (cs rope s k) (cs rope t k) h (same-cs rope s t k h a)
-same_after rope s t Ccs k h differs a = same_by s t (ccs rope s k) (ccs rope t k) h (same-ccs rope s t k h a)
-same_after rope s t Index k h differs a = same_by s t (index rope s k) (index rope t k) h (same-index rope s t k h a)
-same_after rope s t Ad k h differs a = same_by s t (ad rope s k) (ad rope t k) h (same-ad rope s t k h a)
-same_after rope s t Su k h differs a = same_by s t (su rope s k) (su rope t k) h (same-su rope s t k h a)
-same_after rope s t Mask k h differs a = same_by s t (mask rope s k) (mask rope t k) h (same-mask rope s t k h a)
-same_after rope s t Msu k h differs a = same_by s t (msu rope s k) (msu rope t k) h (same-msu rope s t k h a)
-same_after rope s t Mp k h differs a = same_by s t (mp rope s k) (mp rope t k) h (same-mp rope s t k h a)
-same_after rope s t Dv k h differs a = same_by s t (dv rope s k) (dv rope t k) h (same-dv rope s t k h a)
-same_after rope s t Dca k h differs a = same_by s t (dca rope s k) (dca rope t k) h (same-dca rope s t k h a)
-same_after rope s t Dcs k h differs a = same_by s t (dcs rope s k) (dcs rope t k) h (same-dcs rope s t k h a)
-same_after rope s t Xch k h differs a = same_by s t (xch s k) (xch t k) h (same-xch s t k h a)
-same_after rope s t Lxch k h differs a = same_by s t (lxch s k) (lxch t k) h (same-lxch s t k h a)
-same_after rope s t Qxch k h differs a = same_by s t (qxch s k) (qxch t k) h (same-qxch s t k h a)
-same_after rope s t Incr k h differs a = same_by s t (incr s k) (incr t k) h (same-incr s t k h a)
-same_after rope s t Aug k h differs a = same_by s t (aug s k) (aug t k) h (same-aug s t k h a)
-same_after rope s t Dim k h differs a = same_by s t (dim s k) (dim t k) h (same-dim s t k h a)
-same_after rope s t Ads k h differs a = same_by s t (ads s k) (ads t k) h (same-ads s t k h a)
-same_after rope s t Ts k h differs a = same_by s t (ts s k) (ts t k) h (same-ts s t k h a)
-same_after rope s t Das k h differs a = same_by s t (das s k) (das t k) h (same-das s t k h a)
-same_after rope s t Read k h differs a = same_by s t (read s k) (read t k) h (same-read s t k h)
-same_after rope s t Write k h differs a = same_by s t (write s k) (write t k) h (same-write s t k h)
-same_after rope s t Rand k h differs a = same_by s t (rand s k) (rand t k) h (same-rand s t k h)
-same_after rope s t Ror k h differs a = same_by s t (ror s k) (ror t k) h (same-ror s t k h)
-same_after rope s t Rxor k h differs a = same_by s t (rxor s k) (rxor t k) h (same-rxor s t k h)
-same_after rope s t Wand k h differs a = same_by s t (wand s k) (wand t k) h (same-wand s t k h)
-same_after rope s t Wor k h differs a = same_by s t (wor s k) (wor t k) h (same-wor s t k h)
-same_after rope s t Tc k h differs a = same_by s t (tc s k) (tc t k) h (same-tc s t k h)
-same_after rope s t Bzf k h differs a = same_by s t (bzf s k) (bzf t k) h (same-bzf s t k h)
-same_after rope s t Bzmf k h differs a = same_by s t (bzmf s k) (bzmf t k) h (same-bzmf s t k h)
+same_after rope s t Ca k h differs a =
+    let p = places s t h k in let o = operands rope s t h k a in let z = nxt s t h in same_by s t (ca rope s k) (ca rope t k) h cc
+same_after rope s t Cs k h differs a =
+    let p = places s t h k in let o = operands rope s t h k a in let z = nxt s t h in same_by s t (cs rope s k) (cs rope t k) h cc
+same_after rope s t Ccs k h differs a =
+    let p = places s t h k in let o = operands rope s t h k a in let z = nxt s t h in same_by s t (ccs rope s k) (ccs rope t k) h cc
+same_after rope s t Index k h differs a =
+    let p = places s t h k in let o = operands rope s t h k a in let z = nxt s t h in same_by s t (index rope s k) (index rope t k) h cc
+same_after rope s t Ad k h differs a =
+    let p = places s t h k in let o = operands rope s t h k a in let x = acc s t h in same_by s t (ad rope s k) (ad rope t k) h cc
+same_after rope s t Su k h differs a =
+    let p = places s t h k in let o = operands rope s t h k a in let x = acc s t h in same_by s t (su rope s k) (su rope t k) h cc
+same_after rope s t Mask k h differs a =
+    let p = places s t h k in let o = operands rope s t h k a in let x = acc s t h in same_by s t (mask rope s k) (mask rope t k) h cc
+same_after rope s t Msu k h differs a =
+    let p = places s t h k in let o = operands rope s t h k a in let x = acc s t h in same_by s t (msu rope s k) (msu rope t k) h cc
+same_after rope s t Mp k h differs a =
+    let p = places s t h k in let o = operands rope s t h k a in let x = acc s t h in same_by s t (mp rope s k) (mp rope t k) h cc
+same_after rope s t Dv k h differs a =
+    let p = places s t h k in let o = operands rope s t h k a in let x = acc s t h in let l = low s t h in
+    same_by s t (dv rope s k) (dv rope t k) h cc
+same_after rope s t Dca k h differs a =
+    let p = places s t h k in let p' = places s t h (first_of greatest_address k) in let o = operands rope s t h k a.1 in
+    let o' = operands rope s t h (first_of greatest_address k) a.0 in same_by s t (dca rope s k) (dca rope t k) h cc
+same_after rope s t Dcs k h differs a =
+    let p = places s t h k in let p' = places s t h (first_of greatest_address k) in let o = operands rope s t h k a.1 in
+    let o' = operands rope s t h (first_of greatest_address k) a.0 in same_by s t (dcs rope s k) (dcs rope t k) h cc
+same_after rope s t Xch k h differs a =
+    let n = numbers s t h k in let g = gets s t h k a in let x = acc s t h in same_by s t (xch s k) (xch t k) h cc
+same_after rope s t Lxch k h differs a =
+    let n = numbers s t h k in let g = gets s t h k a in let l = low s t h in same_by s t (lxch s k) (lxch t k) h cc
+same_after rope s t Qxch k h differs a =
+    let n = numbers s t h k in let g = gets s t h k a in let q = ret s t h in same_by s t (qxch s k) (qxch t k) h cc
+same_after rope s t Incr k h differs a = let n = numbers s t h k in let g = gets s t h k a in same_by s t (incr s k) (incr t k) h cc
+same_after rope s t Aug k h differs a = let n = numbers s t h k in let g = gets s t h k a in same_by s t (aug s k) (aug t k) h cc
+same_after rope s t Dim k h differs a = let n = numbers s t h k in let g = gets s t h k a in same_by s t (dim s k) (dim t k) h cc
+same_after rope s t Ads k h differs a =
+    let n = numbers s t h k in let g = gets s t h k a in let x = acc s t h in same_by s t (ads s k) (ads t k) h cc
+same_after rope s t Ts k h differs a =
+    let n = numbers s t h k in let x = acc s t h in let z = nxt s t h in same_by s t (ts s k) (ts t k) h cc
+same_after rope s t Das k h differs a =
+    let n = numbers s t h k in let m = numbers s t h (first_of greatest_short k) in let g = gets s t h k a.1 in
+    let f = gets s t h (first_of greatest_short k) a.0 in let x = acc s t h in let l = low s t h in same_by s t (das s k) (das t k) h cc
+same_after rope s t Read k h differs a = let c = channels s t h k in same_by s t (read s k) (read t k) h cc
+same_after rope s t Write k h differs a = let x = acc s t h in same_by s t (write s k) (write t k) h cc
+same_after rope s t Rand k h differs a = let c = channels s t h k in let x = acc s t h in same_by s t (rand s k) (rand t k) h cc
+same_after rope s t Ror k h differs a = let c = channels s t h k in let x = acc s t h in same_by s t (ror s k) (ror t k) h cc
+same_after rope s t Rxor k h differs a = let c = channels s t h k in let x = acc s t h in same_by s t (rxor s k) (rxor t k) h cc
+same_after rope s t Wand k h differs a = let c = channels s t h k in let x = acc s t h in same_by s t (wand s k) (wand t k) h cc
+same_after rope s t Wor k h differs a = let c = channels s t h k in let x = acc s t h in same_by s t (wor s k) (wor t k) h cc
+same_after rope s t Tc k h differs a = let z = nxt s t h in same_by s t (tc s k) (tc t k) h cc
+same_after rope s t Bzf k h differs a = let x = acc s t h in same_by s t (bzf s k) (bzf t k) h cc
+same_after rope s t Bzmf k h differs a = let x = acc s t h in same_by s t (bzmf s k) (bzmf t k) h cc

@@ -17,7 +17,7 @@ use Rattle.words.specs.BitSums.{and_sum, or_sum}
 use Rattle.space.specs.Cells.{Cells, get, put, get_channel, put_channel, accumulator, lower_accumulator_channel, return_address_channel}
 use Rattle.space.specs.Cells.{superbank_channel}
 use Rattle.space.proofs.CellLaws.{get-put_accumulator, get-put_channel, at-put_channel_other}
-use Rattle.cpu.specs.Effects.Change.{AtPlace, OnChannel, Inhibits, Serves, WaitsWithSum, WaitsWithWord}
+use Rattle.cpu.specs.Effects.Change.{AtPlace}
 use Rattle.cpu.specs.declared.instruction.Instruction.{Instruction}
 use Rattle.cpu.specs.declared.instruction.Instruction.TheVariants.{Extend, Edrupt, Write, Wand, Wor}
 use Rattle.cpu.specs.declared.output.Output.{Output}

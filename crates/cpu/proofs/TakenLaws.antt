@@ -16,7 +16,7 @@ use Rattle.feed.proofs.CountLaws.{fits-start, fits-due}
 use Rattle.cpu.specs.declared.output.Output.{Output}
 use Rattle.cpu.specs.State.{State, Scenario, FitsRun, start}
 use Rattle.cpu.specs.Effects.{Change, change, changes, after, dxch}
-use Rattle.cpu.specs.Effects.Change.{AtPlace, OnChannel, Inhibits, Serves, WaitsWithSum, WaitsWithWord}
+use Rattle.cpu.specs.Effects.Change.{AtPlace}
 use Rattle.cpu.specs.declared.instruction.Instruction.{Instruction}
 use Rattle.cpu.specs.declared.instruction.Instruction.TheVariants.{Extend, Edrupt}
 use Rattle.cpu.specs.Next.{fetched, executed, execute, entry, entered, next_by, next}

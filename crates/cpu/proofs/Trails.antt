@@ -1,24 +1,22 @@
 -- Trails of flows, and their targets.
-use Rattle.std.proofs.Common.{◌≡◌, ℕ, Bool, true, false, ◌||◌, ◌==◌, List, [], ◌∷◌, ◌++◌, refl, sym, ◌∙◌}
+use Rattle.std.proofs.Common.{◌≡◌, ℕ, Bool, true, false, ◌||◌, ◌==◌, List, [], ◌∷◌, ◌++◌, fold, refl, sym, ◌∙◌}
 use Rattle.std.proofs.lemmas.List.{append_assoc, append-nil}
 use Rattle.cpu.specs.Links.{Flow, is_in, sources_by, targets_by}
-use Rattle.cpu.specs.Trails.{Trace, passed, followed, gathered}
+use Rattle.cpu.specs.Trails.{Trace, gathered, passed}
 
-pub followed_append : (fs gs : List Flow) (t : Trace) → followed t (fs ++ gs) ≡ followed (followed t fs) gs
-followed_append [] gs t = refl
-followed_append (f ∷ fs) gs t = followed_append fs gs (passed t f)
+-- flows after flows
+pub fold_append : {S : Type 0} (after : S → Flow → S) (s : S) (fs gs : List Flow)
+    → fold after s (fs ++ gs) ≡ fold after (fold after s fs) gs
+fold_append after s [] gs = refl
+fold_append after s (f ∷ fs) gs = fold_append after (after s f) fs gs
 
 -- a trail gathers the sources
-pub followed_from : (fs : List Flow) (t : Trace) → (followed t fs).from ≡ sources_by fs t.cell t.from
-followed_from [] t = refl
-followed_from (f ∷ fs) t = followed_from fs (passed t f)
-
-pub gathered_append : (fs gs : List Flow) (cells : List ℕ) → gathered cells (fs ++ gs) ≡ gathered (gathered cells fs) gs
-gathered_append [] gs cells = refl
-gathered_append (f ∷ fs) gs cells = gathered_append fs gs (cells ++ f.into)
+pub passed_from : (fs : List Flow) (t : Trace) → (fold passed t fs).from ≡ sources_by fs t.cell t.from
+passed_from [] t = refl
+passed_from (f ∷ fs) t = passed_from fs (passed t f)
 
 -- gathered one by one, the targets are those of the flows
-pub gathered_targets : (fs : List Flow) (cells : List ℕ) → gathered cells fs ≡ (cells ++ targets_by fs)
+pub gathered_targets : (fs : List Flow) (cells : List ℕ) → fold gathered cells fs ≡ (cells ++ targets_by fs)
 gathered_targets [] cells = sym (append-nil cells)
 gathered_targets (f ∷ fs) cells = gathered_targets fs (cells ++ f.into) ∙ append_assoc cells f.into (targets_by fs)
 

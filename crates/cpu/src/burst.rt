@@ -144,7 +144,7 @@ impl Machine {
 
     /// Executes a plain instruction, whose word stands at Z, and answers whether extracode is in force then.
     #[inline(always)]
-    #[tactic(auto, using(crate::proofs::Bursts::plain_made, crate::proofs::Bursts::plain_still), unfolding(crate::specs::Next::executed))]
+    #[tactic(auto, using(crate::proofs::Bursts::plain_steps), unfolding(crate::specs::Next::executed))]
     fn execute_as(&mut self, rope: &Rope, instruction: Instruction, word: u16, extra: bool) -> bool
         requires still { IsStill self.old }
         requires few { self.old.cycles ≤ most_cycles }

@@ -113,7 +113,7 @@ impl Machine {
 
     /// Executes one instruction.
     #[inline(always)]
-    #[tactic(auto, using(crate::proofs::RowLaws::written_operand), unfolding(crate::specs::Next::execute, crate::specs::Next::executed, crate::specs::Next::fetched))]
+    #[tactic(auto, unfolding(crate::specs::Next::execute, crate::specs::Next::executed, crate::specs::Next::fetched))]
     pub(crate) fn execute(&mut self, rope: &Rope) -> Option<Output>
         ensures state { self.old.cycles ≤ most_cycles → self.new ≡ (execute rope.now self.old).0 }
         ensures output { self.old.cycles ≤ most_cycles → result ≡ (execute rope.now self.old).1 }

@@ -80,7 +80,7 @@ pub fn output_depends_on_sources(
 }
 
 /// The flags after a step depend on the link and on the flags before, and on nothing else; so what controls fixes them.
-#[tactic(auto, using(crate::proofs::LeavingFlags::flags_depend_on_link, crate::proofs::LeavingFlags::control_fixes_flags))]
+#[tactic(auto, using(crate::proofs::LeavingFlags::flags_by))]
 pub fn flags_depend_on_link(
     processor: &Processor,
     machine: &Machine,
@@ -98,7 +98,7 @@ pub fn flags_depend_on_link(
 
 /// The interrupts asked for after a step depend on the link, on its sources and on those asked for before, and on
 /// nothing else; so what controls fixes them, with the word of a counter that asks by it.
-#[tactic(auto, using(crate::proofs::LeavingFlags::requests_depend_on_sources, crate::proofs::LeavingFlags::control_fixes_requests))]
+#[tactic(auto, using(crate::proofs::LeavingFlags::requests_by))]
 pub fn requests_depend_on_sources(
     processor: &Processor,
     machine: &Machine,

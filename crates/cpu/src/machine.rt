@@ -511,7 +511,7 @@ impl Machine {
 
     /// The same of an address, where it leads to a place that does not edit and is no register.
     #[inline(always)]
-    #[tactic(auto, unfolding(crate::specs::Effects::place_in, crate::specs::Effects::value_at, crate::specs::Effects::edits))]
+    #[tactic(auto, unfolding(crate::specs::Effects::value_at, crate::specs::Effects::edits))]
     pub(crate) fn reading_plain(&self, rope: &Rope, address: Addr12) -> Option<Reading>
         ensures place { IfSome result (λ reading. reading.place ≡ place_in self.now address) }
         ensures value { IfSome result (λ reading. reading.value ≡ operand rope.now self.now address) }

@@ -1,7 +1,7 @@
 //! The processor: fixed memory, the inputs, and the count of steps.
 
 ghost use Rattle.std.specs.Prelude.{◌≡◌, ◌≢◌, true, false, ◌+◌, ◌-◌, ◌<◌, ◌≤◌, ◌^◌, min, ℕ, Some, None, Err, IfOk};
-ghost use Rattle.std.specs.Prelude.{IfSome, OnOk, OnErr, filter, map};
+ghost use Rattle.std.specs.Prelude.{IfSome, OnOk, OnErr, filter, fold, map};
 ghost use Rattle.feed.specs.Added.{AddsLast, TakenBelow};
 ghost use Rattle.feed.specs.CountsTaken.{is_from};
 ghost use Rattle.feed.specs.Merged.{due, plain_entry};
@@ -11,7 +11,7 @@ ghost use Rattle.cpu.specs.Additions.{AddsInput, AreAlikeUpTo, plain_inputs, mos
 ghost use Rattle.cpu.specs.Run.{out, run};
 ghost use Rattle.cpu.specs.Silent.{IsSilent};
 ghost use Rattle.cpu.specs.declared.spot.Spot.{Spot};
-ghost use Rattle.cpu.specs.Links.{link, sources, targets, writes};
+ghost use Rattle.cpu.specs.Links.{flows, link, sources, targets, writes};
 ghost use Rattle.cpu.specs.Reads.{reads};
 ghost use Rattle.cpu.specs.Chains.{writes_some};
 ghost use Rattle.cpu.specs.NextStep.{next_step};
@@ -20,13 +20,14 @@ ghost use Rattle.cpu.specs.Next.{next, instruction_word, most_cycles};
 
 use crate::account::Account;
 use crate::cell_set::CellSet;
+use crate::flows::{Sink, enter, execute, take};
 use crate::machine::Machine;
 use crate::next_step::{Fetched, NextStep};
 use crate::output::Output;
-use crate::reads::Reads;
+use crate::reads::{of_input, push_executed};
+use crate::sinks::{Targets, Trail};
+use crate::source::Source;
 use crate::spot::{Cell, Spot, is_among};
-use crate::targets::Targets;
-use crate::trail::Trail;
 use arrayvec::ArrayVec;
 use feed::{AddFault, Feed, Input, Plain};
 use rope::Rope;
@@ -394,18 +395,12 @@ impl Processor {
     }
 
     /// The cells that the next step writes, in the order of its writings; one that is written twice stands twice.
-    #[tactic(auto, using(crate::proofs::Trails::gathered_targets), unfolding(crate::specs::Links::targets, crate::specs::Links::link))]
+    #[tactic(auto, using(crate::proofs::Trails::gathered_targets), unfolding(crate::specs::Links::targets))]
     pub fn targets(&self, machine: &Machine) -> ArrayVec<Cell, 10>
         ensures { FitsRun self.now.scenario machine.now → result.items ≡ targets (link self.now.scenario machine.now) }
     {
         let mut targets = Targets::none();
-        if let Some((input, _)) = self.due(machine) {
-            targets.take(machine, input);
-        } else if let Some(request) = machine.entry() {
-            targets.enter(machine, &self.rope, request);
-        } else {
-            targets.execute(machine, &self.rope);
-        }
+        self.hand_flows(machine, &mut targets);
         targets.into_cells()
     }
 
@@ -414,15 +409,15 @@ impl Processor {
     pub fn reads(&self, machine: &Machine) -> ArrayVec<Spot, 8>
         ensures { FitsRun self.now.scenario machine.now → result.items ≡ reads (link self.now.scenario machine.now) }
     {
-        let mut reads = Reads::none();
+        let mut reads = ArrayVec::new();
         if let Some((input, _)) = self.due(machine) {
-            reads.take(machine, input);
+            of_input(machine, input).push_to(&mut reads);
         } else if machine.entry().is_some() {
-            reads.enter(machine);
+            Source::Place(machine.next_place()).push_to(&mut reads);
         } else {
-            reads.execute(machine, &self.rope);
+            push_executed(&mut reads, machine, &self.rope);
         }
-        reads.into_spots()
+        reads
     }
 
     /// Whether the next step writes a cell.
@@ -442,20 +437,30 @@ impl Processor {
 
     /// From what comes what the next step leaves in a cell: spots at which the machine holds something, or fixed memory
     /// does. Where the step does not write the cell, the cell itself.
-    #[tactic(auto, using(crate::proofs::Trails::followed_from), unfolding(crate::specs::Links::sources, crate::specs::Links::link))]
+    #[tactic(auto, using(crate::proofs::Trails::passed_from), unfolding(crate::specs::Links::sources))]
     pub fn sources(&self, machine: &Machine, cell: Cell) -> ArrayVec<Spot, 6>
         ensures { FitsRun self.now.scenario machine.now
             → result.items ≡ sources (link self.now.scenario machine.now) (Spot.Cell cell) }
     {
         let mut trail = Trail::new(cell);
-        if let Some((input, _)) = self.due(machine) {
-            trail.take(machine, input);
-        } else if let Some(request) = machine.entry() {
-            trail.enter(machine, &self.rope, request);
-        } else {
-            trail.execute(machine, &self.rope);
-        }
+        self.hand_flows(machine, &mut trail);
         trail.into_from()
+    }
+
+    // Hands on the flows of the next step, one after another.
+    #[tactic(auto, unfolding(crate::specs::Links::link))]
+    fn hand_flows<S: Sink>(&self, machine: &Machine, sink: &mut S)
+        requires { 10 ≤ S.room sink.old }
+        ensures { FitsRun self.now.scenario machine.now
+            → sink.new ≡ fold S.after sink.old (flows (link self.now.scenario machine.now)) }
+    {
+        if let Some((input, _)) = self.due(machine) {
+            take(sink, machine, input);
+        } else if let Some(request) = machine.entry() {
+            enter(sink, machine, &self.rope, request);
+        } else {
+            execute(sink, machine, &self.rope);
+        }
     }
 
     /// The input that is due for a machine, with its series.

@@ -1,285 +1,146 @@
 //! What each step reads.
 
-ghost use Rattle.std.specs.Prelude.{◌≡◌, ◌+◌, ◌≤◌, [], ◌∷◌, ◌++◌, length, Some, None};
+ghost use Rattle.std.specs.Prelude.{◌≡◌, ◌+◌, ◌≤◌, [], ◌∷◌, ◌++◌, None};
+ghost use Rattle.arrayvec.specs.ArrayVec.{array_vec_len};
 ghost use Rattle.cpu.specs.declared.spot.Spot.{Spot};
 ghost use Rattle.cpu.specs.Codes.{operand_of};
-ghost use Rattle.cpu.specs.Effects.{next_address, place_in};
-ghost use Rattle.cpu.specs.Links.{a, l, carries_in, channel_spots, link_by, place_spots, spots};
-ghost use Rattle.cpu.specs.Reads.{fetch_reads, input_reads, reads, reads_of};
+ghost use Rattle.cpu.specs.Effects.{erasable_number, first_of, greatest_short, place_in};
+ghost use Rattle.cpu.specs.Links.{carries_in, link_by, place_spots};
+ghost use Rattle.cpu.specs.Reads.{fetch_reads, input_reads, pair_reads, reads, reads_of};
+ghost use Rattle.cpu.specs.Trails.{source_spots};
 
 use crate::address::{Addr10, address_of_word, before, channel_of_word};
 use crate::dispatch::decode;
 use crate::inputs::{carried_by, is_overflow, step_of};
 use crate::instruction::Instruction;
 use crate::machine::Machine;
-use crate::spot::{Cell, Spot};
+use crate::source::{Source, push_place};
+use crate::spot::Spot;
 use arrayvec::ArrayVec;
 use feed::Input;
 use rope::Rope;
-use space::{Chan, Eras, Linear};
-use std::marker::Model;
+use space::{Eras, Linear};
 
-/// Spots, as one after another is read: a word that is fetched from BB, and by DAS A, L and two places, each of at most
-/// two cells.
-#[derive(Drop)]
-pub(crate) struct Reads {
-    spots: ArrayVec<Spot, 8>,
+/// What an input reads.
+pub(crate) fn of_input(machine: &Machine, input: Input) -> Source
+    ensures { source_spots result ≡ input_reads input (carries_in machine.now input) }
+{
+    let Input::Count(counter, sequence) = input else {
+        return Source::Nothing;
+    };
+    let step = step_of(sequence, machine.word(counter.place()));
+    if is_overflow(step.carry)
+        && let Some(other) = carried_by(counter.asks())
+    {
+        return Source::register_and(counter.place(), Linear::Erasable(other.place()));
+    }
+    Source::erasable(counter.place())
 }
 
-impl Model for Reads {
-    ghost use Rattle.std.specs.Prelude.{List};
-    ghost use Rattle.cpu.specs.declared.spot.Spot.{Spot};
-
-    ghost Value = { List Spot };
-
-    ghost view = { λ r. r.spots.items };
+/// Appends what the fetch of an instruction reads, and what it does.
+#[tactic(auto, unfolding(crate::specs::Reads::reads, crate::specs::Effects::place_in, space::specs::Cells::get))]
+pub(crate) fn push_executed(spots: &mut ArrayVec<Spot, 8>, machine: &Machine, rope: &Rope)
+    requires { spots.old.items ≡ [] }
+    ensures { spots.new.items ≡ reads (link_by rope.now machine.now None None) }
+{
+    let word = machine.instruction_word(rope).to_u16();
+    push_fetch(
+        spots,
+        machine.next_place(),
+        machine.waiting_word().is_some(),
+    );
+    push_instruction(spots, machine, decode(word, machine.extra()), word);
 }
 
-impl Reads {
-    /// No spots.
-    pub(crate) fn none() -> Reads
-        ensures { result ≡ [] }
-    {
-        Reads {
-            spots: ArrayVec::new(),
-        }
+// Appends the erasable place where the word of an instruction stands, unless the word waited.
+fn push_fetch(spots: &mut ArrayVec<Spot, 8>, place: Linear, waited: bool)
+    requires { array_vec_len spots.old ≤ 0 }
+    ensures value { spots.new.items ≡ spots.old.items ++ fetch_reads waited place }
+    ensures len { array_vec_len spots.new ≤ 2 }
+{
+    if !waited && let Linear::Erasable(_) = place {
+        push_place(spots, place);
     }
+}
 
-    /// The spots.
-    pub(crate) fn into_spots(self) -> ArrayVec<Spot, 8>
-        ensures { result.items ≡ self }
-    {
-        self.spots
-    }
+// Appends what an instruction reads, with its operand in a word.
+fn push_instruction(
+    spots: &mut ArrayVec<Spot, 8>,
+    machine: &Machine,
+    instruction: Instruction,
+    word: u16,
+)
+    requires { array_vec_len spots.old ≤ 2 }
+    ensures { spots.new.items ≡ spots.old.items
+        ++ reads_of (place_in machine.now) instruction (operand_of instruction word) }
+{
+    of_instruction(machine, instruction, word).push_to(spots);
+}
 
-    /// One spot more.
-    fn spot(&mut self, spot: Spot)
-        requires { length self.old + 1 ≤ 8 }
-        ensures value { self.new ≡ self.old ++ spot ∷ [] }
-        ensures len { length self.new ≡ length self.old + 1 }
-    {
-        self.spots.push(spot);
+// What an instruction reads, with its operand in a word.
+#[tactic(auto, unfolding(crate::specs::Effects::erasable_in))]
+fn of_instruction(machine: &Machine, instruction: Instruction, word: u16) -> Source
+    ensures { source_spots result ≡ reads_of (place_in machine.now) instruction (operand_of instruction word) }
+{
+    let short = Addr10::of_word(word);
+    let address = address_of_word(word);
+    let channel = channel_of_word(word);
+    match instruction {
+        Instruction::Relint => Source::Nothing,
+        Instruction::Inhint => Source::Nothing,
+        Instruction::Extend => Source::Nothing,
+        Instruction::Resume => Source::register_and(Eras::ZRUPT, Linear::Erasable(Eras::BRUPT)),
+        Instruction::Tc => Source::Nothing,
+        Instruction::Ccs => Source::Place(machine.place(short.widen())),
+        Instruction::Tcf => Source::Nothing,
+        Instruction::Das => pair(machine, short),
+        Instruction::Lxch => exchange(machine, Eras::L, short),
+        Instruction::Incr => Source::erasable(machine.erasable(short)),
+        Instruction::Ads => exchange(machine, Eras::A, short),
+        Instruction::Ca => Source::Place(machine.place(address)),
+        Instruction::Cs => Source::Place(machine.place(address)),
+        Instruction::Index => Source::Place(machine.place(address)),
+        Instruction::Dxch => pair(machine, short),
+        Instruction::Ts => Source::A,
+        Instruction::Xch => exchange(machine, Eras::A, short),
+        Instruction::Ad => Source::register_and(Eras::A, machine.place(address)),
+        Instruction::Mask => Source::register_and(Eras::A, machine.place(address)),
+        Instruction::Read => Source::Channel(channel),
+        Instruction::Write => Source::A,
+        Instruction::Rand => Source::AndChannel(channel),
+        Instruction::Wand => Source::AndChannel(channel),
+        Instruction::Ror => Source::AndChannel(channel),
+        Instruction::Wor => Source::AndChannel(channel),
+        Instruction::Rxor => Source::AndChannel(channel),
+        Instruction::Edrupt => Source::Nothing,
+        Instruction::Dv => Source::RegistersAndPlace(machine.place(short.widen())),
+        Instruction::Bzf => Source::A,
+        Instruction::Msu => Source::register_and(Eras::A, machine.place(short.widen())),
+        Instruction::Qxch => exchange(machine, Eras::Q, short),
+        Instruction::Aug => Source::erasable(machine.erasable(short)),
+        Instruction::Dim => Source::erasable(machine.erasable(short)),
+        Instruction::Dca => Source::Places(machine.place(before(address)), machine.place(address)),
+        Instruction::Dcs => Source::Places(machine.place(before(address)), machine.place(address)),
+        Instruction::Su => Source::register_and(Eras::A, machine.place(short.widen())),
+        Instruction::Bzmf => Source::A,
+        Instruction::Mp => Source::register_and(Eras::A, machine.place(address)),
     }
+}
 
-    /// A.
-    fn a(&mut self)
-        requires { length self.old + 1 ≤ 8 }
-        ensures value { self.new ≡ self.old ++ a ∷ [] }
-        ensures len { length self.new ≡ length self.old + 1 }
-    {
-        self.spot(Spot::Cell(Cell::A));
-    }
+// A, L, and the pair of erasable places to whose second an address leads.
+#[tactic(auto, unfolding(crate::specs::Effects::erasable_in))]
+fn pair(machine: &Machine, second: Addr10) -> Source
+    ensures { source_spots result ≡ pair_reads (place_in machine.now (first_of greatest_short second))
+        (place_in machine.now second) }
+{
+    Source::RegistersAndPair(machine.erasable(second.before()), machine.erasable(second))
+}
 
-    /// An erasable place.
-    fn place(&mut self, place: Eras)
-        requires { length self.old + 2 ≤ 8 }
-        ensures value { self.new ≡ self.old ++ place_spots place }
-        ensures len { length self.new ≤ length self.old + 2 }
-    {
-        if place == Eras::BB {
-            self.spot(Spot::Cell(Cell::of_place(Eras::FB)));
-            self.spot(Spot::Cell(Cell::of_place(Eras::EB)));
-        } else if place != Eras::ZERO {
-            self.spot(Spot::Cell(Cell::of_place(place)));
-        }
-    }
-
-    /// A place.
-    fn at(&mut self, place: &Linear)
-        requires { length self.old + 2 ≤ 8 }
-        ensures value { self.new ≡ self.old ++ spots place.now }
-        ensures len { length self.new ≤ length self.old + 2 }
-    {
-        match *place {
-            Linear::Erasable(place) => self.place(place),
-            Linear::Fixed(bank, offset) => self.spot(Spot::InRope(bank, offset)),
-        }
-    }
-
-    /// A channel.
-    fn channel(&mut self, channel: Chan)
-        requires { length self.old + 1 ≤ 8 }
-        ensures value { self.new ≡ self.old ++ channel_spots channel }
-        ensures len { length self.new ≡ length self.old + 1 }
-    {
-        self.spot(Spot::Cell(Cell::of_channel(channel)));
-    }
-
-    /// A register, and an erasable place.
-    fn register_and(&mut self, register: Cell, place: Eras)
-        requires { length self.old ≤ 2 }
-        ensures value { self.new ≡ self.old ++ Spot.Cell register ∷ place_spots place }
-    {
-        self.spot(Spot::Cell(register));
-        self.place(place);
-    }
-
-    /// A, and a place.
-    fn a_and(&mut self, place: &Linear)
-        requires { length self.old ≤ 2 }
-        ensures value { self.new ≡ self.old ++ a ∷ spots place.now }
-    {
-        self.a();
-        self.at(place);
-    }
-
-    /// A, L, and a place.
-    fn a_l_and(&mut self, place: &Linear)
-        requires { length self.old ≤ 2 }
-        ensures value { self.new ≡ self.old ++ a ∷ l ∷ spots place.now }
-    {
-        self.a();
-        self.spot(Spot::Cell(Cell::L));
-        self.at(place);
-    }
-
-    /// A, L, and a pair of erasable places.
-    fn pair(&mut self, first: Eras, second: Eras)
-        requires { length self.old ≤ 2 }
-        ensures value { self.new ≡ self.old ++ a ∷ l ∷ place_spots first ++ place_spots second }
-    {
-        self.a();
-        self.spot(Spot::Cell(Cell::L));
-        self.place(first);
-        self.place(second);
-    }
-
-    /// Two places.
-    fn both(&mut self, first: &Linear, second: &Linear)
-        requires { length self.old ≤ 2 }
-        ensures value { self.new ≡ self.old ++ (spots first.now ++ spots second.now) }
-    {
-        self.at(first);
-        self.at(second);
-    }
-
-    /// A, and a channel.
-    fn a_and_channel(&mut self, channel: Chan)
-        requires { length self.old ≤ 2 }
-        ensures value { self.new ≡ self.old ++ a ∷ channel_spots channel }
-    {
-        self.a();
-        self.channel(channel);
-    }
-
-    /// ZRUPT and BRUPT.
-    fn interrupted(&mut self)
-        requires { length self.old ≤ 2 }
-        ensures value { self.new ≡ self.old ++ Spot.Cell 0o15 ∷ Spot.Cell 0o17 ∷ [] }
-    {
-        self.spot(Spot::Cell(Cell::of_place(Eras::ZRUPT)));
-        self.spot(Spot::Cell(Cell::of_place(Eras::BRUPT)));
-    }
-
-    /// An instruction, with its operand in a word.
-    #[tactic(auto, unfolding(crate::specs::Effects::erasable_in))]
-    fn instruction(&mut self, machine: &Machine, instruction: Instruction, word: u16)
-        requires { length self.old ≤ 2 }
-        ensures value { self.new ≡ self.old ++ reads_of (place_in machine.now) instruction
-            (operand_of instruction word) }
-    {
-        let short = Addr10::of_word(word);
-        let address = address_of_word(word);
-        let channel = channel_of_word(word);
-        match instruction {
-            Instruction::Relint => {}
-            Instruction::Inhint => {}
-            Instruction::Extend => {}
-            Instruction::Resume => self.interrupted(),
-            Instruction::Tc => {}
-            Instruction::Ccs => self.at(&machine.place(short.widen())),
-            Instruction::Tcf => {}
-            Instruction::Das => self.pair(
-                machine.erasable(short.before()),
-                machine.erasable(short),
-            ),
-            Instruction::Lxch => self.register_and(Cell::L, machine.erasable(short)),
-            Instruction::Incr => self.place(machine.erasable(short)),
-            Instruction::Ads => self.register_and(Cell::A, machine.erasable(short)),
-            Instruction::Ca => self.at(&machine.place(address)),
-            Instruction::Cs => self.at(&machine.place(address)),
-            Instruction::Index => self.at(&machine.place(address)),
-            Instruction::Dxch => {
-                self.pair(machine.erasable(short.before()), machine.erasable(short))
-            }
-            Instruction::Ts => self.a(),
-            Instruction::Xch => self.register_and(Cell::A, machine.erasable(short)),
-            Instruction::Ad => self.a_and(&machine.place(address)),
-            Instruction::Mask => self.a_and(&machine.place(address)),
-            Instruction::Read => self.channel(channel),
-            Instruction::Write => self.a(),
-            Instruction::Rand => self.a_and_channel(channel),
-            Instruction::Wand => self.a_and_channel(channel),
-            Instruction::Ror => self.a_and_channel(channel),
-            Instruction::Wor => self.a_and_channel(channel),
-            Instruction::Rxor => self.a_and_channel(channel),
-            Instruction::Edrupt => {}
-            Instruction::Dv => self.a_l_and(&machine.place(short.widen())),
-            Instruction::Bzf => self.a(),
-            Instruction::Msu => self.a_and(&machine.place(short.widen())),
-            Instruction::Qxch => {
-                self.register_and(Cell::of_place(Eras::Q), machine.erasable(short))
-            }
-            Instruction::Aug => self.place(machine.erasable(short)),
-            Instruction::Dim => self.place(machine.erasable(short)),
-            Instruction::Dca => self.both(&machine.place(before(address)), &machine.place(address)),
-            Instruction::Dcs => self.both(&machine.place(before(address)), &machine.place(address)),
-            Instruction::Su => self.a_and(&machine.place(short.widen())),
-            Instruction::Bzmf => self.a(),
-            Instruction::Mp => self.a_and(&machine.place(address)),
-        }
-    }
-
-    /// The fetch of an instruction: the erasable place where its word stands, unless the word waited.
-    fn fetch(&mut self, place: &Linear, waited: bool)
-        requires { length self.old ≤ 0 }
-        ensures value { self.new ≡ self.old ++ fetch_reads waited place.now }
-        ensures len { length self.new ≤ 2 }
-    {
-        if waited {
-            return;
-        }
-        if let Linear::Erasable(place) = *place {
-            self.place(place);
-        }
-    }
-
-    /// The fetch of an instruction, and what it does.
-    #[tactic(auto, unfolding(crate::specs::Reads::reads, crate::specs::Effects::place_in, crate::specs::Next::instruction_word, crate::specs::Codes::code_of, space::specs::Cells::get))]
-    pub(crate) fn execute(&mut self, machine: &Machine, rope: &Rope)
-        requires { self.old ≡ [] }
-        ensures { self.new ≡ reads (link_by rope.now machine.now None None) }
-    {
-        let word = machine.instruction_word(rope).to_u16();
-        self.fetch(&machine.next_place(), machine.waiting_word().is_some());
-        self.instruction(machine, decode(word, machine.extra()), word);
-    }
-
-    /// The entry of an interrupt: the word that it puts off.
-    #[tactic(auto, unfolding(crate::specs::Reads::reads, crate::specs::Effects::place_in))]
-    pub(crate) fn enter(&mut self, machine: &Machine)
-        requires { self.old ≡ [] }
-        ensures { self.new ≡ spots (place_in machine.now (next_address machine.now)) }
-    {
-        self.at(&machine.next_place());
-    }
-
-    /// An input.
-    pub(crate) fn take(&mut self, machine: &Machine, input: Input)
-        requires { self.old ≡ [] }
-        ensures { self.new ≡ input_reads input (carries_in machine.now input) }
-    {
-        match input {
-            Input::Count(counter, sequence) => {
-                self.place(counter.place());
-                let step = step_of(sequence, machine.word(counter.place()));
-                if is_overflow(step.carry)
-                    && let Some(other) = carried_by(counter.asks())
-                {
-                    self.place(other.place());
-                }
-            }
-            Input::Word(_, _) | Input::Interrupt(_) => {}
-        }
-    }
+// A register, and the erasable place to which an address leads.
+#[tactic(auto, unfolding(crate::specs::Effects::erasable_in))]
+fn exchange(machine: &Machine, register: Eras, address: Addr10) -> Source
+    ensures { source_spots result
+        ≡ place_spots register ++ place_spots (erasable_number (place_in machine.now address)) }
+{
+    Source::register_and(register, Linear::Erasable(machine.erasable(address)))
 }

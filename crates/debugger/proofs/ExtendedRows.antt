@@ -36,7 +36,7 @@ use Rattle.agc_text.specs.Lines.{lines}
 use Rattle.yayul.specs.Forms.{statement_of}
 use Rattle.yayul.specs.Layout.{line_effect}
 use Rattle.yayul.specs.Listing.{number_column, place_text, word_columns}
-use Rattle.yayul.specs.Operators.{operators}
+use Rattle.yayul.specs.Operators.{operators, operator_rows}
 use Rattle.yayul.specs.PlaceRows.{no_source}
 use Rattle.yayul.specs.Program.{Source}
 use Rattle.yayul.specs.declared.language.Language.TheVariants.{Standard}
@@ -357,7 +357,7 @@ source = record { language = Standard; text = codes " SETLOC 4000\n CA FIVE\n AD
 
 row_of_ad : (memory : Words) (h : History) (seen : Sight) → word_at memory 2 1 ≡ 0o64005
     → list_row symbols source memory h seen (linear.Fixed 2 1) ≡ codes "LIST     3 02,4001 64005   AD FIVE\n"
-unfolding runs operators statement_of line_effect lines number_column word_columns place_text window octal_text digits
+unfolding runs operators operator_rows statement_of line_effect lines number_column word_columns place_text window octal_text digits
 row_of_ad memory h seen second = rw second refl
 
 abbrev sourced : History → ℕ → Linear → List ℕ
@@ -367,7 +367,7 @@ sourced_rows : sourced (history five) 7 (linear.Erasable 5) ++ sourced (history 
     ++ sourced (history five) 7 (linear.Erasable 6)
     ≡ ended (codes "LIST     5 E0,0005 04002  ZREG ERASE +1" ∷ codes "LIST     5 E0,0005 04000  ZREG ERASE +1" ∷ codes "LIST E0,0006 00000"
     ∷ [])
-unfolding runs operators statement_of line_effect lines number_column place_text window octal_text digits
+unfolding runs operators operator_rows statement_of line_effect lines number_column place_text window octal_text digits
 sourced_rows = ap (λ h. sourced h 7 (linear.Erasable 5) ++ sourced h 0 (linear.Erasable 5) ++ sourced h 7 (linear.Erasable 6)) history-five
     ∙ refl
 

@@ -9,7 +9,7 @@ use Rattle.cover.specs.Tallies.{account_count, account_number}
 use Rattle.notes.specs.RunNotes.{where_of}
 use Rattle.delays.specs.declared.call.Call.{Call}
 use Rattle.delays.specs.Causes.{cause_by, causes}
-use Rattle.delays.specs.Plain.{MakesStep, over_plain, plain_after, span_plain}
+use Rattle.delays.specs.Plain.{over_plain, plain_after, span_plain}
 use Rattle.delays.specs.Routines.{call_over, left_in, returned_in, with_call}
 use Rattle.delays.specs.ShortTests.{may_call}
 use Rattle.delays.specs.Spans.{is_closed, span_rows, wait_rows}
@@ -47,6 +47,14 @@ plain_is s t f d none = λ i. record {
   spans = put_down d.spans (span_in (Executes f) s t d);
   called = put_down d.called (over_is s t f d none i);
 }
+
+-- what is kept is what the step after a state leads to
+pub record MakesStep (scenario : Scenario) (s t : State) (old new : Delayed) : Type 0 where
+  pub delays : new ≡ delayed_after (next_step scenario s) s t old
+  pub cause : cause_by (next_step scenario s) s old.last < causes
+  pub wait : IsWithin wait_rows (wait_in (next_step scenario s) s old)
+  pub span : IsWithin span_rows (span_in (next_step scenario s) s t old)
+  pub call : IsWithin account_count (over_in (next_step scenario s) s t old)
 
 pub plain_made : (p : Scenario) (s t : State) (f : Fetched) (old new : Delayed) (cause cycles : ℕ) → Executes f ≡ next_step p s
     → may_call (Executes f) ≡ false → cause ≡ cause_in f s old → cycles ≡ s.cycles → cause < causes

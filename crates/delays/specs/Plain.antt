@@ -1,17 +1,13 @@
 -- What is kept of a step that executes an instruction and makes no call, told by the state to which it leads, its account, its cause, and
 -- the cycles before it. Only the contracts of this crate's parts stand on this.
-use Rattle.std.specs.Prelude.{◌≡◌, ℕ, ◌+◌, ◌-◌, ◌<◌, List, Option, None, if◌then◌else◌}
-use Rattle.cpu.specs.Next.{next}
-use Rattle.cpu.specs.NextStep.{next_step}
-use Rattle.cpu.specs.State.{State, Scenario}
-use Rattle.cover.specs.Tallies.{account_count}
+use Rattle.std.specs.Prelude.{ℕ, ◌+◌, ◌-◌, List, Option, None, if◌then◌else◌}
+use Rattle.cpu.specs.State.{State}
 use Rattle.delays.specs.declared.mark.Begun.{Begun}
 use Rattle.delays.specs.declared.mark.Mark.{Mark}
-use Rattle.delays.specs.Causes.{cause_by, causes}
 use Rattle.delays.specs.Routines.{call_over, left_in, returned_in}
-use Rattle.delays.specs.Spans.{is_closed, span_by, span_rows, spent_more, wait_rows}
+use Rattle.delays.specs.Spans.{is_closed, span_by, spent_more}
 use Rattle.delays.specs.Stretches.{Event}
-use Rattle.delays.specs.Tallies.{begun_after, Delayed, delayed_after, IsWithin, mark_in, over_in, put_down, span_in, wait_in}
+use Rattle.delays.specs.Tallies.{begun_after, Delayed, mark_in, put_down}
 
 abbrev pub spent_plain : State → ℕ → ℕ → Delayed → List ℕ
 spent_plain t cause cycles d = spent_more d.spent cause (t.cycles - cycles)
@@ -42,11 +38,3 @@ plain_after t here cause cycles d =
       spans = put_down d.spans (span_plain t here cause cycles d);
       called = put_down d.called (over_plain t here cause cycles d);
     }
-
--- what is kept is what the step after a state leads to
-pub record MakesStep (scenario : Scenario) (s t : State) (old new : Delayed) : Type 0 where
-  pub delays : new ≡ delayed_after (next_step scenario s) s t old
-  pub cause : cause_by (next_step scenario s) s old.last < causes
-  pub wait : IsWithin wait_rows (wait_in (next_step scenario s) s old)
-  pub span : IsWithin span_rows (span_in (next_step scenario s) s t old)
-  pub call : IsWithin account_count (over_in (next_step scenario s) s t old)

@@ -3,14 +3,13 @@
 ghost use Rattle.std.specs.Prelude.{◌≡◌, ◌+◌, ◌-◌, ◌<◌, ◌≤◌, ◌^◌, IfOk, IfSome, None, Some, false, true, get_or};
 ghost use Rattle.std.specs.Prelude.{if◌then◌else◌};
 ghost use Rattle.cover.specs.Tallies.{account_count, account_number};
-ghost use Rattle.cpu.specs.Bursts.{IsQuiet};
 ghost use Rattle.cpu.specs.Next.{next};
 ghost use Rattle.cpu.specs.NextStep.{next_step};
 ghost use Rattle.cpu.specs.Run.{run};
 ghost use Rattle.cpu.specs.State.{FitsRun, Scenario};
 ghost use Rattle.delays.specs.Causes.{cause_by, causes};
 ghost use Rattle.cpu.specs.declared.next_step.NextStep.TheVariants.{Enters};
-ghost use Rattle.delays.specs.Plain.{MakesStep, over_plain, plain_after, span_plain};
+ghost use Rattle.delays.specs.Plain.{over_plain, plain_after, span_plain};
 ghost use Rattle.delays.specs.Routines.{call_in, call_over, left_in, returned_in, with_call};
 ghost use Rattle.delays.specs.Spans.{span_by, span_of, span_rows, spent_more, wait_by, wait_rows};
 ghost use Rattle.delays.specs.Stretches.{no_best};
@@ -23,7 +22,7 @@ use crate::cause::{CAUSES, asked_in, cause_of, is_closed, where_of};
 use crate::mark::{Begun, Best, Mark, NO_MARK, Stretch};
 use crate::table::Table;
 use access::last_after;
-use cover::{ACCOUNTS, number_of};
+use cover::{ACCOUNTS, Profiler, Recorder, number_of, record_steps};
 use cpu::{Account, Machine, NextStep, Processor, make_step};
 use feed::interrupt::{INTERRUPTS, Interrupt};
 use std::alloc::{AllocError, Global};
@@ -200,98 +199,7 @@ impl Delays {
         ensures state { machine.new ≡ run processor.old.scenario stop }
         ensures measures { Measures processor.old.scenario stop self.new }
     {
-        let mut at = done;
-        while at < stop {
-            self.step(processor, machine);
-            at = self.make_plain_steps(processor, machine, at + 1, stop);
-        }
-    }
-
-    /// The same of plain steps that make no call, as long as they come one after another. Answers how many the run has
-    /// made then.
-    fn make_plain_steps(
-        &mut self,
-        processor: &mut Processor,
-        machine: &mut Machine,
-        done: u64,
-        stop: u64,
-    ) -> u64
-        requires within { done ≤ stop }
-        requires few { stop ≤ 2 ^ 40 }
-        requires state { machine.old ≡ run processor.old.scenario done }
-        requires measures { Measures processor.old.scenario done self.old }
-        ensures past { done ≤ result }
-        ensures within { result ≤ stop }
-        ensures scenario { processor.new.scenario ≡ processor.old.scenario }
-        ensures state { machine.new ≡ run processor.old.scenario result }
-        ensures measures { Measures processor.old.scenario result self.new }
-    {
-        match processor.quiet_steps(machine) {
-            Some(room) => {
-                let end = done + room.min(stop - done);
-                let at = self.make_quiet(processor, machine, done, end);
-                processor.count(at - done);
-                at
-            }
-            None => done,
-        }
-    }
-
-    /// The same up to a step before which all are quiet.
-    #[inline(always)]
-    fn make_quiet(
-        &mut self,
-        processor: &Processor,
-        machine: &mut Machine,
-        done: u64,
-        end: u64,
-    ) -> u64
-        requires within { done ≤ end }
-        requires few { end ≤ 2 ^ 40 }
-        requires quiet { IsQuiet processor.now.scenario machine.old (end - done) }
-        requires state { machine.old ≡ run processor.now.scenario done }
-        requires measures { Measures processor.now.scenario done self.old }
-        ensures past { done ≤ result }
-        ensures within { result ≤ end }
-        ensures state { machine.new ≡ run processor.now.scenario result }
-        ensures measures { Measures processor.now.scenario result self.new }
-    {
-        let mut at = done;
-        while at < end {
-            if !self.step_plain(processor, machine, end - at) {
-                return at;
-            }
-            at += 1;
-        }
-        at
-    }
-
-    /// Makes the next step, of so many quiet ones, where it is plain and makes no call; else leaves all as it is.
-    #[inline(always)]
-    fn step_plain(&mut self, processor: &Processor, machine: &mut Machine, quiet: u64) -> bool
-        requires quiet { IsQuiet processor.now.scenario machine.old quiet }
-        requires some { 1 ≤ quiet }
-        requires cycles { machine.old.cycles ≤ 2 ^ 62 }
-        requires small { IsSmall self.old }
-        ensures left { result ≡ false → machine.new ≡ machine.old }
-        ensures same { result ≡ false → self.new ≡ self.old }
-        ensures state { result ≡ true → machine.new ≡ (next processor.now.scenario machine.old).0 }
-        ensures delays { result ≡ true → MakesStep processor.now.scenario machine.old machine.new self.old self.new }
-        ensures quiet { result ≡ true → IsQuiet processor.now.scenario machine.new (quiet - 1) }
-    {
-        let fetched = processor.fetched(machine, quiet);
-        let word = fetched.word;
-        let step = NextStep::Executes(fetched);
-        if may_call(&step) {
-            return false;
-        }
-        let cause = cause_of(&step, machine, self.last);
-        let cycles = machine.cycles();
-        if !processor.make_plain(machine, word, quiet) {
-            return false;
-        }
-        self.keep_plain(machine, &step, cause, cycles);
-        true
+        record_steps(self, processor, machine, done, stop);
     }
 
     /// Keeps a step that was made, which executes an instruction that makes no call: its cause, and the cycles before
@@ -323,6 +231,7 @@ impl Delays {
         requires fits { FitsRun processor.old.scenario machine.old }
         requires small { IsSmall self.old }
         ensures scenario { processor.new.scenario ≡ processor.old.scenario }
+        ensures meter { processor.new.meter ≤ processor.old.meter + 1 }
         ensures state { machine.new ≡ (next processor.old.scenario machine.old).0 }
         ensures delays { self.new ≡ delayed_after (next_step processor.old.scenario machine.old) machine.old machine.new
             self.old }
@@ -581,5 +490,44 @@ impl Delays {
             self.called
                 .add(number_of(Account::Place(call.to)), &stretch);
         }
+    }
+}
+
+impl Recorder for Delays {
+    type Kept = ();
+
+    ghost kept = { λ _. tt };
+
+    ghost Stands = { λ _ scenario n delays. Measures scenario n delays };
+
+    #[inline(always)]
+    fn record_plain(
+        &mut self,
+        processor: &Processor,
+        machine: &mut Machine,
+        done: u64,
+        quiet: u64,
+    ) -> bool {
+        let _ = done;
+        let fetched = processor.fetched(machine, quiet);
+        let word = fetched.word;
+        let step = NextStep::Executes(fetched);
+        if may_call(&step) {
+            return false;
+        }
+        let cause = cause_of(&step, machine, self.last);
+        let cycles = machine.cycles();
+        if !processor.make_plain(machine, word, quiet) {
+            return false;
+        }
+        self.keep_plain(machine, &step, cause, cycles);
+        true
+    }
+}
+
+impl Profiler for Delays {
+    fn record(&mut self, processor: &mut Processor, machine: &mut Machine, done: u64) {
+        let _ = done;
+        self.step(processor, machine);
     }
 }

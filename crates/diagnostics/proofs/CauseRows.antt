@@ -3,8 +3,7 @@ use Rattle.std.proofs.Common.{◌≡◌, ℕ, List, [], ◌∷◌, ◌++◌, tru
 use Rattle.std.specs.Fmt.{digits}
 use Rattle.std.specs.Prelude.{codes}
 use Rattle.agc_text.specs.Fields.{runs}
-use Rattle.yayul.specs.Operators.{operators}
-use Rattle.yayul.specs.Roles.{roles}
+use Rattle.yayul.specs.Operators.{operators, operator_rows}
 use Rattle.yayul.specs.declared.faults.FaultKind.{FaultKind}
 use Rattle.yayul.specs.declared.faults.FaultKind.TheVariants.{BadBank, BadLabel, BadOperand, NeedsExtend, NotExtracode, OutOfRange}
 use Rattle.yayul.specs.declared.faults.FaultKind.TheVariants.{Undefined, UnknownOperator, WrongKindOfAddress}
@@ -185,5 +184,5 @@ lines_with_causes =
     ∷ []
 
 each_told : map {B = List ℕ × List ℕ} (λ r. told r.0) lines_with_causes ≡ map {B = List ℕ × List ℕ} (λ r. r.1) lines_with_causes
-unfolding cause_of_kind runs operators digits roles
+unfolding cause_of_kind runs operators digits operator_rows
 each_told = refl

@@ -10,9 +10,9 @@ use Rattle.feed.specs.Names.{counters, sequences}
 use Rattle.feed.specs.Slips.{line_slip}
 use Rattle.feed.specs.Statements.{parsed, statement_of}
 use Rattle.feed.specs.declared.slip.Slip.{Slip}
-use Rattle.yayul.specs.Operators.{operators}
-use Rattle.yayul.specs.Roles.{roles}
-use Rattle.diagnostics.specs.Causes.{Cause, text_of as bytes_of}
+use Rattle.yayul.specs.Operators.{operators, operator_rows}
+use Rattle.diagnostics.specs.Causes.{Cause}
+use Rattle.warnings.specs.Fields.{text_of as bytes_of}
 use Rattle.diagnostics.specs.FeedCauses.{slip_cause}
 use Rattle.diagnostics.specs.FeedReport.{feed_report, line_of_input, wrong_at}
 use Rattle.diagnostics.specs.Kinds.{kind_of_feed, kind_of_source}
@@ -112,7 +112,7 @@ reports =
 
 each_reported : map {B = List ℕ} (λ r. feed_report Text (codes "f") (text_of r.0)) reports ≡ map {B = List ℕ} (λ r. text_of r.1) reports
 unfolding feed_report kind_of_feed wrong_at inputs first_fault plain_from series_from statement_of parsed counters sequences runs lines
-    digits operators roles
+    digits operators operator_rows
 each_reported = refl
 
 -- an input, or the beginning of a series, makes a feed of a file; lines without a field do not count

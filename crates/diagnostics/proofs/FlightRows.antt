@@ -7,12 +7,11 @@ use Rattle.agc_text.specs.Fields.{runs}
 use Rattle.agc_text.specs.Lines.{lines}
 use Rattle.feed.specs.Statements.{parsed}
 use Rattle.json_text.specs.declared.notation.Notation.TheVariants.{Text}
-use Rattle.yayul.specs.Flight.{flight_operator, flight_operators, uncounted_statement}
+use Rattle.yayul.specs.Flight.{flight_operator, flight_operators, uncounted_statement, flight_rows}
 use Rattle.yayul.specs.FlightForms.{has_flight_form}
 use Rattle.yayul.specs.Forms.{statement_of}
 use Rattle.yayul.specs.Layout.{line_effect}
-use Rattle.yayul.specs.Operators.{operators}
-use Rattle.yayul.specs.Roles.{flight_roles, roles}
+use Rattle.yayul.specs.Operators.{operators, operator_rows}
 use Rattle.yayul.specs.declared.faults.FaultKind.{FaultKind}
 use Rattle.yayul.specs.declared.faults.FaultKind.TheVariants.{BadLabel, BadOperand, LongLine, OutOfRange, TooManyLines, TwiceDefined}
 use Rattle.yayul.specs.declared.faults.FaultKind.TheVariants.{Undefined, UnknownOperator, UsedTooEarly, WrongKindOfAddress}
@@ -26,8 +25,8 @@ use Rattle.diagnostics.specs.FlightCauses.{alternatives, told_cause, unsure_oper
 use Rattle.diagnostics.specs.Interpretive.{count_before_first, first_and_others, interpretive_operators}
 use Rattle.diagnostics.specs.Kinds.{kind_of_source}
 use Rattle.diagnostics.specs.Report.{beside_text, cure_text, report, shown_line, told_text, warning_text}
-use Rattle.diagnostics.specs.Warnings.{warnings}
-use Rattle.diagnostics.specs.declared.told.Warning.{Warning}
+use Rattle.warnings.specs.Warnings.{warnings}
+use Rattle.warnings.specs.declared.told.Warning.{Warning}
 
 -- a source of lines, each but the last followed by a semicolon here
 abbrev source : List ℕ → List ℕ
@@ -102,13 +101,13 @@ reported : report Text Flight (codes "a") (source (codes " FROB;+3 CALL; FOO; CA
     ++ codes "a:3:2: warning W3: FOO takes two words, and ERASE reserves one for ;    3 |  FOO;      |  ^^;      =  ERASE +1 reserves two;"
     ++ (codes "a:4:2: error E17: no line defines X;    4 |  CA X;      |  ^^;      = of a number: X DEC 5, behind the last jump, and of a "
     ++ codes "word that changes: X ERASE, after SETLOC 100;"))
-unfolding report told_text cause_of_kind shown_line beside_text warning_text kind_of_source lines digits runs operators parsed roles
-    flight_roles
+unfolding report told_text cause_of_kind shown_line beside_text warning_text kind_of_source lines digits runs operators parsed operator_rows
+    flight_rows
 reported = refl
 
 -- none of its operators is one of a flight source
 none_is_taken : list_any (λ name. is_some (flight_operator name)) interpretive_operators ≡ false
-unfolding operators flight_operators
+unfolding operators operator_rows flight_operators flight_rows
 none_is_taken = refl
 
 -- ## Lines with a count
@@ -118,14 +117,14 @@ warning w = (w.line, w.span.start + 1, w.span.width, w.number)
 
 counted : map warning (warnings Flight true [] (source (codes "+3 CA 5; -2D CA 5;-X CA -X;+4 DXCH -X;-X ERASE;+5")))
     ≡ (1, 7, 1, 2) ∷ (2, 9, 1, 2) ∷ (4, 9, 2, 3) ∷ []
-unfolding warnings lines runs operators flight_operators roles flight_roles
+unfolding warnings lines runs operators flight_operators operator_rows flight_rows
 counted = refl
 
 -- names of operators that flight programs alone have, as labels
 named_as_operators : map warning (warnings Flight false [] (source (codes "OCTAL 5;+3 OCTAL 5;COUNT;-CCS TC COUNT;RETURN"))
     ++ warnings Standard false [] (source (codes "OCTAL 5;COUNT;RETURN")))
     ≡ (1, 1, 5, 1) ∷ (3, 1, 5, 1) ∷ (4, 1, 4, 1) ∷ (5, 1, 6, 1) ∷ (3, 1, 6, 1) ∷ []
-unfolding warnings lines runs operators flight_operators roles flight_roles
+unfolding warnings lines runs operators flight_operators operator_rows flight_rows
 named_as_operators = refl
 
 -- an address is no instruction, COUNT gives no word, and 2DEC gives two
@@ -133,7 +132,7 @@ by_roles : map {B = List (ℕ × ℕ × ℕ × ℕ)} (λ text. map warning (warn
     (codes " SETLOC 4000; GENADR X; CA X" ∷ codes " SETLOC 4004; COUNT* $$/X; CAF 0; CAF 0; CAF 0; CAF 0; CAF 0"
     ∷ codes " SETLOC 4004; 2DEC 1.0; CAF 0; CAF 0; CAF 0" ∷ [])
     ≡ ((3, 5, 1, 6) ∷ []) ∷ ((7, 2, 3, 5) ∷ []) ∷ ((5, 2, 3, 5) ∷ []) ∷ []
-unfolding warnings lines runs operators flight_operators roles flight_roles
+unfolding warnings lines runs operators flight_operators operator_rows flight_rows
 by_roles = refl
 
 -- ## Words
@@ -250,12 +249,12 @@ lines_with_causes =
     ∷ []
 
 each_cause : map {B = List ℕ × List ℕ} (λ r. told r.0) lines_with_causes ≡ map {B = List ℕ × List ℕ} (λ r. r.1) lines_with_causes
-unfolding cause_of_kind runs operators digits roles flight_roles
+unfolding cause_of_kind runs operators digits operator_rows flight_rows
 each_cause = refl
 
 -- none is one that is not taken
 none_is_one : list_any (λ name. is_some (flight_operator name)) (map (λ e. e.0) unsure_operators) ≡ false
-unfolding operators flight_operators
+unfolding operators operator_rows flight_operators flight_rows
 none_is_one = refl
 
 -- each has an alternative, in the same order
@@ -300,12 +299,12 @@ lines_with_cures =
     ∷ []
 
 each_cure : map {B = List ℕ} (λ r. cure_row r.0) lines_with_cures ≡ map {B = List ℕ} (λ r. r.1) lines_with_cures
-unfolding cause_of_kind has_flight_form statement_of line_effect uncounted_statement runs operators flight_operators digits roles
-    flight_roles
+unfolding cause_of_kind has_flight_form statement_of line_effect uncounted_statement runs operators flight_operators digits operator_rows
+    flight_rows
 each_cure = refl
 
 -- nothing is told so of a flight source
 none_of_flight : list_any (λ r. (told_cause Flight false r.0.0 (parts_for Flight r.0.0) (fault (1, r.0.1))).flight) lines_with_causes
     ≡ false
-unfolding cause_of_kind runs operators digits roles flight_roles
+unfolding cause_of_kind runs operators digits operator_rows flight_rows
 none_of_flight = refl

@@ -1,10 +1,9 @@
 -- Texts that grow.
-use Rattle.std.proofs.Common.{◌≡◌, ℕ, ◌+◌, ◌<◌, Bool, true, false, List, [], ◌∷◌, ◌++◌, Some, length, take, drop, find, get_or, map}
-use Rattle.std.proofs.Common.{slice_get, refl, ap, sym, inl, inr, ◌∙◌, append_assoc}
+use Rattle.std.proofs.Common.{◌≡◌, ℕ, ◌+◌, ◌<◌, true, false, List, [], ◌∷◌, ◌++◌, length, take, get_or, map}
+use Rattle.std.proofs.Common.{refl, ap, sym, inl, inr, ◌∙◌, append_assoc}
 use Rattle.std.specs.List.{list_all}
 use Rattle.std.proofs.lemmas.Bool.{cases_Bool}
-use Rattle.std.proofs.lemmas.List.{drop_more, take_more, map-append}
-use Rattle.std.proofs.lemmas.Option.{get_or_from_slice_get, slice_get_within}
+use Rattle.std.proofs.lemmas.List.{take_more, map-append}
 use Rattle.agc_text.specs.Bytes.{is_text_byte}
 use Rattle.diagnostics.specs.Shown.{shown_byte}
 
@@ -20,23 +19,6 @@ pub grown : {A B : Type 0} (f : A → B) (d : A) (text : List A) (i : ℕ) (befo
 grown f d text i before so_far lt e =
     ap (λ t. t ++ f (get_or text i d) ∷ []) e ∙ append_assoc before (map f (take i text)) (f (get_or text i d) ∷ [])
     ∙ ap (λ t. before ++ t) (sym (mapped_more f d text i lt))
-
--- what stands at a place of a list begins what is left of it
-left_at : (names : List (List ℕ)) (i : ℕ) (name : List ℕ) → Some name ≡ slice_get names i → drop i names ≡ name ∷ drop (i + 1) names
-left_at names i name at =
-    drop_more names i [] (slice_get_within names i name (sym at))
-    ∙ ap (λ n. n ∷ drop (i + 1) names) (get_or_from_slice_get names i name [] (sym at))
-
--- a name that passes is the first that does of those that are left
-pub find_here : (test : List ℕ → Bool) (names : List (List ℕ)) (i : ℕ) (name : List ℕ) → Some name ≡ slice_get names i → test name ≡ true
-    → find test (drop i names) ≡ Some name
-find_here test names i name at passes = rw (left_at names i name at) (rw passes refl)
-
--- one that does not is passed over
-pub find_on :
-    (test : List ℕ → Bool) (names : List (List ℕ)) (i : ℕ) (name : List ℕ) → Some name ≡ slice_get names i → test name ≡ false
-    → find test (drop i names) ≡ find test (drop (i + 1) names)
-find_on test names i name at fails = rw (left_at names i name at) (rw fails refl)
 
 -- a text that a line may hold is shown as it is
 pub text_is_shown : (text : List ℕ) → list_all is_text_byte text ≡ true → map shown_byte text ≡ text

@@ -1,12 +1,11 @@
-pub mod Merging
+mod Merging
 mod Around
 mod Filling
 mod GrowingTexts
-mod NearNames
-mod WarningRows
-mod BankRows
 mod CauseRows
 mod Walked
+mod ReportRows
 mod FeedRows
 mod FlightRows
 mod ObjectRows
+mod ReadTexts

@@ -9,12 +9,11 @@ use Rattle.feed.specs.Names.{counters, sequences}
 use Rattle.feed.specs.Statements.{parsed, statement_of as feed_statement}
 use Rattle.json_text.specs.Strings.{escaped, escaped_byte}
 use Rattle.json_text.specs.declared.notation.Notation.TheVariants.{Json}
-use Rattle.yayul.specs.Flight.{flight_operators, uncounted_statement}
+use Rattle.yayul.specs.Flight.{flight_operators, uncounted_statement, flight_rows}
 use Rattle.yayul.specs.FlightForms.{has_flight_form}
 use Rattle.yayul.specs.Forms.{statement_of}
 use Rattle.yayul.specs.Layout.{line_effect}
-use Rattle.yayul.specs.Operators.{operators}
-use Rattle.yayul.specs.Roles.{flight_roles, roles}
+use Rattle.yayul.specs.Operators.{operators, operator_rows}
 use Rattle.yayul.specs.declared.faults.FaultKind.{FaultKind}
 use Rattle.yayul.specs.declared.faults.FaultKind.TheVariants.{BadBank, BadOperand, NeedsExtend, PlaceTaken, TwiceDefined, Undefined}
 use Rattle.yayul.specs.declared.faults.FaultKind.TheVariants.{UnknownOperator, UsedTooEarly}
@@ -191,8 +190,8 @@ sources = (
 each_told : map {B = List ℕ} (λ r. told_text Json Standard (codes "a") (lines (text_of r.0)) (map fault r.1) []) sources
     ≡ map {B = List ℕ} (λ r. text_of r.2) sources
 unfolding told_text cause_of_kind shown_line beside_text finding_object head_text place_members said_text fix_text edit_text mend_of span_at
-    escaped escaped_byte lines digits runs operators has_flight_form statement_of line_effect uncounted_statement flight_operators roles
-    flight_roles
+    escaped escaped_byte lines digits runs operators has_flight_form statement_of line_effect uncounted_statement flight_operators
+    operator_rows flight_rows
 each_told = refl
 
 -- a place that is taken, a line below the one whose word stands there; and a warning of an earlier line before it
@@ -206,7 +205,7 @@ taken_after_a_warning : report Json Standard (codes "a\"b") (text_of (codes "CA 
     ++ codes "at this place already\",\"cure\":null,\"flight\":false,\"fix\":null,\"related\":{\"line\":1,\"column\":1,\"end\":3}};"))
 unfolding report told_text cause_of_kind shown_line beside_text warning_text kind_of_source finding_object head_text place_members said_text
     fix_text edit_text mend_of span_at escaped escaped_byte lines digits runs operators parsed has_flight_form statement_of line_effect
-    uncounted_statement flight_operators roles flight_roles
+    uncounted_statement flight_operators operator_rows flight_rows
 taken_after_a_warning = refl
 
 -- a feed in a source's place, and how many there are
@@ -217,7 +216,7 @@ a_feed : report Json Standard (codes "s") (text_of (codes "5 TIME1 PINC")) (faul
     ++ codes "{\"kind\":\"total\",\"errors\":1,\"warnings\":0};")
 unfolding report told_text cause_of_kind shown_line beside_text warning_text kind_of_source finding_object head_text place_members said_text
     fix_text edit_text mend_of span_at escaped escaped_byte lines digits runs operators parsed counters sequences has_flight_form
-    statement_of line_effect uncounted_statement flight_operators roles flight_roles
+    statement_of line_effect uncounted_statement flight_operators operator_rows flight_rows
 a_feed = refl
 
 -- feeds with what is told of them
@@ -246,6 +245,6 @@ feeds =
 
 each_feed : map {B = List ℕ} (λ r. feed_report Json (codes "f") (text_of r.0)) feeds ≡ map {B = List ℕ} (λ r. text_of r.1) feeds
 unfolding feed_report kind_of_feed wrong_at finding_object head_text place_members said_text fix_text edit_text mend_of span_at escaped
-    escaped_byte inputs first_fault plain_from series_from feed_statement parsed counters sequences runs lines digits operators roles
-    flight_roles
+    escaped_byte inputs first_fault plain_from series_from feed_statement parsed counters sequences runs lines digits operators
+    operator_rows flight_rows
 each_feed = refl

@@ -1,7 +1,7 @@
 -- What a fault is in words, by its cause: a text with marks for the fields of its line, and its cure where one is sure.
 use Rattle.std.specs.Prelude.{ℕ, ◌+◌, ◌-◌, ◌==◌, ◌&&◌, ◌||◌, not, Bool, true, false, nat_lt, nat_le, List, [], ◌∷◌, ◌++◌, length, map, take}
 use Rattle.std.specs.Prelude.{drop, Option, None, is_some, unwrap_or, codes, flat_map, slice_get, if◌then◌else◌}
-use Rattle.std.specs.List.{find, list_any}
+use Rattle.std.specs.List.{list_any}
 use Rattle.std.specs.Option.{option_map_or, option_or}
 use Rattle.agc_text.specs.Bytes.{line_length}
 use Rattle.agc_text.specs.Digits.{digits_value}
@@ -15,21 +15,19 @@ use Rattle.yayul.specs.declared.faults.FaultKind.TheVariants.{TooManyLines, Twic
 use Rattle.yayul.specs.declared.faults.FaultKind.TheVariants.{WrongKindOfAddress}
 use Rattle.yayul.specs.declared.finding.Finding.{Finding}
 use Rattle.yayul.specs.declared.language.Language.TheVariants.{Standard}
-use Rattle.diagnostics.specs.Roles.{is_block, is_decimal, is_erase, is_octal, leads_on_to, leads_to_fixed, names_bank, reads, reads_erasable}
-use Rattle.diagnostics.specs.Roles.{refuses_label, subtracts, takes_channel, takes_erasable_place, takes_fixed_place, takes_nothing}
-use Rattle.diagnostics.specs.Roles.{writes_erasable}
+use Rattle.warnings.specs.Roles.{is_block, is_decimal, is_erase, is_octal, leads_on_to, leads_to_fixed, names_bank, reads, reads_erasable}
+use Rattle.warnings.specs.Roles.{refuses_label, subtracts, takes_channel, takes_erasable_place, takes_fixed_place, takes_nothing}
+use Rattle.warnings.specs.Roles.{writes_erasable}
 use Rattle.yayul.specs.Readings.{Parts}
 use Rattle.yayul.specs.Roles.{is_operator_of, names_of_length}
-use Rattle.diagnostics.specs.Refusals.{meaning}
+use Rattle.explain.specs.Refusals.{meaning}
 use Rattle.symbols.specs.Registers.{registers}
-use Rattle.diagnostics.specs.declared.nearness.Closeness.{Closeness}
-use Rattle.diagnostics.specs.declared.nearness.Closeness.TheVariants.{AsLong, InCapitals, Near}
-use Rattle.diagnostics.specs.declared.told.Doubt.{Doubt}
-use Rattle.diagnostics.specs.declared.told.Doubt.TheVariants.{HeldBank, SuperbankBits}
-use Rattle.diagnostics.specs.declared.told.Warning.{Warning}
+use Rattle.warnings.specs.declared.told.Doubt.{Doubt}
+use Rattle.warnings.specs.declared.told.Doubt.TheVariants.{HeldBank, SuperbankBits}
+use Rattle.warnings.specs.declared.told.Warning.{Warning}
 use Rattle.diagnostics.specs.Shown.{shown_byte}
-use Rattle.diagnostics.specs.Warnings.{is_among, is_short}
-pub use Rattle.diagnostics.specs.Warnings.{begins, is_signed, text_of}
+use Rattle.near_names.specs.Names.{is_among, is_short, near_name}
+use Rattle.warnings.specs.Fields.{begins, is_signed, text_of}
 
 -- what is wrong, how it is mended or nothing, and a text that stands in either; and whether `--flight` takes what stands there
 pub record Cause : Type 0 where
@@ -92,39 +90,7 @@ is_beyond_octal text = is_some (digits_value 10 text) && not (is_some (digits_va
 abbrev pub has_foreign_comment : Parts → Bool
 has_foreign_comment parts = is_foreign_comment (text_of parts.operand) || is_foreign_comment (text_of parts.offset)
 
--- ## Names that are near
-abbrev pub capital : ℕ → ℕ
-capital byte = if nat_le 0o141 byte && nat_le byte 0o172 then byte - 0o40 else byte
-
--- a text in capitals is a name
-abbrev pub is_in_capitals : List ℕ → List ℕ → Bool
-is_in_capitals text name = same_name (map capital text) name
-
--- the first two bytes of two texts are exchanged, and the others the same
-abbrev pub is_exchanged : List ℕ → List ℕ → Bool
-is_exchanged (a ∷ b ∷ rest) (c ∷ d ∷ others) = a == d && b == c && same_name rest others
-is_exchanged _ _ = false
-
--- one byte differs, or is one too many in either; or two beside one another are exchanged
-abbrev pub is_near : List ℕ → List ℕ → Bool
-is_near [] others = length others == 1
-is_near (a ∷ rest) [] = length rest == 0
-is_near (a ∷ rest) (b ∷ others) =
-    if a == b then is_near rest others
-    else same_name rest others || same_name rest (b ∷ others) || same_name (a ∷ rest) others || is_exchanged (a ∷ rest) (b ∷ others)
-
--- a text that a name is in capitals; one that is near and as long; or one that is near
-abbrev pub is_close : Closeness → List ℕ → List ℕ → Bool
-is_close InCapitals text name = length text == length name && is_in_capitals text name
-is_close AsLong text name = length text == length name && is_near text name
-is_close Near text name = nat_le (length text) (length name + 1) && nat_le (length name) (length text + 1) && is_near text name
-
--- the first of some names that is a text in capitals; else, for a text of three bytes or more, one that is near, as long where there is one
-abbrev pub near_name : List (List ℕ) → List ℕ → Option (List ℕ)
-near_name names text =
-    option_or (find (is_close InCapitals text) names)
-    (if nat_le 3 (length text) then option_or (find (is_close AsLong text) names) (find (is_close Near text) names) else None)
-
+-- ## Operators
 -- the operator's name that is near to a text: one as long, else one longer, else one shorter
 abbrev pub near_operator : List ℕ → Option (List ℕ)
 near_operator text =

@@ -8,9 +8,10 @@ use Rattle.feed.specs.declared.input.Sequence.TheVariants.{Dinc, Minc, Pcdu, Shi
 use Rattle.feed.specs.declared.slip.Why.{Why}
 use Rattle.feed.specs.declared.slip.Why.TheVariants.{Taken, Cycle, First, Factor, MissingFactor, Name, Channel, Word, Request, NotTaken}
 use Rattle.feed.specs.declared.slip.Why.TheVariants.{Missing, Surplus}
-use Rattle.diagnostics.specs.Causes.{Cause, cured, cured_by, is_beyond_octal, is_in_capitals, near_name, said}
-use Rattle.diagnostics.specs.Refusals.{meaning}
-use Rattle.diagnostics.specs.Warnings.{is_among}
+use Rattle.diagnostics.specs.Causes.{Cause, cured, cured_by, is_beyond_octal, said}
+use Rattle.near_names.specs.Names.{is_in_capitals, near_name}
+use Rattle.explain.specs.Refusals.{meaning}
+use Rattle.near_names.specs.Names.{is_among}
 
 -- decimal digits
 abbrev pub is_decimal : List ℕ → Bool

@@ -16,12 +16,13 @@ use Rattle.feed.specs.declared.fault.FeedFault.TheVariants.{TooManySeries}
 use Rattle.yayul.specs.Survey.{span_of, wrong_place}
 use Rattle.yayul.specs.declared.finding.Span.{Span}
 use Rattle.yayul.specs.Readings.{Parts, parts_for}
-use Rattle.diagnostics.specs.Causes.{Cause, byte_cause, cured, long_cause, said, text_of}
+use Rattle.diagnostics.specs.Causes.{Cause, byte_cause, cured, long_cause, said}
+use Rattle.warnings.specs.Fields.{text_of}
 use Rattle.json_text.specs.declared.notation.Notation.{Notation}
 use Rattle.yayul.specs.declared.language.Language.TheVariants.{Standard}
 use Rattle.diagnostics.specs.Objects.{Place, place_of}
 use Rattle.diagnostics.specs.Kinds.{is_input, kind_of_feed}
-use Rattle.diagnostics.specs.Refusals.{meaning}
+use Rattle.explain.specs.Refusals.{meaning}
 use Rattle.diagnostics.specs.Report.{text_at, told_in}
 use Rattle.diagnostics.specs.FeedCauses.{slip_cause}
 use Rattle.diagnostics.specs.declared.told.Severity.{Severity}

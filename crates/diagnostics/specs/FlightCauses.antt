@@ -13,12 +13,14 @@ use Rattle.yayul.specs.declared.faults.FaultKind.TheVariants.{UsedTooEarly, Wron
 use Rattle.yayul.specs.declared.finding.Finding.{Finding}
 use Rattle.yayul.specs.declared.language.Language.{Language}
 use Rattle.yayul.specs.declared.language.Language.TheVariants.{Flight, Standard}
-use Rattle.diagnostics.specs.Roles.{is_count_complement, is_equals, is_erase, is_octal, is_octal_pair}
-use Rattle.diagnostics.specs.Roles.{is_verb_noun, names_bank, refuses_label, takes_decimal, takes_low_bank}
+use Rattle.warnings.specs.Roles.{is_count_complement, is_equals, is_erase, is_octal, is_octal_pair}
+use Rattle.warnings.specs.Roles.{is_verb_noun, names_bank, refuses_label, takes_decimal, takes_low_bank}
 use Rattle.yayul.specs.Readings.{Parts}
-use Rattle.diagnostics.specs.Causes.{Cause, begins, cured, cured_by, fault_cause, has_foreign_comment, holds, is_signed, said}
-use Rattle.diagnostics.specs.Causes.{is_beyond_octal, symbol_cause, text_of}
-use Rattle.diagnostics.specs.Warnings.{is_short}
+use Rattle.diagnostics.specs.Causes.{Cause, cured, cured_by, fault_cause, has_foreign_comment, holds, said}
+use Rattle.warnings.specs.Fields.{begins, is_signed}
+use Rattle.diagnostics.specs.Causes.{is_beyond_octal, symbol_cause}
+use Rattle.warnings.specs.Fields.{text_of}
+use Rattle.near_names.specs.Names.{is_short}
 
 -- ## Operators
 -- those of which it is not known for sure what yaYUL makes, and what stands for them, or nothing

@@ -11,9 +11,10 @@ use Rattle.yayul.specs.declared.finding.Finding.{Finding}
 use Rattle.yayul.specs.declared.language.Language.{Language}
 use Rattle.yayul.specs.declared.language.Language.TheVariants.{Flight, Standard}
 use Rattle.yayul.specs.Readings.{Parts, parts_for}
-use Rattle.diagnostics.specs.Causes.{Cause, said, text_of}
+use Rattle.diagnostics.specs.Causes.{Cause, said}
+use Rattle.warnings.specs.Fields.{text_of}
 use Rattle.diagnostics.specs.Shown.{text_at}
-use Rattle.diagnostics.specs.Warnings.{has_operator}
+use Rattle.near_names.specs.Names.{is_among}
 
 -- ## Operators
 -- the operators of the interpretive language that are known for sure: those that store, those that load, those of numbers, those of
@@ -45,6 +46,10 @@ interpretive_operators =
     ∷ codes "SXA,1" ∷ codes "SXA,2" ∷ codes "XCHX,1" ∷ codes "XCHX,2" ∷
     codes "INCR,1" ∷ codes "INCR,2" ∷ codes "XAD,1" ∷ codes "XAD,2" ∷ codes "XSU,1" ∷ codes "XSU,2" ∷ codes "TIX,1" ∷ codes "TIX,2"
     ∷ codes "SSP" ∷ []
+
+-- the operator is one of some
+abbrev pub has_operator : List (List ℕ) → Parts → Bool
+has_operator names parts = option_map_or (λ p. is_among names p.text) parts.operator false
 
 -- ## Lines
 -- the fields of a line of a flight source, by its number

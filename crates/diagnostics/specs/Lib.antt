@@ -1,6 +1,3 @@
-pub mod Refusals
-pub mod Roles
-pub mod Warnings
 pub mod Shown
 pub mod Causes
 pub mod FlightCauses
@@ -9,7 +6,7 @@ pub mod Views
 pub mod Mending
 pub mod Objects
 pub mod Report
-pub mod Joined
 pub mod FeedCauses
 pub mod FeedReport
 pub mod Kinds
+pub mod ReadSources

@@ -7,11 +7,13 @@ use Rattle.agc_text.specs.Fields.{Piece, fields}
 use Rattle.agc_text.specs.Tables.{same_name, value_in}
 use Rattle.yayul.specs.Survey.{span_of}
 use Rattle.yayul.specs.declared.finding.Span.{Span}
-use Rattle.diagnostics.specs.Roles.{stores}
+use Rattle.warnings.specs.Roles.{stores}
 use Rattle.yayul.specs.Readings.{Parts}
-use Rattle.diagnostics.specs.Causes.{is_beyond_octal, is_foreign_comment, text_of}
+use Rattle.diagnostics.specs.Causes.{is_beyond_octal, is_foreign_comment}
+use Rattle.warnings.specs.Fields.{text_of}
 use Rattle.diagnostics.specs.declared.mending.At.{At}
-use Rattle.diagnostics.specs.declared.mending.At.TheVariants.{BeforeComment, BeforeLine, BeforeSign, BeforeSource, BehindOffset, BehindOperand}
+use Rattle.diagnostics.specs.declared.mending.At.TheVariants.{BeforeComment, BeforeLine, BeforeSign, BeforeSource, BehindOffset}
+use Rattle.diagnostics.specs.declared.mending.At.TheVariants.{BehindOperand}
 use Rattle.diagnostics.specs.declared.mending.At.TheVariants.{Blamed, DecimalOperator, Indent, Operand, Operator, OrderMark}
 
 -- an edit that mends a finding: where it stands, what is put there, with marks as in a cause, and whether it is what was meant for sure

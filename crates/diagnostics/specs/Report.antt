@@ -16,20 +16,22 @@ use Rattle.yayul.specs.declared.language.Language.{Language}
 use Rattle.yayul.specs.declared.language.Language.TheVariants.{Flight, Standard}
 use Rattle.yayul.specs.Flight.{is_count}
 use Rattle.yayul.specs.Forms.{is_digits}
-use Rattle.diagnostics.specs.Roles.{is_equals, refuses_label}
+use Rattle.warnings.specs.Roles.{is_equals, refuses_label}
 use Rattle.yayul.specs.Readings.{Parts, parts_for}
-use Rattle.diagnostics.specs.Causes.{Cause, below_cause, caution_cause, filled, holds, near_label, text_of, without_colon}
+use Rattle.diagnostics.specs.Causes.{Cause, below_cause, caution_cause, filled, holds, near_label, without_colon}
+use Rattle.warnings.specs.Fields.{text_of}
 use Rattle.diagnostics.specs.Kinds.{kind_of_source}
-use Rattle.diagnostics.specs.Refusals.{meaning}
+use Rattle.explain.specs.Refusals.{meaning}
 use Rattle.diagnostics.specs.FlightCauses.{told_cause}
 use Rattle.diagnostics.specs.Interpretive.{count_before_first, first_and_others, interpretive_cause}
 use Rattle.diagnostics.specs.Objects.{Place, count_object, finding_object, place_of}
 use Rattle.diagnostics.specs.Shown.{shown_byte}
 pub use Rattle.diagnostics.specs.Shown.{text_at}
-use Rattle.diagnostics.specs.Warnings.{is_among, with_field}
+use Rattle.near_names.specs.Names.{is_among, with_field}
 use Rattle.diagnostics.specs.declared.told.Severity.{Severity}
 use Rattle.diagnostics.specs.declared.told.Told.{Told}
-use Rattle.diagnostics.specs.declared.told.Warning.{Warning}
+use Rattle.warnings.specs.Joined.{count_before}
+use Rattle.warnings.specs.declared.told.Warning.{Warning}
 
 -- a fault, as it is told
 abbrev pub as_error : Finding → Told
@@ -195,10 +197,6 @@ labels_of language texts = fold (λ labels text. with_label labels (parts_for la
 -- the labels that so many faults are told with: those of all lines, where 1 to 100 are told
 abbrev pub sought_labels : Language → List (List ℕ) → ℕ → List (List ℕ)
 sought_labels language texts count = if nat_le 1 count && nat_le count 100 then labels_of language texts else []
-
--- how many of some warnings in order stand before a line
-abbrev pub count_before : ℕ → List Warning → ℕ
-count_before line warnings = position_or_len (λ w. nat_le line w.line) warnings
 
 -- what is made of faults and of warnings, in the order of lines, the faults of a line first
 abbrev pub merged : (Finding → List ℕ) → (Warning → List ℕ) → List Finding → List Warning → List ℕ

@@ -8,7 +8,6 @@ use Rattle.diagnostics.specs.declared.feeds.Wrong.{Wrong as Found}
 use Rattle.diagnostics.specs.Mending.{Mend}
 use Rattle.diagnostics.specs.declared.mending.Mend.{Mend as Edit}
 use Rattle.diagnostics.specs.Objects.{Place}
-use Rattle.diagnostics.specs.declared.explain.note_kinds.NoteKind.{NoteKind}
 use Rattle.diagnostics.specs.declared.objects.Place.{Place as Seen}
 use Rattle.diagnostics.specs.declared.told.Source.{Source}
 
@@ -19,10 +18,6 @@ cause_in c = record { words = c.words.now; cure = c.cure.now; other = c.other.no
 -- a table of texts without where they lie in memory
 abbrev pub entries : List (Bor (List ℕ) × Bor (List ℕ)) → List (List ℕ × List ℕ)
 entries table = map (λ e. (e.0.now, e.1.now)) table
-
--- what each kind of notes of a table means, without where its texts lie in memory
-abbrev pub meanings_in : List (Bor (List ℕ) × NoteKind) → List (List ℕ × List ℕ)
-meanings_in table = map (λ e. (e.0.now, e.1.meaning.now)) table
 
 -- what is told of a line without where its texts lie in memory
 abbrev pub wrong_in : Found → Wrong

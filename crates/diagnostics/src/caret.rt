@@ -1,28 +1,27 @@
 //! The lines of one finding as text.
 
-ghost use Rattle.std.specs.Prelude.{◌≡◌, ◌≤◌, ◌++◌, map, take, length, replicate, decimal, unwrap_or, [], OnOk};
+ghost use Rattle.std.specs.Prelude.{◌≡◌, ◌≤◌, ◌++◌, map, take, length, replicate, unwrap_or, [], OnOk};
 ghost use Rattle.std.specs.List.{position_or_len};
 ghost use Rattle.std.specs.Option.{option_map};
 ghost use Rattle.yayul.specs.Readings.{parts_in};
 ghost use Rattle.diagnostics.specs.Shown.{shown_byte};
 ghost use Rattle.diagnostics.specs.Causes.{filled, filled_byte, is_mark, of_line};
+ghost use Rattle.diagnostics.specs.ReadSources.{language_in};
 ghost use Rattle.diagnostics.specs.Views.{cause_in, place_in};
 ghost use Rattle.diagnostics.specs.Report.{margin_byte, numbered, shown_part, row_text, marks_text, place_text};
 ghost use Rattle.diagnostics.specs.Report.{kind_text, caused_text, message_text, cure_text, error_text, told_in};
 
-use crate::causes::text_of;
 use crate::flight_causes::told_cause;
 use crate::objects::{Note, Place, push_object};
-use crate::told::{Severity, Source, Told};
+use crate::told::{Severity, SourceRead, Told};
 use agc_text::is_text;
 use arrayvec::ArrayVec;
+use explain::{DIGITS, push_number};
 use json_text::Notation;
 use std::alloc::AllocError;
+use warnings::text_of;
 use words::push_decimal;
 use yayul::{Finding, Reading, Span};
-
-/// How many digits a number has at most.
-pub(crate) const DIGITS: usize = 20;
 
 /// How many bytes of a line are shown at most.
 const MOST_SHOWN: usize = 120;
@@ -37,9 +36,9 @@ fn push_place(out: &mut Vec<u8>, note: &Note<'_, '_, '_>) -> Result<(), AllocErr
 {
     let column = note.told.span.start.min(note.text.len()) + 1;
     out.extend_from_slice(note.name)?;
-    out.extend_from_slice(b":")?;
+    out.push(b':')?;
     push_number(out, u64::from(note.told.line))?;
-    out.extend_from_slice(b":")?;
+    out.push(b':')?;
     push_number(out, column as u64)
 }
 
@@ -62,7 +61,7 @@ fn push_message(out: &mut Vec<u8>, note: &Note<'_, '_, '_>) -> Result<(), AllocE
     push_number(out, u64::from(note.told.number))?;
     out.extend_from_slice(b": ")?;
     push_filled(out, note, note.cause.words)?;
-    out.extend_from_slice(b"\n")?;
+    out.push(b'\n')?;
     Ok(())
 }
 
@@ -75,7 +74,7 @@ fn push_cure(out: &mut Vec<u8>, note: &Note<'_, '_, '_>) -> Result<(), AllocErro
         out.extend_from_slice(b"      = ")?;
         push_filled(out, note, note.cause.cure)?;
         out.extend_from_slice(note.cause.flight_clause())?;
-        out.extend_from_slice(b"\n")?;
+        out.push(b'\n')?;
     }
     Ok(())
 }
@@ -176,7 +175,7 @@ fn push_row(out: &mut Vec<u8>, text: &[u8], told: &Told) -> Result<(), AllocErro
     push_numbered(out, told.line)?;
     out.extend_from_slice(b" | ")?;
     push_shown(out, text)?;
-    out.extend_from_slice(b"\n")?;
+    out.push(b'\n')?;
     Ok(())
 }
 
@@ -189,14 +188,14 @@ fn push_marks(out: &mut Vec<u8>, text: &[u8], told: &Told) -> Result<(), AllocEr
     push_margin(out, front(text, start))?;
     let within = width.min(text.len().saturating_sub(start));
     push_repeated(out, within.max(1), b'^')?;
-    out.extend_from_slice(b"\n")?;
+    out.push(b'\n')?;
     Ok(())
 }
 
 /// Appends the lines of a fault, with a text from other lines or none, and the place that it is from.
 pub(crate) fn push_error<'a>(
     out: &mut Vec<u8>,
-    source: &Source<'_, '_, 'a>,
+    source: &SourceRead<'_, '_, 'a>,
     text: &'a [u8],
     parts: &Reading<'a>,
     near: Option<&[u8]>,
@@ -204,10 +203,10 @@ pub(crate) fn push_error<'a>(
     fault: &Finding,
 ) -> Result<(), AllocError>
     ensures { OnOk result (out.new.items ≡ out.old.items
-        ++ error_text source.now.notation source.now.language source.now.name.now text.now (parts_in parts.now)
+        ++ error_text source.now.notation (language_in source.now) source.now.name.now text.now (parts_in parts.now)
         (option_map (λ label. label.now) near.entry) (option_map place_in other.entry) fault.now) }
 {
-    let cause = told_cause(source.language, near.is_some(), text, parts, fault);
+    let cause = told_cause(source.read.language(), near.is_some(), text, parts, fault);
     let beside = label_of(near);
     let note = Note {
         told: Told::error(fault),
@@ -269,17 +268,6 @@ fn push_numbered(out: &mut Vec<u8>, line: u32) -> Result<(), AllocError>
     let mut digits = ArrayVec::<u8, DIGITS>::new();
     push_decimal(&mut digits, u64::from(line));
     push_repeated(out, NUMBER_WIDTH.saturating_sub(digits.len()), b' ')?;
-    out.extend_from_slice(digits.as_slice())?;
-    Ok(())
-}
-
-/// Appends the digits of a number.
-#[tactic(auto, using(words::proofs::Digits::short_decimal))]
-pub(crate) fn push_number(out: &mut Vec<u8>, number: u64) -> Result<(), AllocError>
-    ensures { OnOk result (out.new.items ≡ out.old.items ++ decimal number) }
-{
-    let mut digits = ArrayVec::<u8, DIGITS>::new();
-    push_decimal(&mut digits, number);
     out.extend_from_slice(digits.as_slice())?;
     Ok(())
 }

@@ -2,26 +2,27 @@
 
 ghost use Rattle.std.specs.Prelude.{◌≡◌, ◌==◌, ◌+◌, false, length, nat_le, slice_get};
 ghost use Rattle.std.specs.Option.{option_map, option_map_or};
-ghost use Rattle.agc_text.specs.Tables.{value_in};
-ghost use Rattle.agc_text.specs.Views.{piece};
+ghost use Rattle.agc_text.specs.Tables.{same_name, value_in};
 ghost use Rattle.yayul.specs.Readings.{parts_in};
 ghost use Rattle.diagnostics.specs.Causes.{byte_cause, near_operator, begins_with_mark, label_cause, operator_cause};
 ghost use Rattle.diagnostics.specs.Causes.{digits_cause, place_cause, operand_cause, symbol_cause, undefined_cause};
 ghost use Rattle.diagnostics.specs.Causes.{definition_cause, definition_cure, is_another_form, early_cause};
 ghost use Rattle.diagnostics.specs.Causes.{below_cause, bank_cause, room_cause, kind_cause, range_cause, cause_of_kind};
-ghost use Rattle.diagnostics.specs.Causes.{fault_cause, near_label, said, cured, cured_by, text_of, holds, begins};
-ghost use Rattle.diagnostics.specs.Causes.{holds_sign, is_signed, is_label, is_octal_bank, is_decimal_bank};
+ghost use Rattle.diagnostics.specs.Causes.{fault_cause, near_label, said, cured, cured_by, holds};
+ghost use Rattle.warnings.specs.Fields.{text_of, begins};
+ghost use Rattle.diagnostics.specs.Causes.{holds_sign, is_label, is_octal_bank, is_decimal_bank};
+ghost use Rattle.warnings.specs.Fields.{is_signed};
 ghost use Rattle.diagnostics.specs.Causes.{has_parted_offset, lists_numbers, without_colon, long_cause};
 ghost use Rattle.diagnostics.specs.Causes.{is_foreign_comment, has_foreign_comment, is_beyond_octal, foreign_operators};
 ghost use Rattle.diagnostics.specs.Views.{cause_in, entries};
 
 use crate::caret::front;
-use crate::explain::refusals::meaning;
-use crate::names::{NameSet, is_short};
 use crate::operators::near_operator;
-use crate::roles::Class;
-use agc_text::{Field, LINE_LENGTH, Number, decimal_value, octal_value};
+use agc_text::{LINE_LENGTH, Number, decimal_value, octal_value};
+use explain::meaning;
+use near_names::{NameSet, is_short};
 use symbols::register_place;
+use warnings::{Class, begins, is_signed, text_of};
 use yayul::{FaultKind, Finding, Language, Reading, is_digits, is_operator};
 
 /// What is wrong, how it is mended or nothing, and a text that stands in either; and whether `--flight` takes what
@@ -547,31 +548,11 @@ fn range_cause(parts: &Reading<'_>) -> Cause
     }
 }
 
-/// The bytes of a field, none where it does not stand.
-pub(crate) fn text_of(field: Option<Field<'_>>) -> &[u8]
-    ensures { result.now ≡ text_of (option_map piece field.entry) }
-{
-    match field {
-        Some(field) => field.text,
-        None => b"",
-    }
-}
-
 // Whether a text holds a byte.
 pub(crate) fn holds(byte: u8, text: &[u8]) -> bool
     ensures { result ≡ holds byte text.now }
 {
     text.contains(&byte)
-}
-
-// Whether a text begins with a byte.
-pub(crate) fn begins(byte: u8, text: &[u8]) -> bool
-    ensures { result ≡ begins byte text.now }
-{
-    match text.first() {
-        Some(first) => *first == byte,
-        None => false,
-    }
 }
 
 // Whether a plus or a minus sign stands behind the first byte.
@@ -580,13 +561,6 @@ fn holds_sign(text: &[u8]) -> bool
 {
     let rest = &text[text.len().min(1)..];
     holds(b'+', rest) || holds(b'-', rest)
-}
-
-/// Whether a plus or a minus sign stands first.
-pub(crate) fn is_signed(text: &[u8]) -> bool
-    ensures { result ≡ is_signed text.now }
-{
-    begins(b'+', text) || begins(b'-', text)
 }
 
 // Whether a text has the form of a label.
@@ -655,11 +629,22 @@ pub(crate) fn value_in(
     ensures { option_map (λ value. value.now) result ≡ value_in (entries table.now) text.now }
 {
     for (name, value) in table {
-        if text == name.as_bytes() {
+        if is_same(text, name.as_bytes()) {
             return Some(value.as_bytes());
         }
     }
     None
+}
+
+// Whether two texts are the same: most are not by their first byte alone.
+#[inline(always)]
+fn is_same(text: &[u8], name: &[u8]) -> bool
+    ensures { result ≡ same_name text.now name.now }
+{
+    match (text, name) {
+        ([a, ..], [b, ..]) if a != b => false,
+        _ => text == name,
+    }
 }
 
 const FOREIGN_OPERATORS: [(&str, &str); 27] = [

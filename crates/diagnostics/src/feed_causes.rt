@@ -7,11 +7,10 @@ ghost use Rattle.diagnostics.specs.FeedCauses.{not_taken};
 ghost use Rattle.diagnostics.specs.Views.{cause_in};
 
 use crate::causes::{Cause, is_beyond_octal};
-use crate::explain::refusals::meaning;
-use crate::names::is_among;
-use crate::nearness::{is_in_capitals, near_in};
 use agc_text::decimal_value;
+use explain::meaning;
 use feed::{Counter, Sequence, Why, input_names};
+use near_names::{is_among, is_in_capitals, near_in};
 
 /// The most digits of NUM, DEN and COUNT of a series.
 const FACTOR_DIGITS: usize = 9;

@@ -12,20 +12,20 @@ ghost use Rattle.diagnostics.specs.FeedReport.{field_span, wrong_field, slipped,
 ghost use Rattle.diagnostics.specs.FeedReport.{last_before, early, early_line, earlier_place, wrong_text};
 ghost use Rattle.diagnostics.specs.FeedReport.{surplus_line, fault_text, fault_of, feed_report, feed_faults};
 ghost use Rattle.diagnostics.specs.Views.{cause_in, lines_in, place_in, wrong_in};
-ghost use Rattle.diagnostics.specs.Causes.{said, text_of};
-ghost use Rattle.diagnostics.specs.Refusals.{meaning};
+ghost use Rattle.diagnostics.specs.Causes.{said};
+ghost use Rattle.warnings.specs.Fields.{text_of};
+ghost use Rattle.explain.specs.Refusals.{meaning};
 ghost use Rattle.agc_text.specs.Bytes.{is_text_byte};
 
-use crate::caret::{DIGITS, push_finding};
+use crate::caret::push_finding;
 use crate::causes::{Cause, byte_cause, long_cause};
-use crate::explain::refusals::meaning;
 use crate::feed_causes::slip_cause;
 use crate::kinds::{is_input, push_kind_of_feed};
 use crate::objects::{Note, Place, place_of};
-use crate::reporting::{line_texts, text_at};
 use crate::told::{Severity, Source, Told};
 use agc_text::{Field, LINE_LENGTH, before_comment, is_text, next_field, next_line};
 use arrayvec::ArrayVec;
+use explain::{DIGITS, meaning};
 use feed::{FeedFault, Slip, line_slip};
 use json_text::Notation;
 use std::alloc::{AllocError, Global};
@@ -70,7 +70,7 @@ pub fn feed_report(
                 texts: &texts,
             };
             push_fault(&mut out, &source, text, fault)?;
-            push_kind_of_feed(&mut out, &source, text)?;
+            push_kind_of_feed(&mut out, notation, name, text)?;
             Ok((out, 1))
         }
         None => Ok((out, 0)),
@@ -348,4 +348,27 @@ fn surplus_line(text: &[u8]) -> u32
         rest = after;
     }
     line
+}
+
+// The lines of a text.
+fn line_texts(alloc: Global, text: &[u8]) -> Result<Vec<&[u8]>, AllocError>
+    ensures { IfOk result (λ texts. map (λ text. text.now) texts.items ≡ lines text.now) }
+{
+    let mut texts = Vec::new(alloc);
+    let mut rest = text;
+    while let Some((line, after)) = next_line(rest) {
+        texts.push(line)?;
+        rest = after;
+    }
+    Ok(texts)
+}
+
+// The line of a number; one that does not stand is empty.
+fn text_at<'a>(texts: &[&'a [u8]], line: u32) -> &'a [u8]
+    ensures { result.now ≡ text_at (map (λ t. t.now) texts.now) line }
+{
+    match texts.get((line as usize).saturating_sub(1)) {
+        Some(text) => text,
+        None => &[],
+    }
 }

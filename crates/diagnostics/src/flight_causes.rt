@@ -15,12 +15,11 @@ ghost use Rattle.diagnostics.specs.Report.{flight_clause};
 ghost use Rattle.diagnostics.specs.Views.{cause_in, entries};
 
 use crate::causes::{
-    Cause, begins, fault_cause, has_foreign_comment, holds, is_beyond_octal, is_signed,
-    symbol_cause, text_of, value_in,
+    Cause, fault_cause, has_foreign_comment, holds, is_beyond_octal, symbol_cause, value_in,
 };
-use crate::names::is_short;
-use crate::roles::Class;
 use agc_text::{Number, decimal_value, octal_value};
+use near_names::is_short;
+use warnings::{Class, begins, is_signed, text_of};
 use yayul::{FaultKind, Finding, Language, Reading, has_flight_form, is_count};
 
 /// A fault of a line of a language in words, where a text from other lines stands for `~` or none does.
@@ -59,18 +58,9 @@ impl Cause {
     fn with_flight(self, flight: bool) -> Cause
         ensures { cause_in result ≡ record (cause_in self) { flight = flight } }
     {
-        let Cause {
-            words,
-            cure,
-            other,
-            ..
-        } = self;
-        Cause {
-            words,
-            cure,
-            other,
-            flight,
-        }
+        let mut cause = self;
+        cause.flight = flight;
+        cause
     }
 
     /// That `--flight` takes what stands there, behind a cure or alone.

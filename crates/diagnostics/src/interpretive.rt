@@ -3,20 +3,23 @@
 
 ghost use Rattle.std.specs.Prelude.{◌≡◌, ◌≤◌, ◌++◌, ◌+◌, drop, length, map, IfOk, OnOk};
 ghost use Rattle.std.specs.List.{position_or_len};
+ghost use Rattle.agc_text.specs.Lines.{lines};
 ghost use Rattle.yayul.specs.Readings.{parts_in};
 ghost use Rattle.diagnostics.specs.Interpretive.{has_field, interpretive_operators, is_exit, parts_at, is_interpretive};
 ghost use Rattle.diagnostics.specs.Interpretive.{is_of_operator, is_operand_alone, next_said, operand_line};
 ghost use Rattle.diagnostics.specs.Interpretive.{is_of_interpreter, others, first_and_others, count_before_first};
 ghost use Rattle.diagnostics.specs.Interpretive.{interpretive_cause};
 ghost use Rattle.diagnostics.specs.Views.{cause_in};
-ghost use Rattle.diagnostics.specs.Warnings.{has_operator};
+ghost use Rattle.diagnostics.specs.Interpretive.{has_operator};
 
-use crate::causes::{Cause, text_of};
+use crate::causes::Cause;
 use crate::kinds::has_field;
-use crate::reporting::text_at;
-use crate::warning::has_operator;
+use crate::lines::{beyond, line_at, text_beyond};
+use agc_text::next_line;
+use near_names::is_among;
 use std::alloc::{AllocError, Global};
-use yayul::{FaultKind, Finding, Language, Reading, is_count, reading_of};
+use warnings::text_of;
+use yayul::{FaultKind, Finding, Language, ReadLine, Reading, SourceLines, is_count, reading_of};
 
 /// What is said of the lines: `~` stands for how many they are.
 pub(crate) fn interpretive_cause() -> Cause
@@ -29,66 +32,63 @@ pub(crate) fn interpretive_cause() -> Cause
 /// are of none.
 pub(crate) fn first_and_others(
     alloc: Global,
-    texts: &[&[u8]],
+    source: &SourceLines<'_>,
     faults: &[Finding],
 ) -> Result<Vec<Finding>, AllocError>
-    ensures { IfOk result (λ told. told.items ≡ first_and_others (map (λ t. t.now) texts.now) faults.now) }
+    ensures { IfOk result (λ told. told.items ≡ first_and_others (lines source.now.text) faults.now) }
 {
     let mut told = Vec::new(alloc);
-    push_first_and_others(texts, faults, &mut told)?;
+    if let Some((first, rest)) = faults.split_first() {
+        told.push(*first)?;
+        push_others(source, operand_line(source, first.line), rest, &mut told)?;
+    }
     Ok(told)
 }
 
 /// How many faults stand before the first of a line of the interpretive language.
-pub(crate) fn count_before_first(language: Language, texts: &[&[u8]], faults: &[Finding]) -> usize
-    ensures value { result ≡ count_before_first language (map (λ t. t.now) texts.now) faults.now }
+pub(crate) fn count_before_first(source: &SourceLines<'_>, faults: &[Finding]) -> usize
+    ensures value { result ≡ count_before_first source.now.language (lines source.now.text) faults.now }
     ensures within { result ≤ length faults.now }
 {
+    let language = source.language();
     for (index, fault) in faults.iter().enumerate() {
-        if is_interpretive(language, texts, fault) {
+        if is_interpretive(language, source, fault) {
             return index;
         }
     }
     faults.len()
 }
 
-// Appends the first of some faults, and those of the others that are of no line of the interpretive language.
-fn push_first_and_others(
-    texts: &[&[u8]],
-    faults: &[Finding],
-    told: &mut Vec<Finding>,
-) -> Result<(), AllocError>
-    ensures { OnOk result (told.new.items ≡ told.old.items
-        ++ first_and_others (map (λ t. t.now) texts.now) faults.now) }
-{
-    match faults.split_first() {
-        Some((first, rest)) => {
-            told.push(*first)?;
-            push_others(texts, operand_line(texts, first.line), rest, told)
-        }
-        None => Ok(()),
-    }
-}
-
 // Appends those of some faults that are of no line of the interpretive language, an operand of which may stand on a
 // line.
 fn push_others(
-    texts: &[&[u8]],
+    source: &SourceLines<'_>,
     operand: u64,
     faults: &[Finding],
     told: &mut Vec<Finding>,
 ) -> Result<(), AllocError>
-    ensures { OnOk result (told.new.items ≡ told.old.items ++ others (map (λ t. t.now) texts.now) operand faults.now) }
+    ensures { OnOk result (told.new.items ≡ told.old.items ++ others (lines source.now.text) operand faults.now) }
 {
     let mut operand = operand;
     for fault in faults {
-        if is_of_interpreter(texts, operand, fault) {
-            operand = operand_line(texts, fault.line);
+        if is_of_interpreter(source, operand, fault) {
+            operand = operand_line(source, fault.line);
         } else {
             told.push(*fault)?;
         }
     }
     Ok(())
+}
+
+// Whether the operator is one of some. It is brought into its callers with its names.
+#[inline(always)]
+fn has_operator(names: &[&str], parts: &Reading<'_>) -> bool
+    ensures { result ≡ has_operator (map (λ name. name.now) names.now) (parts_in parts.now) }
+{
+    match parts.operator {
+        Some(operator) => is_among(names, operator.text),
+        None => false,
+    }
 }
 
 /// Whether the operator is one of the interpretive language.
@@ -99,26 +99,26 @@ pub fn has_interpretive_operator(parts: &Reading<'_>) -> bool
 }
 
 // Whether a fault is of an operator of the interpretive language, which is none of a flight source.
-fn is_interpretive(language: Language, texts: &[&[u8]], fault: &Finding) -> bool
-    ensures { result ≡ is_interpretive language (map (λ t. t.now) texts.now) fault.now }
+fn is_interpretive(language: Language, source: &SourceLines<'_>, fault: &Finding) -> bool
+    ensures { result ≡ is_interpretive language (lines source.now.text) fault.now }
 {
     match language {
         Language::Standard => false,
         Language::Flight => {
             is_of_operator(fault.kind)
-                && has_operator(interpretive_operators(), &parts_at(texts, fault.line))
+                && has_operator(interpretive_operators(), &parts_at(source, fault.line))
         }
     }
 }
 
 // Whether a fault is of a line of the interpretive language, an operand of which may stand on another.
-fn is_of_interpreter(texts: &[&[u8]], operand: u64, fault: &Finding) -> bool
-    ensures { result ≡ is_of_interpreter (map (λ t. t.now) texts.now) operand fault.now }
+fn is_of_interpreter(source: &SourceLines<'_>, operand: u64, fault: &Finding) -> bool
+    ensures { result ≡ is_of_interpreter (lines source.now.text) operand fault.now }
 {
-    is_interpretive(Language::Flight, texts, fault)
+    is_interpretive(Language::Flight, source, fault)
         || (is_of_operator(fault.kind)
             && u64::from(fault.line) == operand
-            && is_operand_alone(&parts_at(texts, fault.line)))
+            && is_operand_alone(&parts_at(source, fault.line)))
 }
 
 // Whether a fault is that an operator is none.
@@ -141,13 +141,13 @@ fn is_operand_alone(parts: &Reading<'_>) -> bool
 
 // The number of the line on which an operand of the interpretive language may stand, after a line of that; 0 after
 // EXIT.
-fn operand_line(texts: &[&[u8]], line: u32) -> u64
-    ensures { result ≡ operand_line (map (λ t. t.now) texts.now) line }
+fn operand_line(source: &SourceLines<'_>, line: u32) -> u64
+    ensures { result ≡ operand_line (lines source.now.text) line }
 {
-    if is_exit(&parts_at(texts, line)) {
+    if is_exit(&parts_at(source, line)) {
         0
     } else {
-        next_said(texts, line)
+        next_said(source, line)
     }
 }
 
@@ -159,37 +159,67 @@ pub fn is_exit(parts: &Reading<'_>) -> bool
 }
 
 // The number of the first line after another that has a field, or of the one after the last.
-fn next_said(texts: &[&[u8]], line: u32) -> u64
-    ensures { result ≡ next_said (map (λ t. t.now) texts.now) line }
+#[tactic(auto, using(crate::proofs::ReadTexts::field_read, crate::proofs::ReadTexts::field_beyond))]
+fn next_said(source: &SourceLines<'_>, line: u32) -> u64
+    ensures { result ≡ next_said (lines source.now.text) line }
 {
-    u64::from(line) + count_before_field(lines_after(texts, line as usize)) as u64 + 1
+    let lines = source.lines();
+    let after = lines_after(lines, line as usize);
+    let count = count_before_field(after);
+    if count < after.len() {
+        return u64::from(line) + count as u64 + 1;
+    }
+    let passed = (line as usize).saturating_sub(lines.len());
+    let later = count_before_field_beyond(text_beyond(beyond(source), passed));
+    u64::from(line) + count as u64 + later + 1
 }
 
 // Those of some lines that stand after so many.
-fn lines_after<'a, 'b>(texts: &'b [&'a [u8]], count: usize) -> &'b [&'a [u8]]
-    ensures { map (λ t. t.now) result.now ≡ drop count (map (λ t. t.now) texts.now) }
+fn lines_after<'a, 'b>(lines: &'b [ReadLine<'a>], count: usize) -> &'b [ReadLine<'a>]
+    ensures { result.now ≡ drop count lines.now }
 {
-    &texts[count.min(texts.len())..]
+    &lines[count.min(lines.len())..]
 }
 
 // The fields of a line of a flight source, by its number.
-fn parts_at<'a>(texts: &[&'a [u8]], line: u32) -> Reading<'a>
-    ensures { parts_in result ≡ parts_at (map (λ t. t.now) texts.now) line }
+fn parts_at<'a>(source: &SourceLines<'a>, line: u32) -> Reading<'a>
+    ensures { parts_in result ≡ parts_at (lines source.now.text) line }
 {
-    reading_of(Language::Flight, text_at(texts, line))
+    let (text, parts) = line_at(source, u64::from(line));
+    match source.language() {
+        Language::Flight => parts,
+        Language::Standard => reading_of(Language::Flight, text),
+    }
 }
 
 // How many of some lines stand before the first that has a field.
-fn count_before_field(texts: &[&[u8]]) -> usize
-    ensures value { result ≡ position_or_len has_field (map (λ t. t.now) texts.now) }
-    ensures within { result ≤ length texts.now }
+fn count_before_field(lines: &[ReadLine<'_>]) -> usize
+    ensures value { result ≡ position_or_len (λ line. has_field line.text) lines.now }
+    ensures within { result ≤ length lines.now }
 {
-    for (index, text) in texts.iter().enumerate() {
-        if has_field(text) {
+    for (index, line) in lines.iter().enumerate() {
+        if has_field(line.text()) {
             return index;
         }
     }
-    texts.len()
+    lines.len()
+}
+
+// How many lines of a text, which were not read, stand before the first that has a field.
+fn count_before_field_beyond(text: &[u8]) -> u64
+    ensures value { result ≡ position_or_len has_field (lines text.now) }
+    ensures within { result ≤ length text.now }
+{
+    let mut count = 0;
+    let mut rest = text;
+    while let Some((line, after)) = next_line(rest) {
+        if has_field(line) {
+            return count;
+        }
+        count += 1;
+        rest = after;
+    }
+    count
 }
 
 const INTERPRETIVE_OPERATORS: [&str; 164] = [

@@ -1,16 +1,14 @@
 //! What is said of a file that is of another kind than the one that is asked for.
 
-ghost use Rattle.std.specs.Prelude.{◌≡◌, ◌++◌, ◌==◌, map, length, not, OnOk};
+ghost use Rattle.std.specs.Prelude.{◌≡◌, ◌++◌, ◌==◌, length, not, OnOk};
 ghost use Rattle.agc_text.specs.Fields.{fields, runs, texts};
 ghost use Rattle.agc_text.specs.Lines.{lines};
 ghost use Rattle.json_text.specs.declared.notation.Notation.TheVariants.{Text};
 ghost use Rattle.diagnostics.specs.Kinds.{is_input, is_image, begins_series, is_of_feed, is_of_source, first_said};
 ghost use Rattle.diagnostics.specs.Kinds.{note, kind_of_source, kind_of_feed};
-ghost use Rattle.diagnostics.specs.Views.{lines_in};
 
 use crate::objects::push_file_object;
-use crate::told::Source;
-use agc_text::{before_comment, split_field};
+use agc_text::{before_comment, next_line, split_field};
 use feed::{is_cycle, parse_line};
 use json_text::Notation;
 use std::alloc::AllocError;
@@ -23,20 +21,19 @@ const IMAGE_LENGTH: usize = 73_728;
 #[tactic(auto, unfolding(crate::specs::Kinds::kind_of_source))]
 pub(crate) fn push_kind_of_source(
     out: &mut Vec<u8>,
-    source: &Source<'_, '_, '_>,
+    notation: Notation,
+    name: &[u8],
     text: &[u8],
 ) -> Result<(), AllocError>
-    requires { lines_in source.now ≡ lines text.now }
-    ensures { OnOk result (out.new.items ≡ out.old.items
-        ++ kind_of_source source.now.notation source.now.name.now text.now) }
+    ensures { OnOk result (out.new.items ≡ out.old.items ++ kind_of_source notation name.now text.now) }
 {
     if is_image(text) {
         let words =
             b"this is a rope image, and no source: run, trace, cover and debug take it with --image";
-        push_note(out, source, words)?;
-    } else if is_of_feed(first_said(source.texts)) {
+        push_note(out, notation, name, words)?;
+    } else if is_of_feed(first_said(text)) {
         let words = b"this is a feed, and no source: it stands after the source";
-        push_note(out, source, words)?;
+        push_note(out, notation, name, words)?;
     }
     Ok(())
 }
@@ -45,21 +42,21 @@ pub(crate) fn push_kind_of_source(
 #[tactic(auto, unfolding(crate::specs::Kinds::kind_of_feed))]
 pub(crate) fn push_kind_of_feed(
     out: &mut Vec<u8>,
-    source: &Source<'_, '_, '_>,
+    notation: Notation,
+    name: &[u8],
     text: &[u8],
 ) -> Result<(), AllocError>
-    requires { lines_in source.now ≡ lines text.now }
-    ensures { OnOk result (out.new.items ≡ out.old.items
-        ++ kind_of_feed source.now.notation source.now.name.now text.now) }
+    ensures { OnOk result (out.new.items ≡ out.old.items ++ kind_of_feed notation name.now text.now) }
 {
     if is_image(text) {
         let words =
             b"this is a rope image, and no feed: run, trace, cover and debug take it with --image, before the feed";
-        push_note(out, source, words)?;
-    } else if is_of_source(first_said(source.texts)) {
+        push_note(out, notation, name, words)?;
+    } else if is_of_source(first_said(text)) {
         push_note(
             out,
-            source,
+            notation,
+            name,
             b"this is a source, and no feed: it stands first",
         )?;
     }
@@ -67,13 +64,17 @@ pub(crate) fn push_kind_of_feed(
 }
 
 // Appends what is said of a file, in a notation.
-fn push_note(out: &mut Vec<u8>, source: &Source<'_, '_, '_>, words: &[u8]) -> Result<(), AllocError>
-    ensures { OnOk result (out.new.items ≡ out.old.items
-        ++ note source.now.notation source.now.name.now words.now) }
+fn push_note(
+    out: &mut Vec<u8>,
+    notation: Notation,
+    name: &[u8],
+    words: &[u8],
+) -> Result<(), AllocError>
+    ensures { OnOk result (out.new.items ≡ out.old.items ++ note notation name.now words.now) }
 {
-    match source.notation {
-        Notation::Text => push_note_text(out, source.name, words),
-        Notation::Json => push_file_object(out, source.name, words),
+    match notation {
+        Notation::Text => push_note_text(out, name, words),
+        Notation::Json => push_file_object(out, name, words),
     }
 }
 
@@ -129,14 +130,16 @@ fn is_of_source(text: &[u8]) -> bool
     reading_of(Language::Standard, text).role.is_some()
 }
 
-// The first line that has a field; one without a byte where none has one.
-fn first_said<'a>(texts: &[&'a [u8]]) -> &'a [u8]
-    ensures { result.now ≡ first_said (map (λ t. t.now) texts.now) }
+// The first line of a text that has a field; one without a byte where none has one.
+fn first_said(text: &[u8]) -> &[u8]
+    ensures { result.now ≡ first_said (lines text.now) }
 {
-    for text in texts {
-        if has_field(text) {
-            return text;
+    let mut rest = text;
+    while let Some((line, after)) = next_line(rest) {
+        if has_field(line) {
+            return line;
         }
+        rest = after;
     }
     &[]
 }

@@ -10,9 +10,10 @@ ghost use Rattle.diagnostics.specs.Mending.{gap_span, indent_span, is_comment_at
 ghost use Rattle.diagnostics.specs.Mending.{piece_span, sign_place, sign_span, span_at};
 ghost use Rattle.diagnostics.specs.Views.{mend_in, mends_in};
 
-use crate::causes::{is_beyond_octal, is_foreign_comment, text_of};
+use crate::causes::{is_beyond_octal, is_foreign_comment};
 use crate::feeds::field_after;
 use agc_text::{Field, length_before_byte, next_field};
+use warnings::text_of;
 use yayul::{Reading, Span};
 
 /// Where an edit stands.

@@ -11,10 +11,11 @@ ghost use Rattle.diagnostics.specs.Objects.{place_members, place_of, place_or_nu
 ghost use Rattle.diagnostics.specs.Shown.{text_at};
 ghost use Rattle.diagnostics.specs.Views.{cause_in, mend_in, place_in};
 
-use crate::caret::{push_filled, push_number};
+use crate::caret::push_filled;
 use crate::causes::Cause;
 use crate::mending::{Mend, mend_of, span_at};
 use crate::told::{Severity, Told};
+use explain::push_number;
 use std::alloc::AllocError;
 use yayul::{Language, Reading, Span, reading_of};
 
@@ -22,11 +23,11 @@ use yayul::{Language, Reading, Span, reading_of};
 #[derive(Clone, Copy, Drop)]
 pub(crate) struct Place<'a> {
     /// The number of the line.
-    line: u64,
+    pub(crate) line: u64,
     /// The line.
-    text: &'a [u8],
+    pub(crate) text: &'a [u8],
     /// Where they stand in it.
-    span: Span,
+    pub(crate) span: Span,
 }
 
 /// What is told of a line, and why.
@@ -48,7 +49,7 @@ pub(crate) struct Note<'n, 'a, 'b> {
     pub(crate) cause: Cause,
 }
 
-/// The label of a line of a source, or its operator.
+/// The label of a line of some, or its operator.
 pub(crate) fn place_of<'a>(language: Language, texts: &[&'a [u8]], line: u64) -> Place<'a>
     ensures { place_in result ≡ place_of language (map (λ t. t.now) texts.now) line }
 {
@@ -70,8 +71,8 @@ fn line_text<'a>(texts: &[&'a [u8]], line: u64) -> &'a [u8]
     }
 }
 
-// The label of a line, or its operator.
-fn front_span(parts: &Reading<'_>) -> Span
+/// The label of a line, or its operator.
+pub(crate) fn front_span(parts: &Reading<'_>) -> Span
     ensures { result ≡ front_span (parts_in parts.now) }
 {
     match (parts.label, parts.operator) {

@@ -3,9 +3,10 @@
 ghost use Rattle.std.specs.Prelude.{◌≡◌};
 ghost use Rattle.std.specs.Option.{option_map};
 ghost use Rattle.yayul.specs.Roles.{names_of_length};
-ghost use Rattle.diagnostics.specs.Causes.{near_name, near_operator};
+ghost use Rattle.near_names.specs.Names.{near_name};
+ghost use Rattle.diagnostics.specs.Causes.{near_operator};
 
-use crate::nearness::near_in;
+use near_names::near_in;
 use yayul::operator_names;
 
 /// The operator's name that is near to a text: one as long, else one longer, else one shorter.

@@ -1,67 +1,72 @@
 //! The faults and the warnings of a source as lines of text.
 
-ghost use Rattle.std.specs.Prelude.{◌≡◌, ◌≤◌, ◌++◌, ◌==◌, map, length, decimal, flat_map, [], if◌then◌else◌, OnOk};
+ghost use Rattle.std.specs.Prelude.{◌≡◌, ◌≤◌, ◌++◌, ◌==◌, ◌&&◌, length, decimal, flat_map, [], if◌then◌else◌, OnOk};
 ghost use Rattle.std.specs.Prelude.{IfOk, Some};
 ghost use Rattle.std.specs.Option.{option_map};
 ghost use Rattle.agc_text.specs.Lines.{lines};
-ghost use Rattle.yayul.specs.Readings.{parts_in};
+ghost use Rattle.std.specs.List.{fold, position_or_len};
+ghost use Rattle.agc_text.specs.Tables.{same_name};
+ghost use Rattle.yayul.specs.ReadLines.{parts_on};
+ghost use Rattle.yayul.specs.Readings.{parts_for, parts_in};
 ghost use Rattle.diagnostics.specs.Kinds.{kind_of_source};
 ghost use Rattle.diagnostics.specs.Causes.{below_cause};
-ghost use Rattle.diagnostics.specs.Views.{lines_in};
+ghost use Rattle.diagnostics.specs.ReadSources.{all_lines, has_label_on, language_in};
 ghost use Rattle.json_text.specs.declared.notation.Notation.TheVariants.{Text};
 ghost use Rattle.diagnostics.specs.Objects.{place_of};
-ghost use Rattle.diagnostics.specs.Report.{as_error, told_in, text_at, shown_error, shown_warning, shown_line};
+ghost use Rattle.diagnostics.specs.Report.{as_error, told_in, shown_error, shown_warning, shown_line};
 ghost use Rattle.diagnostics.specs.Report.{beside_text, listed, line_beside, needs_value, line_below};
 ghost use Rattle.diagnostics.specs.Report.{as_label, told_by_line, may_be_label, with_label, labels_of, sought_labels};
-ghost use Rattle.diagnostics.specs.Report.{takes_label, has_label, first_line, count_before, counted, count_text};
+ghost use Rattle.diagnostics.specs.Report.{takes_label, has_label, first_line, counted, count_text};
+ghost use Rattle.warnings.specs.Fields.{text_of};
+ghost use Rattle.warnings.specs.Joined.{count_before};
 ghost use Rattle.diagnostics.specs.Report.{interpretive_text, warned_before, listed_from, listed_around, told_around};
 ghost use Rattle.diagnostics.specs.Report.{told_text, refused_file, report};
 
-use crate::caret::{DIGITS, push_error, push_finding, push_number};
-use crate::causes::{below_cause, holds, near_label, text_of};
-use crate::explain::refusals::meaning;
+use crate::caret::{push_error, push_finding};
+use crate::causes::{below_cause, holds, near_label};
 use crate::interpretive::{count_before_first, first_and_others, interpretive_cause};
 use crate::kinds::push_kind_of_source;
-use crate::names::NameSet;
-use crate::objects::{Note, place_of, push_count_object};
-use crate::roles::Class;
-use crate::told::{Source, Told, Warning};
-use crate::warning::add_field;
+use crate::lines::{beyond, line_at, place_on};
+use crate::objects::{Note, push_count_object};
+use crate::told::{SourceRead, Told};
 use crate::warning_causes::caution_cause;
 use agc_text::next_line;
 use arrayvec::ArrayVec;
+use explain::{DIGITS, meaning, push_number};
 use json_text::Notation;
+use near_names::{NameSet, add_field};
 use std::alloc::{AllocError, Global};
+use warnings::{Class, Warning, count_before, text_of};
 use words::push_decimal;
-use yayul::{FaultKind, Finding, Language, Reading, is_count, is_digits, reading_of};
+use yayul::{
+    FaultKind, Finding, Language, ReadLine, Reading, SourceLines, is_count, is_digits, reading_of,
+};
 
 /// The most faults of a source that are told with labels of other lines.
 const MOST_FAULTS: usize = 100;
 
-/// The lines of the faults and the warnings of a source of a language, which has this name, in the order of lines, and
-/// what is said where it has faults and is a file of another kind; as text, or as JSON in an object each.
+/// The lines of the faults and the warnings of a source, which has this name, in the order of lines, and what is said
+/// where it has faults and is a file of another kind; as text, or as JSON in an object each.
 #[tactic(auto, unfolding(crate::specs::Report::report))]
 pub fn report(
     alloc: Global,
     notation: Notation,
-    language: Language,
     name: &[u8],
-    source: &[u8],
+    source: &SourceLines<'_>,
     faults: &[Finding],
     warnings: &[Warning],
 ) -> Result<Vec<u8>, AllocError>
-    ensures { IfOk result (λ text. text.items ≡ report notation language name.now source.now faults.now warnings.now) }
+    ensures { IfOk result (λ text. text.items
+        ≡ report notation source.now.language name.now source.now.text faults.now warnings.now) }
 {
-    let texts = line_texts(alloc, source)?;
-    let read = Source {
+    let told = SourceRead {
         notation,
-        language,
         name,
-        texts: &texts,
+        read: source,
     };
     let mut out = Vec::new(alloc);
-    push_told(alloc, &mut out, &read, faults, warnings)?;
-    push_kind(&mut out, &read, source, faults)?;
+    push_told(alloc, &mut out, &told, faults, warnings)?;
+    push_kind(&mut out, &told, faults)?;
     Ok(out)
 }
 
@@ -71,14 +76,14 @@ pub fn report(
 fn push_told(
     alloc: Global,
     out: &mut Vec<u8>,
-    source: &Source<'_, '_, '_>,
+    source: &SourceRead<'_, '_, '_>,
     faults: &[Finding],
     warnings: &[Warning],
 ) -> Result<(), AllocError>
-    ensures { OnOk result (out.new.items ≡ out.old.items ++ told_text source.now.notation source.now.language
-        source.now.name.now (lines_in source.now) faults.now warnings.now) }
+    ensures { OnOk result (out.new.items ≡ out.old.items ++ told_text source.now.notation (language_in source.now)
+        source.now.name.now (all_lines source.now) faults.now warnings.now) }
 {
-    let count = count_before_first(source.language, source.texts, faults);
+    let count = count_before_first(source.read, faults);
     let (earlier, rest) = faults.split_at(count);
     push_told_around(alloc, out, source, earlier, rest, warnings)
 }
@@ -87,15 +92,15 @@ fn push_told(
 fn push_told_around(
     alloc: Global,
     out: &mut Vec<u8>,
-    source: &Source<'_, '_, '_>,
+    source: &SourceRead<'_, '_, '_>,
     earlier: &[Finding],
     rest: &[Finding],
     warnings: &[Warning],
 ) -> Result<(), AllocError>
-    ensures { OnOk result (out.new.items ≡ out.old.items ++ told_around source.now.notation source.now.language
-        source.now.name.now (lines_in source.now) earlier.now rest.now warnings.now) }
+    ensures { OnOk result (out.new.items ≡ out.old.items ++ told_around source.now.notation (language_in source.now)
+        source.now.name.now (all_lines source.now) earlier.now rest.now warnings.now) }
 {
-    let told = first_and_others(alloc, source.texts, rest)?;
+    let told = first_and_others(alloc, source.read, rest)?;
     let labels = sought_labels(alloc, source, earlier.len() + told.len())?;
     let count = rest.len().saturating_sub(told.len()) + 1;
     push_around(alloc, out, source, &labels, count, earlier, &told, warnings)
@@ -106,15 +111,15 @@ fn push_told_around(
 fn push_around(
     alloc: Global,
     out: &mut Vec<u8>,
-    source: &Source<'_, '_, '_>,
+    source: &SourceRead<'_, '_, '_>,
     labels: &NameSet,
     count: usize,
     earlier: &[Finding],
     rest: &[Finding],
     warnings: &[Warning],
 ) -> Result<(), AllocError>
-    ensures { OnOk result (out.new.items ≡ out.old.items ++ listed_around source.now.notation source.now.language
-        source.now.name.now labels.now (lines_in source.now) count earlier.now rest.now warnings.now) }
+    ensures { OnOk result (out.new.items ≡ out.old.items ++ listed_around source.now.notation (language_in source.now)
+        source.now.name.now labels.now (all_lines source.now) count earlier.now rest.now warnings.now) }
 {
     let (warned, left) = warnings.split_at(warned_before(rest, warnings));
     push_merged(out, source, labels, earlier, warned)?;
@@ -137,14 +142,14 @@ fn warned_before(faults: &[Finding], warnings: &[Warning]) -> usize
 fn push_from(
     alloc: Global,
     out: &mut Vec<u8>,
-    source: &Source<'_, '_, '_>,
+    source: &SourceRead<'_, '_, '_>,
     labels: &NameSet,
     count: usize,
     faults: &[Finding],
     warnings: &[Warning],
 ) -> Result<(), AllocError>
-    ensures { OnOk result (out.new.items ≡ out.old.items ++ listed_from source.now.notation source.now.language
-        source.now.name.now labels.now (lines_in source.now) count faults.now warnings.now) }
+    ensures { OnOk result (out.new.items ≡ out.old.items ++ listed_from source.now.notation (language_in source.now)
+        source.now.name.now labels.now (all_lines source.now) count faults.now warnings.now) }
 {
     match faults.split_first() {
         Some((first, others)) => {
@@ -159,21 +164,21 @@ fn push_from(
 fn push_interpretive(
     alloc: Global,
     out: &mut Vec<u8>,
-    source: &Source<'_, '_, '_>,
+    source: &SourceRead<'_, '_, '_>,
     count: usize,
     first: &Finding,
 ) -> Result<(), AllocError>
-    ensures { OnOk result (out.new.items ≡ out.old.items ++ interpretive_text source.now.notation source.now.language
-        source.now.name.now (lines_in source.now) count first.now) }
+    ensures { OnOk result (out.new.items ≡ out.old.items ++ interpretive_text source.now.notation (language_in source.now)
+        source.now.name.now (all_lines source.now) count first.now) }
 {
-    let text = text_at(source.texts, first.line);
+    let (text, parts) = line_at(source.read, u64::from(first.line));
     let mut lines = Vec::new(alloc);
     push_counted(&mut lines, count, b"line")?;
     let note = Note {
         told: Told::error(first),
         name: source.name,
         text,
-        parts: reading_of(source.language, text),
+        parts,
         beside: &lines,
         other: None,
         cause: interpretive_cause(),
@@ -184,18 +189,16 @@ fn push_interpretive(
 // Appends what is said of a source with faults that is a file of another kind.
 fn push_kind(
     out: &mut Vec<u8>,
-    source: &Source<'_, '_, '_>,
-    text: &[u8],
+    source: &SourceRead<'_, '_, '_>,
     faults: &[Finding],
 ) -> Result<(), AllocError>
-    requires { lines_in source.now ≡ lines text.now }
     ensures { OnOk result (out.new.items ≡ out.old.items ++ (if length faults.now == 0 then [] else
-        kind_of_source source.now.notation source.now.name.now text.now)) }
+        kind_of_source source.now.notation source.now.name.now source.now.read.now.text)) }
 {
     if faults.is_empty() {
         Ok(())
     } else {
-        push_kind_of_source(out, source, text)
+        push_kind_of_source(out, source.notation, source.name, source.read.text())
     }
 }
 
@@ -221,47 +224,66 @@ pub fn refused_file(alloc: Global, name: &[u8], number: u8) -> Result<Vec<u8>, A
     ensures { IfOk result (λ text. text.items ≡ refused_file name.now number) }
 {
     let mut out = Vec::new(alloc);
-    push_refused_file(&mut out, name, number)?;
-    Ok(out)
-}
-
-// Appends that a file could not be read whole.
-fn push_refused_file(out: &mut Vec<u8>, name: &[u8], number: u8) -> Result<(), AllocError>
-    ensures { OnOk result (out.new.items ≡ out.old.items ++ refused_file name.now number) }
-{
     out.extend_from_slice(name)?;
     out.extend_from_slice(b": error E")?;
-    push_number(out, u64::from(number))?;
+    push_number(&mut out, u64::from(number))?;
     out.extend_from_slice(b": ")?;
     out.extend_from_slice(meaning(number))?;
     out.extend_from_slice(b"\n")?;
-    Ok(())
+    Ok(out)
 }
 
 // The labels that so many faults are told with: those of all lines, where few are told.
 fn sought_labels(
     alloc: Global,
-    source: &Source<'_, '_, '_>,
+    source: &SourceRead<'_, '_, '_>,
     count: usize,
 ) -> Result<NameSet, AllocError>
-    ensures { IfOk result (λ labels. labels ≡ sought_labels source.now.language (lines_in source.now) count) }
+    ensures { IfOk result (λ labels. labels ≡ sought_labels (language_in source.now) (all_lines source.now) count) }
 {
     if (1..=MOST_FAULTS).contains(&count) {
-        labels_of(alloc, source.language, source.texts)
+        labels_of(alloc, source.read)
     } else {
         Ok(NameSet::new(alloc))
     }
 }
 
-// The labels of some lines, each once.
-fn labels_of(alloc: Global, language: Language, texts: &[&[u8]]) -> Result<NameSet, AllocError>
-    ensures { IfOk result (λ labels. labels ≡ labels_of language (map (λ t. t.now) texts.now)) }
+// The labels of a source, each once.
+fn labels_of(alloc: Global, source: &SourceLines<'_>) -> Result<NameSet, AllocError>
+    ensures { IfOk result (λ labels. labels ≡ labels_of source.now.language (lines source.now.text)) }
 {
     let mut labels = NameSet::new(alloc);
-    for text in texts {
-        add_label(&mut labels, &reading_of(language, text))?;
-    }
+    add_labels(&mut labels, source.lines())?;
+    add_labels_beyond(&mut labels, source.language(), beyond(source))?;
     Ok(labels)
+}
+
+// Adds the labels of some lines.
+fn add_labels(labels: &mut NameSet, lines: &[ReadLine<'_>]) -> Result<(), AllocError>
+    ensures { OnOk result (labels.new
+        ≡ fold (λ labels line. with_label labels (parts_on line)) labels.old lines.now) }
+{
+    for line in lines {
+        add_label(labels, &line.reading())?;
+    }
+    Ok(())
+}
+
+// Adds the labels of the lines of a text, which were not read.
+fn add_labels_beyond(
+    labels: &mut NameSet,
+    language: Language,
+    text: &[u8],
+) -> Result<(), AllocError>
+    ensures { OnOk result (labels.new
+        ≡ fold (λ labels text. with_label labels (parts_for language text)) labels.old (lines text.now)) }
+{
+    let mut rest = text;
+    while let Some((line, after)) = next_line(rest) {
+        add_label(labels, &reading_of(language, line))?;
+        rest = after;
+    }
+    Ok(())
 }
 
 // Adds the label of a line, where the line may have one and it may have the form of one.
@@ -282,29 +304,16 @@ fn may_be_label(text: &[u8]) -> bool
     !is_digits(text) && !is_count(text) && !holds(b'$', text)
 }
 
-// The lines of a source.
-pub(crate) fn line_texts(alloc: Global, source: &[u8]) -> Result<Vec<&[u8]>, AllocError>
-    ensures { IfOk result (λ texts. map (λ text. text.now) texts.items ≡ lines source.now) }
-{
-    let mut texts = Vec::new(alloc);
-    let mut rest = source;
-    while let Some((text, after)) = next_line(rest) {
-        texts.push(text)?;
-        rest = after;
-    }
-    Ok(texts)
-}
-
 // Appends the lines of faults and warnings, in the order of lines.
 fn push_merged(
     out: &mut Vec<u8>,
-    source: &Source<'_, '_, '_>,
+    source: &SourceRead<'_, '_, '_>,
     labels: &NameSet,
     faults: &[Finding],
     warnings: &[Warning],
 ) -> Result<(), AllocError>
-    ensures { OnOk result (out.new.items ≡ out.old.items ++ listed source.now.notation source.now.language
-        source.now.name.now labels.now (lines_in source.now) faults.now warnings.now) }
+    ensures { OnOk result (out.new.items ≡ out.old.items ++ listed source.now.notation (language_in source.now)
+        source.now.name.now labels.now (all_lines source.now) faults.now warnings.now) }
 {
     let mut rest = warnings;
     for fault in faults {
@@ -316,27 +325,14 @@ fn push_merged(
     push_warnings(out, source, rest)
 }
 
-/// How many of some warnings in order stand before a line.
-pub(crate) fn count_before(line: u32, warnings: &[Warning]) -> usize
-    ensures value { result ≡ count_before line warnings.now }
-    ensures within { result ≤ length warnings.now }
-{
-    for (index, warning) in warnings.iter().enumerate() {
-        if line <= warning.line {
-            return index;
-        }
-    }
-    warnings.len()
-}
-
 // Appends the lines of some warnings.
 fn push_warnings(
     out: &mut Vec<u8>,
-    source: &Source<'_, '_, '_>,
+    source: &SourceRead<'_, '_, '_>,
     warnings: &[Warning],
 ) -> Result<(), AllocError>
     ensures { OnOk result (out.new.items ≡ out.old.items ++ flat_map (shown_warning source.now.notation
-        source.now.language source.now.name.now (lines_in source.now)) warnings.now) }
+        (language_in source.now) source.now.name.now (all_lines source.now)) warnings.now) }
 {
     for warning in warnings {
         push_shown_warning(out, source, warning)?;
@@ -348,14 +344,13 @@ fn push_warnings(
 #[tactic(auto, unfolding(crate::specs::Report::warning_text))]
 fn push_shown_warning(
     out: &mut Vec<u8>,
-    source: &Source<'_, '_, '_>,
+    source: &SourceRead<'_, '_, '_>,
     warning: &Warning,
 ) -> Result<(), AllocError>
-    ensures { OnOk result (out.new.items ≡ out.old.items ++ shown_warning source.now.notation source.now.language
-        source.now.name.now (lines_in source.now) warning.now) }
+    ensures { OnOk result (out.new.items ≡ out.old.items ++ shown_warning source.now.notation (language_in source.now)
+        source.now.name.now (all_lines source.now) warning.now) }
 {
-    let text = text_at(source.texts, warning.line);
-    let parts = reading_of(source.language, text);
+    let (text, parts) = line_at(source.read, u64::from(warning.line));
     let note = Note {
         told: Told::warning(warning),
         name: source.name,
@@ -371,36 +366,29 @@ fn push_shown_warning(
 // Appends the lines of a fault.
 fn push_shown_error(
     out: &mut Vec<u8>,
-    source: &Source<'_, '_, '_>,
+    source: &SourceRead<'_, '_, '_>,
     labels: &NameSet,
     fault: &Finding,
 ) -> Result<(), AllocError>
-    ensures { OnOk result (out.new.items ≡ out.old.items ++ shown_error source.now.notation source.now.language
-        source.now.name.now labels.now (lines_in source.now) fault.now) }
+    ensures { OnOk result (out.new.items ≡ out.old.items ++ shown_error source.now.notation (language_in source.now)
+        source.now.name.now labels.now (all_lines source.now) fault.now) }
 {
-    let text = text_at(source.texts, fault.line);
-    push_shown_line(
-        out,
-        source,
-        labels,
-        text,
-        &reading_of(source.language, text),
-        fault,
-    )
+    let (text, parts) = line_at(source.read, u64::from(fault.line));
+    push_shown_line(out, source, labels, text, &parts, fault)
 }
 
 // Appends the lines of a fault of a line with some fields: an E18 names the line below that defines its symbol.
 #[tactic(auto, unfolding(crate::specs::Report::shown_line))]
 fn push_shown_line<'a>(
     out: &mut Vec<u8>,
-    source: &Source<'_, '_, 'a>,
+    source: &SourceRead<'_, '_, 'a>,
     labels: &NameSet,
     text: &'a [u8],
     parts: &Reading<'a>,
     fault: &Finding,
 ) -> Result<(), AllocError>
-    ensures { OnOk result (out.new.items ≡ out.old.items ++ shown_line source.now.notation source.now.language
-        source.now.name.now labels.now (lines_in source.now) text.now (parts_in parts.now) fault.now) }
+    ensures { OnOk result (out.new.items ≡ out.old.items ++ shown_line source.now.notation (language_in source.now)
+        source.now.name.now labels.now (all_lines source.now) text.now (parts_in parts.now) fault.now) }
 {
     match line_below(source, labels, parts, fault) {
         Some(line) => push_below(out, source, text, parts, fault, line),
@@ -412,19 +400,19 @@ fn push_shown_line<'a>(
 #[tactic(auto, using(words::proofs::Digits::short_decimal))]
 fn push_below<'a>(
     out: &mut Vec<u8>,
-    source: &Source<'_, '_, 'a>,
+    source: &SourceRead<'_, '_, 'a>,
     text: &'a [u8],
     parts: &Reading<'a>,
     fault: &Finding,
     line: u64,
 ) -> Result<(), AllocError>
     ensures { OnOk result (out.new.items ≡ out.old.items ++ told_in source.now.notation source.now.name.now text.now
-        (parts_in parts.now) (decimal line) (Some (place_of source.now.language (lines_in source.now) line))
+        (parts_in parts.now) (decimal line) (Some (place_of (language_in source.now) (all_lines source.now) line))
         (as_error fault.now) below_cause) }
 {
     let mut digits = ArrayVec::<u8, DIGITS>::new();
     push_decimal(&mut digits, line);
-    let other = Some(place_of(source.language, source.texts, line));
+    let other = Some(place_on(source.read, line));
     let line = digits.as_slice();
     let told = Told::error(fault);
     let cause = below_cause();
@@ -442,16 +430,16 @@ fn push_below<'a>(
 
 // The first line that has the symbol of an E18 as its label, where that stands below.
 fn line_below(
-    source: &Source<'_, '_, '_>,
+    source: &SourceRead<'_, '_, '_>,
     labels: &NameSet,
     parts: &Reading<'_>,
     fault: &Finding,
 ) -> Option<u64>
-    ensures { result ≡ line_below source.now.language labels.now (lines_in source.now) (parts_in parts.now) fault.now }
+    ensures { result ≡ line_below (language_in source.now) labels.now (all_lines source.now) (parts_in parts.now) fault.now }
 {
     let symbol = text_of(parts.operand);
     if !matches!(fault.kind, FaultKind::UsedTooEarly)
-        || !needs_value(source.language, parts)
+        || !needs_value(source.read.language(), parts)
         || !labels.has(symbol)
     {
         return None;
@@ -479,20 +467,20 @@ fn needs_value(language: Language, parts: &Reading<'_>) -> bool
 #[tactic(auto, using(words::proofs::Digits::short_decimal), unfolding(crate::specs::Report::beside_text))]
 fn push_beside<'a>(
     out: &mut Vec<u8>,
-    source: &Source<'_, '_, 'a>,
+    source: &SourceRead<'_, '_, 'a>,
     labels: &NameSet,
     text: &'a [u8],
     parts: &Reading<'a>,
     fault: &Finding,
 ) -> Result<(), AllocError>
-    ensures { OnOk result (out.new.items ≡ out.old.items ++ beside_text source.now.notation source.now.language
-        source.now.name.now labels.now (lines_in source.now) text.now (parts_in parts.now) fault.now) }
+    ensures { OnOk result (out.new.items ≡ out.old.items ++ beside_text source.now.notation (language_in source.now)
+        source.now.name.now labels.now (all_lines source.now) text.now (parts_in parts.now) fault.now) }
 {
     match line_beside(source, labels, parts, fault) {
         Some(line) => {
             let mut digits = ArrayVec::<u8, DIGITS>::new();
             push_decimal(&mut digits, line);
-            let place = Some(place_of(source.language, source.texts, line));
+            let place = Some(place_on(source.read, line));
             let line = Some(digits.as_slice());
             push_error(out, source, text, parts, line, place, fault)
         }
@@ -506,12 +494,12 @@ fn push_beside<'a>(
 // The line that a fault is told with: the one whose word stands already where its own would, or the first that has its
 // label.
 fn line_beside(
-    source: &Source<'_, '_, '_>,
+    source: &SourceRead<'_, '_, '_>,
     labels: &NameSet,
     parts: &Reading<'_>,
     fault: &Finding,
 ) -> Option<u64>
-    ensures { result ≡ line_beside source.now.language labels.now (lines_in source.now) (parts_in parts.now) fault.now }
+    ensures { result ≡ line_beside (language_in source.now) labels.now (all_lines source.now) (parts_in parts.now) fault.now }
 {
     match fault.taken_by {
         Some(line) => Some(u64::from(line)),
@@ -543,23 +531,53 @@ fn as_label<'a>(labels: &NameSet, name: &'a [u8]) -> Option<&'a [u8]>
 }
 
 // The number of the first line that has a label.
-fn first_line(source: &Source<'_, '_, '_>, label: &[u8]) -> u64
-    ensures { result ≡ first_line source.now.language (lines_in source.now) label.now }
+fn first_line(source: &SourceRead<'_, '_, '_>, label: &[u8]) -> u64
+    ensures { result ≡ first_line (language_in source.now) (all_lines source.now) label.now }
 {
-    for (index, text) in source.texts.iter().enumerate() {
-        if has_label(source.language, text, label) {
-            return index as u64 + 1;
+    let lines = source.read.lines();
+    let count = count_before_label(lines, label);
+    if count < lines.len() {
+        return count as u64 + 1;
+    }
+    let later = count_before_label_beyond(source.read.language(), beyond(source.read), label);
+    count as u64 + later + 1
+}
+
+// How many of some lines stand before the first that has a label: all, where none has.
+fn count_before_label(lines: &[ReadLine<'_>], label: &[u8]) -> usize
+    ensures value { result ≡ position_or_len (has_label_on label.now) lines.now }
+    ensures within { result ≤ length lines.now }
+{
+    for (index, line) in lines.iter().enumerate() {
+        if has_label(&line.reading(), label) {
+            return index;
         }
     }
-    source.texts.len() as u64 + 1
+    lines.len()
+}
+
+// How many lines of a text, which were not read, stand before the first that has a label: all, where none has.
+fn count_before_label_beyond(language: Language, text: &[u8], label: &[u8]) -> u64
+    ensures value { result ≡ position_or_len (has_label language label.now) (lines text.now) }
+    ensures within { result ≤ length text.now }
+{
+    let mut count = 0;
+    let mut rest = text;
+    while let Some((line, after)) = next_line(rest) {
+        if has_label(&reading_of(language, line), label) {
+            return count;
+        }
+        count += 1;
+        rest = after;
+    }
+    count
 }
 
 // Whether a line has a label.
-fn has_label(language: Language, text: &[u8], label: &[u8]) -> bool
-    ensures { result ≡ has_label language label.now text.now }
+fn has_label(parts: &Reading<'_>, label: &[u8]) -> bool
+    ensures { result ≡ (same_name (text_of (parts_in parts.now).label) label.now && takes_label (parts_in parts.now)) }
 {
-    let parts = reading_of(language, text);
-    text_of(parts.label) == label && takes_label(&parts)
+    text_of(parts.label) == label && takes_label(parts)
 }
 
 // Whether a line may have a label: its operator, if any, takes one.
@@ -567,16 +585,6 @@ fn takes_label(parts: &Reading<'_>) -> bool
     ensures { result ≡ takes_label (parts_in parts.now) }
 {
     !Class::RefusesLabel.has(parts.role)
-}
-
-/// The line of a number; one that does not stand is empty.
-pub(crate) fn text_at<'a>(texts: &[&'a [u8]], line: u32) -> &'a [u8]
-    ensures { result.now ≡ text_at (map (λ t. t.now) texts.now) line }
-{
-    match texts.get((line as usize).saturating_sub(1)) {
-        Some(text) => text,
-        None => &[],
-    }
 }
 
 // Appends how many faults and how many warnings there are.

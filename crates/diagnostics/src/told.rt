@@ -4,7 +4,8 @@ ghost use Rattle.std.specs.Prelude.{◌≡◌};
 ghost use Rattle.diagnostics.specs.Report.{as_error, as_warning};
 
 use json_text::Notation;
-use yayul::{Finding, Language, Span};
+use warnings::Warning;
+use yayul::{Finding, Language, SourceLines, Span};
 
 /// Whether what is found bars a source from assembling.
 #[derive(Clone, Copy, PartialEq, Eq, Debug, Drop)]
@@ -13,28 +14,6 @@ pub enum Severity {
     Error,
     /// What is likely a mistake, and does not.
     Warning,
-}
-
-/// Why it is not certain what the assembler of flight programs makes of a word that stays as in the standard language.
-#[derive(Clone, Copy, Drop)]
-pub enum Doubt {
-    /// 2CADR of banks 030 to 037: the superbank bits of its second word.
-    SuperbankBits,
-    /// EBANK= before an earlier 2CADR: whether it holds for this line too.
-    HeldBank,
-}
-
-/// What in a source is likely a mistake, and where it stands.
-#[derive(Clone, Copy, Drop)]
-pub struct Warning {
-    /// The line, counted from 1.
-    pub line: u32,
-    /// The number that it is told by: one of the manual's table of warnings.
-    pub number: u8,
-    /// The bytes of the line that are to blame.
-    pub span: Span,
-    /// Why a word of the line is not certain, where that is warned of.
-    pub doubt: Option<Doubt>,
 }
 
 /// A fault or a warning as it is told, and where it stands.
@@ -75,7 +54,17 @@ impl Told {
     }
 }
 
-/// A source that is told of.
+/// A source that is told of, whose lines were read.
+#[derive(Clone, Copy)]
+pub(crate) struct SourceRead<'n, 't, 's> {
+    pub(crate) notation: Notation,
+    /// The name of its file.
+    pub(crate) name: &'n [u8],
+    /// It, and its lines.
+    pub(crate) read: &'t SourceLines<'s>,
+}
+
+/// A text that is told of by its lines alone.
 #[derive(Clone, Copy)]
 pub(crate) struct Source<'n, 't, 's> {
     pub(crate) notation: Notation,

@@ -4,13 +4,13 @@ ghost use Rattle.std.specs.Prelude.{◌≡◌, [], unwrap_or};
 ghost use Rattle.agc_text.specs.Tables.{value_in};
 ghost use Rattle.yayul.specs.Readings.{parts_in};
 ghost use Rattle.symbols.specs.Registers.{registers};
-ghost use Rattle.diagnostics.specs.Causes.{caution_cause, doubt_cause, number_cause, text_of, warning_cause, way_cause};
+ghost use Rattle.diagnostics.specs.Causes.{caution_cause, doubt_cause, number_cause, warning_cause, way_cause};
+ghost use Rattle.warnings.specs.Fields.{text_of};
 ghost use Rattle.diagnostics.specs.Views.{cause_in};
 
-use crate::causes::{Cause, text_of};
-use crate::roles::Class;
-use crate::told::{Doubt, Warning};
+use crate::causes::Cause;
 use symbols::register_place;
+use warnings::{Class, Doubt, Warning, text_of};
 use yayul::Reading;
 
 /// A warning of a line with some fields in words: by its number, or by why a word is not certain.

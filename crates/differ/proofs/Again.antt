@@ -19,3 +19,5 @@ not_later before ahead n q (suc k) m e all here =
 pub again_not : (before ahead : List MainStep) (n q count : ℕ) → q < count → are_again before ahead n q ≡ true
     → is_again before ahead n q ≡ false → are_again before ahead n count ≡ false
 again_not before ahead n q count lt all here = not_later before ahead n q (count - suc q) count (omega (arith, lt)) all here
+
+pub ruleset again_steps = (again_more, again_not)

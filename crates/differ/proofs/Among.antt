@@ -27,3 +27,5 @@ among_found h t cs i c within here found =
 pub among_end : (h t : Cells) (cs : List ℕ) (i : ℕ) → length cs ≤ i → first_among h t (drop i cs) ≡ None
 unfolding first_among
 among_end h t cs i past = rw (drop_all i cs past) refl
+
+pub ruleset among_steps = (among_found, among_more, among_end)

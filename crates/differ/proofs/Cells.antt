@@ -32,3 +32,5 @@ found_later here there n (suc k) m e none found =
 pub first_found : (here there : Cells) (n count : ℕ) → n < count → first_cell here there n ≡ None → is_apart here there n ≡ true
     → first_cell here there count ≡ Some n
 first_found here there n count lt none found = found_later here there n (count - suc n) count (omega (arith, lt)) none found
+
+pub ruleset first_steps = (first_found, none_first, none_more)

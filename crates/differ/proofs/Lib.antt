@@ -1,5 +1,4 @@
 mod Cells
-mod Same
 mod Kept
 mod Puts
 mod Aparts

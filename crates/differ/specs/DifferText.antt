@@ -1,6 +1,6 @@
 -- What is told of two runs: of each first difference a line, and then a line of the trace of each run; and where that is asked for, how
 -- what differs came about.
-use Rattle.std.specs.Prelude.{ℕ, zero, suc, ◌-◌, ◌==◌, ◌||◌, Bool, true, false, List, [], ◌++◌, Option, None, Some, codes, decimal}
+use Rattle.std.specs.Prelude.{◌≡◌, ℕ, zero, suc, ◌-◌, ◌==◌, ◌||◌, Bool, true, false, List, [], ◌++◌, Option, None, Some, codes, decimal}
 use Rattle.std.specs.Prelude.{if◌then◌else◌}
 use Rattle.std.specs.Option.{option_map}
 use Rattle.words.specs.Numbers.{correct}
@@ -26,6 +26,11 @@ pub record Named : Type 0 where
 
 abbrev pub named : NamedRun → Named
 named r = record { symbols = r.names; scenario = r.processor.scenario }
+
+-- a run keeps what it is, however far it is made
+pub record Keeps (old new : NamedRun) : Type 0 where
+  pub names : new.names ≡ old.names
+  pub scenario : new.processor.scenario ≡ old.processor.scenario
 
 -- the line of step n of a run, as its trace has it, with or without what the step reads
 unfoldable pub step_line : Bool → Named → ℕ → List ℕ

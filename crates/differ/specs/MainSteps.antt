@@ -1,6 +1,7 @@
 -- The first step outside of interrupts that two runs do not have in common.
 use Rattle.std.specs.Prelude.{ℕ, zero, suc, ◌+◌, ◌-◌, ◌*◌, ◌==◌, ◌&&◌, ◌||◌, not, Bool, true, false, List, [], ◌∷◌, ◌++◌, take, slice_get}
 use Rattle.std.specs.Prelude.{Option, None, Some, if◌then◌else◌}
+use Rattle.std.specs.Cmp.Lexicographic.{pointwise}
 use Rattle.std.specs.List.{flat_map}
 use Rattle.space.specs.Cells.{Cells, program_counter}
 use Rattle.space.specs.Places.{same_place}
@@ -61,10 +62,7 @@ abbrev pub is_equal : Written → Written → Bool
 is_equal a b = a.cell == b.cell && a.word == b.word
 
 abbrev pub same_written : List Written → List Written → Bool
-same_written [] [] = true
-same_written [] (b ∷ more) = false
-same_written (a ∷ more) [] = false
-same_written (a ∷ more) (b ∷ others) = is_equal a b && same_written more others
+same_written = pointwise is_equal
 
 -- a word that waited, as RESUME leaves it, is taken for one at its place
 abbrev pub same_step : MainStep → MainStep → Bool

@@ -70,7 +70,7 @@ fn is_followed(here: &Machine, there: &Machine, cell: Cell) -> bool
 }
 
 /// The first of some cells that is not the same.
-#[tactic(auto, using(crate::proofs::Among::among_found, crate::proofs::Among::among_more, crate::proofs::Among::among_end))]
+#[tactic(auto, using(crate::proofs::Among::among_steps))]
 fn first_among(here: &Machine, there: &Machine, cells: &[Cell]) -> Option<Cell>
     ensures { result ≡ first_among here.now.cells there.now.cells cells.now }
 {

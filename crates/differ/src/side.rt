@@ -206,7 +206,7 @@ fn round(before: &[MainStep], ahead: &[MainStep]) -> usize
 }
 
 /// Whether so many steps that follow are those before them.
-#[tactic(auto, using(crate::proofs::Again::again_more, crate::proofs::Again::again_not), unfolding(crate::specs::MainSteps::repeats))]
+#[tactic(auto, using(crate::proofs::Again::again_steps), unfolding(crate::specs::MainSteps::repeats))]
 fn repeats(before: &[MainStep], ahead: &[MainStep], count: usize) -> bool
     ensures { result ≡ repeats before.now ahead.now count }
 {

@@ -129,7 +129,7 @@ fn apart_after(step: u64, here: &Machine, there: &Machine) -> Option<CellApart>
 }
 
 /// The first cell that is not the same.
-#[tactic(auto, using(crate::proofs::Cells::first_found, crate::proofs::Cells::none_first, crate::proofs::Cells::none_more))]
+#[tactic(auto, using(crate::proofs::Cells::first_steps))]
 fn first_cell(here: &Machine, there: &Machine) -> Option<Cell>
     ensures { result ≡ first_cell here.now.cells there.now.cells 0o5000 }
 {

@@ -5,7 +5,7 @@ ghost use Rattle.arrayvec.specs.ArrayVec.{array_vec_len};
 ghost use Rattle.words.specs.Devices.{Writes, failures_after};
 ghost use Rattle.cpu.specs.Run.{run};
 ghost use Rattle.cpu.specs.State.{FitsRun, start};
-ghost use Rattle.differ.specs.DifferText.{differ_text, line_of, named, none_line, output_line, output_part};
+ghost use Rattle.differ.specs.DifferText.{Keeps, differ_text, line_of, named, none_line, output_line, output_part};
 ghost use Rattle.differ.specs.DifferText.{output_start, reading_text, state_line, state_part, step_line, step_part};
 ghost use Rattle.differ.specs.MainSteps as mains;
 ghost use Rattle.differ.specs.Outputs as outputs;
@@ -46,8 +46,7 @@ impl NamedRun {
         out: &mut W,
     ) -> Result<(), WriteFailed>
         requires few { number ≤ 2 ^ 40 - 2 }
-        ensures names { self.new.names ≡ self.old.names }
-        ensures scenario { self.new.processor.scenario ≡ self.old.processor.scenario }
+        ensures run { Keeps self.old self.new }
         ensures meter { self.new.processor.meter ≤ self.old.processor.meter + (number + 1) }
         ensures written { W.told ≡ true → Writes (W.written out.old) (W.written out.new)
             (step_line reads (named self.old) number) result }
@@ -73,8 +72,7 @@ impl NamedRun {
         out: &mut W,
     ) -> Result<(), WriteFailed>
         requires few { IfSome number (λ n. n ≤ 2 ^ 40 - 2) }
-        ensures names { self.new.names ≡ self.old.names }
-        ensures scenario { self.new.processor.scenario ≡ self.old.processor.scenario }
+        ensures run { Keeps self.old self.new }
         ensures written { W.told ≡ true → Writes (W.written out.old) (W.written out.new)
             (line_of reads (named self.old) number) result }
         ensures failures { W.failures out.new ≡ failures_after (W.failures out.old) result }
@@ -149,10 +147,8 @@ fn write_output<W: Write>(
     out: &mut W,
 ) -> Result<(), WriteFailed>
     requires few { steps ≤ 2 ^ 40 - 2 }
-    ensures names { one.new.names ≡ one.old.names }
-    ensures other_names { other.new.names ≡ other.old.names }
-    ensures scenario { one.new.processor.scenario ≡ one.old.processor.scenario }
-    ensures other_scenario { other.new.processor.scenario ≡ other.old.processor.scenario }
+    ensures one { Keeps one.old one.new }
+    ensures other { Keeps other.old other.new }
     ensures written { W.told ≡ true → Writes (W.written out.old) (W.written out.new)
         (output_part (named one.old) (named other.old) steps why
         (outputs.first_output one.old.processor.scenario other.old.processor.scenario steps)) result }
@@ -186,10 +182,8 @@ fn write_state<W: Write>(
     out: &mut W,
 ) -> Result<(), WriteFailed>
     requires few { steps ≤ 2 ^ 40 - 2 }
-    ensures names { one.new.names ≡ one.old.names }
-    ensures other_names { other.new.names ≡ other.old.names }
-    ensures scenario { one.new.processor.scenario ≡ one.old.processor.scenario }
-    ensures other_scenario { other.new.processor.scenario ≡ other.old.processor.scenario }
+    ensures one { Keeps one.old one.new }
+    ensures other { Keeps other.old other.new }
     ensures written { W.told ≡ true → Writes (W.written out.old) (W.written out.new)
         (state_part (named one.old) (named other.old) steps why
         (states.first_state one.old.processor.scenario other.old.processor.scenario steps)) result }
@@ -250,10 +244,8 @@ fn output_start(one: &mut NamedRun, other: &mut NamedRun, apart: &OutputsApart) 
     ensures start { result ≡ output_start (named one.old) (named other.old) apart.now.here apart.now.there }
     ensures at { IfSome result (λ f. f.here ≤ 2 ^ 40 - 2) }
     ensures other_at { IfSome result (λ f. f.there ≤ 2 ^ 40 - 2) }
-    ensures names { one.new.names ≡ one.old.names }
-    ensures other_names { other.new.names ≡ other.old.names }
-    ensures scenario { one.new.processor.scenario ≡ one.old.processor.scenario }
-    ensures other_scenario { other.new.processor.scenario ≡ other.old.processor.scenario }
+    ensures one { Keeps one.old one.new }
+    ensures other { Keeps other.old other.new }
 {
     match (apart.here, apart.there) {
         (Some(a), Some(b)) => from_steps(&mut one.processor, &mut other.processor, a, b),
@@ -273,10 +265,8 @@ pub(crate) fn write_lines<W: Write>(
 ) -> Result<(), WriteFailed>
     requires here { IfSome here (λ n. n ≤ 2 ^ 40 - 2) }
     requires there { IfSome there (λ n. n ≤ 2 ^ 40 - 2) }
-    ensures names { one.new.names ≡ one.old.names }
-    ensures other_names { other.new.names ≡ other.old.names }
-    ensures scenario { one.new.processor.scenario ≡ one.old.processor.scenario }
-    ensures other_scenario { other.new.processor.scenario ≡ other.old.processor.scenario }
+    ensures one { Keeps one.old one.new }
+    ensures other { Keeps other.old other.new }
     ensures written { W.told ≡ true → Writes (W.written out.old) (W.written out.new)
         (head.now ++ (line_of reads (named one.old) here ++ line_of reads (named other.old) there)) result }
     ensures failures { W.failures out.new ≡ failures_after (W.failures out.old) result }

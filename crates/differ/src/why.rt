@@ -5,7 +5,7 @@ ghost use Rattle.arrayvec.specs.ArrayVec.{array_vec_len};
 ghost use Rattle.words.specs.Devices.{Writes, failures_after};
 ghost use Rattle.cpu.specs.State.{FitsRun};
 ghost use Rattle.differ.specs.Causes.{same_text, way_text};
-ghost use Rattle.differ.specs.DifferText.{end_by, followed_on, link_part, named, next_after, next_of, number_text};
+ghost use Rattle.differ.specs.DifferText.{Keeps, end_by, followed_on, link_part, named, next_after, next_of, number_text};
 ghost use Rattle.differ.specs.DifferText.{part_line, why_line, why_part, why_text};
 
 use crate::causes::{Followed, first_read, following, last_writer};
@@ -25,10 +25,8 @@ pub(crate) fn write_asked<W: Write>(
 ) -> Result<(), WriteFailed>
     requires few { IfSome start (λ f. f.here ≤ 2 ^ 40 - 2) }
     requires other_few { IfSome start (λ f. f.there ≤ 2 ^ 40 - 2) }
-    ensures names { one.new.names ≡ one.old.names }
-    ensures other_names { other.new.names ≡ other.old.names }
-    ensures scenario { one.new.processor.scenario ≡ one.old.processor.scenario }
-    ensures other_scenario { other.new.processor.scenario ≡ other.old.processor.scenario }
+    ensures one { Keeps one.old one.new }
+    ensures other { Keeps other.old other.new }
     ensures written { W.told ≡ true → Writes (W.written out.old) (W.written out.new)
         (why_part (named one.old) (named other.old) why start) result }
     ensures failures { W.failures out.new ≡ failures_after (W.failures out.old) result }
@@ -51,10 +49,8 @@ fn write_why<W: Write>(
 ) -> Result<(), WriteFailed>
     requires few { start.here ≤ 2 ^ 40 - 2 }
     requires other_few { start.there ≤ 2 ^ 40 - 2 }
-    ensures names { one.new.names ≡ one.old.names }
-    ensures other_names { other.new.names ≡ other.old.names }
-    ensures scenario { one.new.processor.scenario ≡ one.old.processor.scenario }
-    ensures other_scenario { other.new.processor.scenario ≡ other.old.processor.scenario }
+    ensures one { Keeps one.old one.new }
+    ensures other { Keeps other.old other.new }
     ensures written { W.told ≡ true → Writes (W.written out.old) (W.written out.new)
         (why_text (named one.old) (named other.old) links start) result }
     ensures failures { W.failures out.new ≡ failures_after (W.failures out.old) result }
@@ -82,10 +78,8 @@ fn write_link<W: Write>(
 ) -> Result<Option<Followed>, WriteFailed>
     requires few { at.here ≤ 2 ^ 40 - 2 }
     requires other_few { at.there ≤ 2 ^ 40 - 2 }
-    ensures names { one.new.names ≡ one.old.names }
-    ensures other_names { other.new.names ≡ other.old.names }
-    ensures scenario { one.new.processor.scenario ≡ one.old.processor.scenario }
-    ensures other_scenario { other.new.processor.scenario ≡ other.old.processor.scenario }
+    ensures one { Keeps one.old one.new }
+    ensures other { Keeps other.old other.new }
     ensures written { W.told ≡ true → Writes (W.written out.old) (W.written out.new)
         (link_part (named one.old) (named other.old) at) result }
     ensures failures { W.failures out.new ≡ failures_after (W.failures out.old) result }
@@ -115,10 +109,8 @@ fn next_of(
     ensures next { result ≡ next_of (named one.old) (named other.old) cell here there }
     ensures at { IfSome result (λ f. f.here ≤ 2 ^ 40 - 2) }
     ensures other_at { IfSome result (λ f. f.there ≤ 2 ^ 40 - 2) }
-    ensures names { one.new.names ≡ one.old.names }
-    ensures other_names { other.new.names ≡ other.old.names }
-    ensures scenario { one.new.processor.scenario ≡ one.old.processor.scenario }
-    ensures other_scenario { other.new.processor.scenario ≡ other.old.processor.scenario }
+    ensures one { Keeps one.old one.new }
+    ensures other { Keeps other.old other.new }
 {
     match (here, there) {
         (Some(a), Some(b)) => followed_on(one, other, cell, a, b),
@@ -141,10 +133,8 @@ fn followed_on(
     ensures next { result ≡ followed_on (named one.old) (named other.old) cell a b }
     ensures at { IfSome result (λ f. f.here ≤ 2 ^ 40 - 2) }
     ensures other_at { IfSome result (λ f. f.there ≤ 2 ^ 40 - 2) }
-    ensures names { one.new.names ≡ one.old.names }
-    ensures other_names { other.new.names ≡ other.old.names }
-    ensures scenario { one.new.processor.scenario ≡ one.old.processor.scenario }
-    ensures other_scenario { other.new.processor.scenario ≡ other.old.processor.scenario }
+    ensures one { Keeps one.old one.new }
+    ensures other { Keeps other.old other.new }
 {
     let before = a.saturating_sub(1);
     let other_before = b.saturating_sub(1);

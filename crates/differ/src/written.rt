@@ -2,7 +2,7 @@
 
 ghost use Rattle.std.specs.Prelude.{◌≡◌, ◌≤◌, ◌<◌, ◌+◌, ◌++◌, length};
 ghost use Rattle.arrayvec.specs.ArrayVec.{array_vec_len};
-ghost use Rattle.differ.specs.MainSteps.{is_equal, same_written, written_at, written_by};
+ghost use Rattle.differ.specs.MainSteps.{same_written, written_at, written_by};
 
 use crate::states::reading;
 use arrayvec::ArrayVec;
@@ -10,7 +10,7 @@ use cpu::{Cell, Machine};
 use words::Wide;
 
 /// A cell that a step has written, with what is read there then.
-#[derive(Clone, Copy)]
+#[derive(Clone, Copy, PartialEq)]
 pub(crate) struct Written {
     pub(crate) cell: Cell,
     pub(crate) word: Wide,
@@ -57,24 +57,8 @@ fn keep_written(all: &mut AllWritten, machine: &Machine, cell: Cell)
 }
 
 /// Whether the same was written in the same cells.
-#[tactic(auto, using(crate::proofs::Same::same_more, crate::proofs::Same::same_not, crate::proofs::Same::same_end))]
 pub(crate) fn same_written(one: &[Written], other: &[Written]) -> bool
     ensures { result ≡ same_written one.now other.now }
 {
-    if one.len() != other.len() {
-        return false;
-    }
-    for index in 0..one.len() {
-        if !is_equal(one[index], other[index]) {
-            return false;
-        }
-    }
-    true
-}
-
-/// Whether two are the same.
-fn is_equal(one: Written, other: Written) -> bool
-    ensures { result ≡ is_equal one other }
-{
-    one.cell == other.cell && one.word == other.word
+    one == other
 }

@@ -6,10 +6,10 @@ ghost use Rattle.commands.specs.Commands.{erasable_number};
 ghost use Rattle.expect.specs.Lines.{condition_at, related_at, compared_at, ended_at, moved_at, with_cell, with_moved};
 
 use crate::claim::{Condition, Relation};
-use crate::fields::{begins_with_plus, erasable_number, moved_in, relation_in, value_in};
+use crate::fields::{begins_with_plus, moved_in, relation_in, value_in};
 use crate::refusal::{Asked, Wrong};
 use agc_text::split_field;
-use commands::named_place;
+use commands::{erasable_number, named_place};
 use space::{Eras, Linear};
 use symbols::Symbols;
 

@@ -1,7 +1,6 @@
 //! The fields of a text of tests.
 
 ghost use Rattle.std.specs.Prelude.{◌≡◌, ◌≤◌, length, option_and_then};
-ghost use Rattle.commands.specs.Commands.{erasable_number};
 ghost use Rattle.commands.specs.NamedPlaces.{words_on};
 ghost use Rattle.expect.specs.Fields.{decimal_in, moved_in, magnitude_in, relation_in, value_in};
 
@@ -10,7 +9,7 @@ use agc_text::{decimal, octal};
 use commands::moved_on;
 pub(crate) use commands::{begins_with_plus, channel_in, count_in, is_word};
 use feed::word_in;
-use space::{Eras, Linear};
+use space::Linear;
 use words::Word;
 
 /// The most digits of a decimal number.
@@ -27,16 +26,6 @@ pub(crate) fn moved_in(place: Linear, field: &[u8]) -> Option<Linear>
     match octal(&field[1..], OCTAL_DIGITS) {
         Some(words) => moved_on(words, place),
         None => None,
-    }
-}
-
-/// The number of an erasable place.
-pub(crate) fn erasable_number(place: Linear) -> Option<Eras>
-    ensures { result ≡ erasable_number place }
-{
-    match place {
-        Linear::Erasable(number) => Some(number),
-        Linear::Fixed(..) => None,
     }
 }
 

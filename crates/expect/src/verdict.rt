@@ -233,11 +233,11 @@ fn push_came(
     ensures len { array_vec_len text.new ≤ array_vec_len text.old + 90 }
 {
     match claim {
-        Claim::Calls(_, _) => push_times(text, seen),
+        Claim::Calls(_, _) => push_number(text, b"it is called ", seen, b" times"),
         Claim::CallsWithin(_, _) => push_long(text, seen),
         Claim::Notes(_) => {}
         Claim::Check => push_counts(text, known.errors, known.warnings),
-        Claim::Covered(_) => push_executed(text, known.executed),
+        Claim::Covered(_) => push_number(text, b"it executes ", known.executed, b" instructions"),
         _ => push_word_that_came(text, word),
     }
 }
@@ -249,68 +249,22 @@ fn push_counts(text: &mut FailureText, errors: u64, warnings: u64)
         ++ ((codes "check: errors " ++ decimal errors ++ codes ", warnings ") ++ (decimal warnings ++ codes ": ")) }
     ensures len { array_vec_len text.new ≤ array_vec_len text.old + 90 }
 {
-    push_errors(text, errors);
-    push_warnings(text, warnings);
+    push_number(text, b"check: errors ", errors, b", warnings ");
+    push_number(text, b"", warnings, b": ");
 }
 
-/// Appends how many errors `check` tells.
+/// Appends a number between two texts.
 #[tactic(auto, using(words::proofs::Digits::short_decimal))]
-fn push_errors(text: &mut FailureText, errors: u64)
-    requires { array_vec_len text.old ≤ 90 }
-    ensures items { text.new.items ≡ text.old.items
-        ++ (codes "check: errors " ++ decimal errors ++ codes ", warnings ") }
-    ensures len { array_vec_len text.new ≤ array_vec_len text.old + 50 }
+fn push_number(text: &mut FailureText, before: &[u8], number: u64, after: &[u8])
+    requires room { array_vec_len text.old ≤ 150 }
+    requires before { length before.now ≤ 20 }
+    requires after { length after.now ≤ 20 }
+    ensures items { text.new.items ≡ text.old.items ++ (before.now ++ (decimal number ++ after.now)) }
+    ensures len { array_vec_len text.new ≤ array_vec_len text.old + (length before.now + length after.now + 20) }
 {
-    push_all(text, b"check: errors ");
-    push_decimal(text, errors);
-    push_all(text, b", warnings ");
-}
-
-/// Appends how many warnings.
-#[tactic(auto, using(words::proofs::Digits::short_decimal))]
-fn push_warnings(text: &mut FailureText, warnings: u64)
-    requires { array_vec_len text.old ≤ 150 }
-    ensures items { text.new.items ≡ text.old.items ++ (decimal warnings ++ codes ": ") }
-    ensures len { array_vec_len text.new ≤ array_vec_len text.old + 40 }
-{
-    push_decimal(text, warnings);
-    push_all(text, b": ");
-}
-
-/// Appends how many instructions are executed.
-#[tactic(auto, using(words::proofs::Digits::short_decimal))]
-fn push_executed(text: &mut FailureText, executed: u64)
-    requires { array_vec_len text.old ≤ 90 }
-    ensures items { text.new.items ≡ text.old.items
-        ++ (codes "it executes " ++ decimal executed ++ codes " instructions") }
-    ensures len { array_vec_len text.new ≤ array_vec_len text.old + 50 }
-{
-    push_all(text, b"it executes ");
-    push_decimal(text, executed);
-    push_all(text, b" instructions");
-}
-
-/// Appends how many are wanted at least.
-#[tactic(auto, using(words::proofs::Digits::short_decimal))]
-fn push_least(text: &mut FailureText, least: u64)
-    requires { array_vec_len text.old ≤ 150 }
-    ensures items { text.new.items ≡ text.old.items ++ (decimal least ++ codes " or more") }
-    ensures len { array_vec_len text.new ≤ array_vec_len text.old + 40 }
-{
-    push_decimal(text, least);
-    push_all(text, b" or more");
-}
-
-/// Appends how often a routine is called.
-#[tactic(auto, using(words::proofs::Digits::short_decimal))]
-fn push_times(text: &mut FailureText, seen: u64)
-    requires { array_vec_len text.old ≤ 90 }
-    ensures items { text.new.items ≡ text.old.items ++ (codes "it is called " ++ decimal seen ++ codes " times") }
-    ensures len { array_vec_len text.new ≤ array_vec_len text.old + 40 }
-{
-    push_all(text, b"it is called ");
-    push_decimal(text, seen);
-    push_all(text, b" times");
+    push_all(text, before);
+    push_decimal(text, number);
+    push_all(text, after);
 }
 
 /// Appends that a routine is called for longer, or not at all.
@@ -388,10 +342,10 @@ fn push_wanted(text: &mut FailureText, claim: &Claim, came: Option<Word>)
             push_condition(text, condition)
         }
         Claim::Calls(_, times) => push_decimal(text, *times),
-        Claim::CallsWithin(_, most) => push_within(text, *most),
+        Claim::CallsWithin(_, most) => push_number(text, b"within ", *most, b" cycles"),
         Claim::Notes(_) => push_all(text, b"no other note"),
         Claim::Check => push_all(text, b"none"),
-        Claim::Covered(least) => push_least(text, *least),
+        Claim::Covered(least) => push_number(text, b"", *least, b" or more"),
     }
 }
 
@@ -402,7 +356,7 @@ fn push_sought(text: &mut FailureText, sought: &Sought, came: Option<Word>)
     ensures len { array_vec_len text.new ≤ array_vec_len text.old + 50 }
 {
     if is_that(sought.word, came) {
-        push_within(text, sought.within);
+        push_number(text, b"within ", sought.within, b" cycles");
     } else {
         push_word(text, sought.word);
     }
@@ -416,18 +370,6 @@ fn is_that(word: Word, came: Option<Word>) -> bool
         Some(came) => came == word,
         None => false,
     }
-}
-
-/// Appends how many cycles something may take.
-#[tactic(auto, using(words::proofs::Digits::short_decimal))]
-fn push_within(text: &mut FailureText, most: u64)
-    requires { array_vec_len text.old ≤ 150 }
-    ensures items { text.new.items ≡ text.old.items ++ (codes "within " ++ decimal most ++ codes " cycles") }
-    ensures len { array_vec_len text.new ≤ array_vec_len text.old + 40 }
-{
-    push_all(text, b"within ");
-    push_decimal(text, most);
-    push_all(text, b" cycles");
 }
 
 /// Appends a condition.

@@ -8,9 +8,9 @@ use Rattle.agc_text.specs.Tables.{same_name}
 use Rattle.yayul.specs.Flight.{is_count}
 use Rattle.yayul.specs.declared.language.Language.TheVariants.{Flight}
 use Rattle.yayul.specs.Readings.{Parts, parts_for}
-use Rattle.diagnostics.specs.Causes.{text_of}
-use Rattle.diagnostics.specs.Interpretive.{interpretive_operators, is_exit}
-use Rattle.diagnostics.specs.Warnings.{has_operator, is_instruction}
+use Rattle.warnings.specs.Fields.{text_of}
+use Rattle.diagnostics.specs.Interpretive.{has_operator, interpretive_operators, is_exit}
+use Rattle.warnings.specs.Warnings.{is_instruction}
 
 -- ## Lines
 -- the last two bytes of a text

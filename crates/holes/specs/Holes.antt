@@ -82,7 +82,7 @@ unfoldable pub hole_row : Words → ℕ × ℕ → List ℕ
 hole_row words place = codes "# HOLE " ++ word_columns words place.0 place.1 ++ codes "\n"
 
 -- the comments of some places
-unfoldable pub hole_rows : Words → List (ℕ × ℕ) → List ℕ
+abbrev pub hole_rows : Words → List (ℕ × ℕ) → List ℕ
 hole_rows words places = flat_map (hole_row words) places
 
 -- how many holes there are

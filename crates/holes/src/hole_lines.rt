@@ -9,7 +9,8 @@ ghost use Rattle.holes.specs.HoleLines.{before_last_two, inside_after, is_count_
 ghost use Rattle.holes.specs.HoleLines.{is_offset, is_operand, last_two};
 
 use agc_text::{Field, before_comment, split_field};
-use diagnostics::{has_interpretive_operator, is_exit, is_instruction};
+use diagnostics::{has_interpretive_operator, is_exit};
+use warnings::is_instruction;
 use yayul::{Reading, is_count};
 
 /// How many bytes an index register takes.

@@ -6,7 +6,7 @@ ghost use Rattle.agc_text.specs.Lines.{lines};
 ghost use Rattle.agc_text.specs.Views.{piece};
 ghost use Rattle.yayul.specs.Readings.{parts_for, parts_in};
 ghost use Rattle.yayul.specs.declared.language.Language.TheVariants.{Flight};
-ghost use Rattle.diagnostics.specs.Causes.{text_of};
+ghost use Rattle.warnings.specs.Fields.{text_of};
 ghost use Rattle.holes.specs.HoleLines.{has_holes, hole_line, inside_after, line_with_hole, lines_with_holes};
 ghost use Rattle.holes.specs.HoleLines.{source_with_holes};
 

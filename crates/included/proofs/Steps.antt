@@ -147,3 +147,9 @@ pub takes_joined : (files : Files) (levels file : ℕ) (around inner : List ℕ)
 takes_joined files levels file around inner place s u t line feed name text result some named there inners at told =
     tells_as (take_line (include files levels around) place s line feed) (join_lines (include files (levels - 1) inner) true file 0 u (lines text)) t
     result (rw (sym named, there.1, inners, at) (includes_lines files levels around place s name text some there.0)) told
+
+pub ruleset text_steps = (some_level, text_barred, text_missing, text_there, text_large)
+
+pub ruleset joins_steps = (joins_none, joins_next, joins_unjoined, tells_as)
+
+pub ruleset dots_steps = (dots_none, dots_found, dots_passed)

@@ -164,3 +164,7 @@ on_ok (Err e) next is = is
 pub four_more : (o a b c d w x y z : List ℕ) → a ≡ o ++ w → b ≡ a ++ x → c ≡ b ++ y → d ≡ c ++ z → d ≡ o ++ (((w ++ x) ++ y) ++ z)
 four_more o a b c d w x y z first second third fourth =
     append-then o c d ((w ++ x) ++ y) z (append-then o b c (w ++ x) y (append-then o a b w x first second) third) fourth
+
+pub ruleset mark_steps = (mark_none, mark_found, mark_passed)
+
+pub ruleset folder_steps = (folder_none, folder_ends, folder_goes_on)

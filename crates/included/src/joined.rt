@@ -127,7 +127,7 @@ impl Joined {
     }
 
     // The text of the file of a name, which then begins.
-    #[tactic(auto, using(crate::proofs::Steps::some_level, crate::proofs::Steps::text_barred, crate::proofs::Steps::text_missing, crate::proofs::Steps::text_there, crate::proofs::Steps::text_large))]
+    #[tactic(auto, using(crate::proofs::Steps::text_steps))]
     fn begin<D: Texts>(
         &mut self,
         files: &D,
@@ -243,7 +243,7 @@ pub fn join<D: Texts>(
 
 /// Joins the lines of a file.
 #[cycle(joining)]
-#[tactic(auto, using(crate::proofs::Steps::joins_none, crate::proofs::Steps::joins_next, crate::proofs::Steps::joins_unjoined, crate::proofs::Steps::tells_as))]
+#[tactic(auto, using(crate::proofs::Steps::joins_steps))]
 fn join_lines<D: Texts>(
     files: &D,
     alloc: Global,

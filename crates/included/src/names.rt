@@ -60,7 +60,7 @@ fn is_rooted(name: &[u8]) -> bool
 }
 
 /// Whether two dots stand together.
-#[tactic(auto, using(crate::proofs::Steps::dots_none, crate::proofs::Steps::dots_found, crate::proofs::Steps::dots_passed))]
+#[tactic(auto, using(crate::proofs::Steps::dots_steps))]
 fn doubles_dot(name: &[u8]) -> bool
     ensures { result ≡ doubles_dot false name.now }
 {

@@ -99,7 +99,7 @@ pub(crate) fn line_after<'a>(
 }
 
 /// Where some bytes first stand in a text.
-#[tactic(auto, using(crate::proofs::Turns::mark_none, crate::proofs::Turns::mark_found, crate::proofs::Turns::mark_passed))]
+#[tactic(auto, using(crate::proofs::Turns::mark_steps))]
 fn mark_at(mark: &[u8], text: &[u8]) -> Option<usize>
     ensures place { result ≡ mark_at mark.now text.now 0 }
     ensures within { IfSome result (λ n. n + length mark.now ≤ length text.now) }

@@ -25,7 +25,7 @@ pub fn path_beside(alloc: Global, source: &[u8], name: &[u8]) -> Result<Vec<u8>,
 }
 
 /// How many bytes of a path stand up to its last slash.
-#[tactic(auto, using(crate::proofs::Turns::folder_none, crate::proofs::Turns::folder_ends, crate::proofs::Turns::folder_goes_on))]
+#[tactic(auto, using(crate::proofs::Turns::folder_steps))]
 fn folder_length(path: &[u8]) -> usize
     ensures value { result ≡ folder_length path.now (length path.now) }
     ensures within { result ≤ length path.now }

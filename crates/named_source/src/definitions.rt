@@ -6,7 +6,7 @@ ghost use Rattle.named_source.specs.NamedSources.{labels_of, name_lines, no_labe
 ghost use Rattle.named_source.specs.GivenBack.{is_written};
 
 use crate::label::is_label;
-use crate::lines::Line;
+use crate::lines::{Appended, Line};
 use arrayvec::ArrayVec;
 use space::{Bank, Eras, Linear, Offset};
 use std::alloc::{AllocError, Global};
@@ -30,7 +30,7 @@ pub(crate) fn labels_of(alloc: Global, names: &Symbols) -> Result<Symbols, Alloc
 }
 
 /// Adds a name, where it may be a label.
-fn add_label(labels: &mut Symbols, name: &[u8], value: Value) -> Result<(), AllocError>
+fn add_label(labels: &mut Symbols, name: &[u8], value: Value) -> Appended
     requires { length name.now ≤ 8 }
     ensures { IfOk result (λ _. labels.new ≡ with_label labels.old (name.now, value)) }
 {
@@ -46,7 +46,7 @@ pub(crate) fn push_names(
     labels: &PlaceNames,
     names: &Symbols,
     asked: &Option<Bank>,
-) -> Result<(), AllocError>
+) -> Appended
     ensures { IfOk result (λ _. out.new.items ≡ out.old.items ++ all_names labels.now asked.now names.now) }
 {
     for index in 0..names.len() {

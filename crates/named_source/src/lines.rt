@@ -27,13 +27,16 @@ pub(crate) const LINE: usize = 64;
 
 pub(crate) type Line = ArrayVec<u8, LINE>;
 
+/// What comes of appending: memory may run out.
+pub(crate) type Appended = Result<(), AllocError>;
+
 /// Appends the lines of one bank, or of all by their numbers.
 pub(crate) fn push_banks(
     out: &mut Vec<u8>,
     labels: &PlaceNames,
     rope: &Rope,
     bank: &Option<Bank>,
-) -> Result<(), AllocError>
+) -> Appended
     ensures { IfOk result (λ _. out.new.items ≡ out.old.items ++ said_banks labels.now rope.now bank.now) }
 {
     match bank {
@@ -43,7 +46,7 @@ pub(crate) fn push_banks(
 }
 
 /// Appends the lines of all banks.
-fn push_all_banks(out: &mut Vec<u8>, labels: &PlaceNames, rope: &Rope) -> Result<(), AllocError>
+fn push_all_banks(out: &mut Vec<u8>, labels: &PlaceNames, rope: &Rope) -> Appended
     ensures { IfOk result (λ _. out.new.items
         ≡ out.old.items ++ flat_map (said_bank labels.now rope.now) (range_with_len 0 banks)) }
 {
@@ -54,12 +57,7 @@ fn push_all_banks(out: &mut Vec<u8>, labels: &PlaceNames, rope: &Rope) -> Result
 }
 
 /// Appends the lines of a bank.
-fn push_bank(
-    out: &mut Vec<u8>,
-    labels: &PlaceNames,
-    rope: &Rope,
-    bank: Bank,
-) -> Result<(), AllocError>
+fn push_bank(out: &mut Vec<u8>, labels: &PlaceNames, rope: &Rope, bank: Bank) -> Appended
     ensures { IfOk result (λ _. out.new.items ≡ out.old.items ++ said_bank labels.now rope.now bank) }
 {
     out.extend_from_slice(bank_line(bank).as_slice())?;
@@ -68,12 +66,7 @@ fn push_bank(
 }
 
 /// Appends the lines of a bank's words.
-fn push_words(
-    out: &mut Vec<u8>,
-    labels: &PlaceNames,
-    rope: &Rope,
-    bank: Bank,
-) -> Result<(), AllocError>
+fn push_words(out: &mut Vec<u8>, labels: &PlaceNames, rope: &Rope, bank: Bank) -> Appended
     ensures { IfOk result (λ _. out.new.items
         ≡ out.old.items ++ flat_map (said_line labels.now rope.now bank) (range_with_len 0 bank_words)) }
 {

@@ -3,7 +3,6 @@
 ghost use Rattle.std.specs.Prelude.{◌≡◌, ◌+◌, ◌-◌, ◌<◌, ◌≤◌, ◌^◌, IfOk, None, if◌then◌else◌, false, true};
 ghost use Rattle.cpu.specs.declared.account.Account.TheVariants.{Place};
 ghost use Rattle.cpu.specs.declared.next_step.NextStep.TheVariants.{Executes};
-ghost use Rattle.cpu.specs.Bursts.{IsQuiet};
 ghost use Rattle.cpu.specs.Next.{next};
 ghost use Rattle.cpu.specs.NextStep.{next_step};
 ghost use Rattle.cpu.specs.Run.{run};
@@ -23,7 +22,7 @@ use crate::past::Past;
 use crate::quiet::{is_plain, is_plain_step, plain_fetched, reaches_in};
 use crate::step::{account_of, happens};
 use crate::waits::Waits;
-use cover::number_of;
+use cover::{Recorder, number_of, record_plain_steps};
 use cpu::{Account, Fetched, Machine, NextStep, Processor};
 use space::Linear;
 use std::alloc::{AllocError, Global};
@@ -228,71 +227,7 @@ impl Notebook {
         ensures silent { IsSilent processor.old.scenario done result }
         ensures counted { Counted self.old.named processor.old.scenario result self.new }
     {
-        match processor.quiet_steps(machine) {
-            Some(room) => {
-                let end = done + room.min(stop - done);
-                let at = self.note_quiet_steps(processor, machine, done, end);
-                processor.count(at - done);
-                at
-            }
-            None => done,
-        }
-    }
-
-    /// The same up to a step before which all are quiet.
-    #[inline(always)]
-    fn note_quiet_steps(
-        &mut self,
-        processor: &Processor,
-        machine: &mut Machine,
-        done: u64,
-        end: u64,
-    ) -> u64
-        requires within { done ≤ end }
-        requires few { end ≤ 2 ^ 40 }
-        requires quiet { IsQuiet processor.now.scenario machine.old (end - done) }
-        requires state { machine.old ≡ run processor.now.scenario done }
-        requires counted { Counted self.old.named processor.now.scenario done self.old }
-        ensures past { done ≤ result }
-        ensures within { result ≤ end }
-        ensures state { machine.new ≡ run processor.now.scenario result }
-        ensures silent { IsSilent processor.now.scenario done result }
-        ensures counted { Counted self.old.named processor.now.scenario result self.new }
-    {
-        let mut at = done;
-        while at < end {
-            if !self.make_plain(processor, machine, end - at) {
-                return at;
-            }
-            at += 1;
-        }
-        at
-    }
-
-    /// Makes the next step, of so many quiet ones, and notes it, where it is plain, and nothing is told of it but that
-    /// another bank is reached; else leaves all as it is.
-    #[inline(always)]
-    fn make_plain(&mut self, processor: &Processor, machine: &mut Machine, quiet: u64) -> bool
-        requires quiet { IsQuiet processor.now.scenario machine.old quiet }
-        requires some { 1 ≤ quiet }
-        requires cycles { machine.old.cycles ≤ 2 ^ 62 }
-        requires small { AreSmall self.old }
-        ensures left { result ≡ false → machine.new ≡ machine.old }
-        ensures same { result ≡ false → self.new ≡ self.old }
-        ensures made { result ≡ true → (machine.new, None) ≡ next processor.now.scenario machine.old }
-        ensures notes { result ≡ true → Notes processor.now.scenario machine.old self.old self.new }
-        ensures quiet { result ≡ true → IsQuiet processor.now.scenario machine.new (quiet - 1) }
-    {
-        let fetched = processor.fetched(machine, quiet);
-        if !is_plain(processor, machine, &self.past, &fetched) {
-            return false;
-        }
-        let reaches = reaches_other(&self.named, machine, &fetched);
-        if !processor.make_plain(machine, fetched.word, quiet) {
-            return false;
-        }
-        self.count_plain(fetched.place, reaches);
-        true
+        record_plain_steps(self, processor, machine, done, stop)
     }
 
     /// Notes what happens in the next step, which may be any.
@@ -511,6 +446,35 @@ impl Notebook {
             shared,
             fixed_banks,
         }
+    }
+}
+
+impl Recorder for Notebook {
+    type Kept = NamedPlaces;
+
+    ghost kept = { λ book. book.named };
+
+    ghost Stands = { λ named scenario n book. Counted named scenario n book };
+
+    #[inline(always)]
+    fn record_plain(
+        &mut self,
+        processor: &Processor,
+        machine: &mut Machine,
+        done: u64,
+        quiet: u64,
+    ) -> bool {
+        let _ = done;
+        let fetched = processor.fetched(machine, quiet);
+        if !is_plain(processor, machine, &self.past, &fetched) {
+            return false;
+        }
+        let reaches = reaches_other(&self.named, machine, &fetched);
+        if !processor.make_plain(machine, fetched.word, quiet) {
+            return false;
+        }
+        self.count_plain(fetched.place, reaches);
+        true
     }
 }
 

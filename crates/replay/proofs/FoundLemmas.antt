@@ -9,7 +9,7 @@ use Rattle.replay.specs.View.{SessionView, IsOfRun, IsSound}
 use Rattle.replay.specs.LastHit.{HasSought, last_hit, first_hit}
 use Rattle.replay.specs.Found.{or_other, last_between, last_found, first_found, found_if}
 use Rattle.replay.proofs.StayingLemmas.{stays_covers}
-use Rattle.replay.proofs.SessionLemmas.{shown_sound}
+use Rattle.replay.proofs.SessionLemmas.{shown_sound, shown_same, with_shown}
 
 -- one step more
 pub between_next : (find : ℕ → Option ℕ) (low at : ℕ) (last : Option (ℕ × ℕ)) (found : Option ℕ) → low ≤ at
@@ -55,13 +55,10 @@ pub has_found : (old s : SessionView) (p : ℕ) (r : Option (ℕ × ℕ)) (scena
     → p ≤ s.n → scenario ≡ s.scenario → meter < 2 ^ 128 → s.meter ≤ meter → IsOfRun s.scenario s.n shown
     → IfSome r (λ t. t.0 < p)
     → IfSome r (λ t. (c : ℕ) → Contains (steps s.images) c → c ≤ t.0 → meter + c ≤ s.meter + p) → IfNone r (meter ≤ s.meter + p)
-    → HasSought old p (option_map (λ t. t.0) r) (record
-    { scenario = scenario; meter = meter; images = s.images; present = s.present; shown = shown; n = s.n })
+    → HasSought old p (option_map (λ t. t.0) r) (with_shown s scenario shown meter)
 has_found old s p None scenario shown meter is sound early same metered least of_run below found none = rw (← is) (record {
   stands = (shown_sound s scenario shown meter sound same metered of_run).stands;
-  same = ap (λ (q : Scenario). let m : SessionView = record
-      { scenario = q; meter = meter; images = s.images; present = s.present; shown = shown; n = s.n } in m)
-      same;
+  same = shown_same s scenario shown meter same;
   least = least;
   found = tt;
   none = none;
@@ -71,9 +68,7 @@ has_found old s p (Some t) scenario shown meter is sound early same metered leas
     let cost = found c.0 c.1 c.2 in
     rw (← is) (record {
       stands = (shown_sound s scenario shown meter sound same metered of_run).stands;
-      same = ap (λ (q : Scenario). let m : SessionView = record
-          { scenario = q; meter = meter; images = s.images; present = s.present; shown = shown; n = s.n } in
-          m) same;
+      same = shown_same s scenario shown meter same;
       least = least;
       found = omega (arith, c.3);
       none = tt;

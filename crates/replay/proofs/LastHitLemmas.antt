@@ -1,10 +1,11 @@
-use Rattle.std.proofs.Common.{◌≡◌, ℕ, ◌+◌, ◌-◌, ◌≤◌, Bool, true, false, cond, Option, Some, None, inl, inr}
-use Rattle.std.proofs.Common.{sym, ap, arith}
+use Rattle.std.proofs.Common.{◌≡◌, ℕ, ◌+◌, ◌≤◌, Bool, true, false, cond, Option, Some, None, inl, inr}
+use Rattle.std.proofs.Common.{sym, arith}
 use Rattle.std.proofs.lemmas.Bool.{cases_lt}
 use Rattle.cpu.specs.State.{Scenario}
 use Rattle.replay.specs.Images.{Image}
 use Rattle.replay.specs.View.{SessionView}
 use Rattle.replay.specs.LastHit.{IsLastHit, HasSearched}
+use Rattle.replay.proofs.SessionLemmas.{shown_same, with_shown}
 
 -- with one more step, which is a hit or not
 pub last_more : (hit : ℕ → Bool) (low k : ℕ) (last : Option ℕ) (b : Bool) → low ≤ k → IsLastHit hit low k last → b ≡ hit k
@@ -31,11 +32,9 @@ last_none hit low = λ u above below. absurd (omega arith)
 -- what a search on leaves
 pub has_searched : (old s : SessionView) (scenario : Scenario) (shown : Image) (meter : ℕ) → s ≡ old → scenario ≡ s.scenario
     → s.meter ≤ meter → meter ≤ s.meter + s.n
-    → HasSearched old (record { scenario = scenario; meter = meter; images = s.images; present = s.present; shown = shown; n = s.n })
+    → HasSearched old (with_shown s scenario shown meter)
 has_searched old s scenario shown meter is same least most = rw (← is) (record {
-  same = ap (λ (q : Scenario). let m : SessionView = record
-      { scenario = q; meter = meter; images = s.images; present = s.present; shown = shown; n = s.n } in m)
-      same;
+  same = shown_same s scenario shown meter same;
   least = least;
   most = most;
 })

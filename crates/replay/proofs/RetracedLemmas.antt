@@ -1,5 +1,5 @@
 -- Steps that are made once more, one after another.
-use Rattle.std.proofs.Common.{◌≡◌, ℕ, zero, suc, ◌+◌, ◌-◌, ◌<◌, ◌≤◌, List, [], ◌++◌, refl, sym, ap, ◌∙◌, arith, append-nil, add-one}
+use Rattle.std.proofs.Common.{◌≡◌, ℕ, zero, suc, ◌+◌, ◌-◌, ◌<◌, ◌≤◌, List, ◌++◌, refl, sym, ap, arith, append-nil}
 use Rattle.words.specs.Devices.{WritesBeginning}
 use Rattle.words.proofs.Texts.{append-then, beginning-after, beginning-longer}
 use Rattle.cpu.specs.State.{State, Scenario}
@@ -7,6 +7,7 @@ use Rattle.cpu.specs.Run.{run}
 use Rattle.replay.specs.Retraced.{texts_after, HasRetraced}
 use Rattle.replay.specs.Images.{Image}
 use Rattle.replay.specs.View.{SessionView}
+use Rattle.replay.proofs.SessionLemmas.{shown_same, with_shown}
 
 module _ (text : ℕ → State → List ℕ) (scenario : Scenario) (low : ℕ) where
   -- none yet
@@ -47,19 +48,9 @@ module _ (text : ℕ → State → List ℕ) (scenario : Scenario) (low : ℕ) w
 -- what a session has left then
 pub has_retraced : (old s : SessionView) (low count : ℕ) (scenario : Scenario) (shown : Image) (meter : ℕ) → s ≡ old → scenario ≡ s.scenario
     → s.meter ≤ meter → meter + low ≤ s.meter + s.n + count → (s.shown.0 ≤ low → meter + s.shown.0 ≤ s.meter + low + count)
-    → HasRetraced old low count (record {
-      scenario = scenario;
-      meter = meter;
-      images = s.images;
-      present = s.present;
-      shown = shown;
-      n
-          = s.n;
-    })
+    → HasRetraced old low count (with_shown s scenario shown meter)
 has_retraced old s low count scenario shown meter is same least most on = rw (← is) (record {
-  same = ap (λ (q : Scenario). let m : SessionView = record
-      { scenario = q; meter = meter; images = s.images; present = s.present; shown = shown; n = s.n } in m)
-      same;
+  same = shown_same s scenario shown meter same;
   least = least;
   most = most;
   on = on;

@@ -5,7 +5,7 @@ use Rattle.std.specs.List.{Contains}
 use Rattle.std.proofs.lemmas.Bool.{cases_lt}
 use Rattle.std.proofs.lemmas.List.{length-map, map-append}
 use Rattle.std.proofs.lemmas.List.Elements.{All-contains, All-push, Contains-append_left, Contains-get_or, Contains-push}
-use Rattle.cpu.specs.State.{State, Scenario, start, FitsRun}
+use Rattle.cpu.specs.State.{State, Scenario, Processing, start, FitsRun}
 use Rattle.cpu.specs.Next.{next}
 use Rattle.cpu.specs.Run.{run, out}
 use Rattle.cpu.specs.declared.output.Output.{Output}
@@ -19,6 +19,17 @@ use Rattle.replay.specs.View.{SessionView, Stands, IsOfRun, AreOfRun, AreImages,
 use Rattle.replay.proofs.FewImages.{Rises, Fits-staying, Fits-start}
 use Rattle.replay.proofs.StepLemmas.{contains_none, contains_push_cases}
 use Rattle.replay.proofs.StayingLemmas.{stays_covers}
+
+-- what a session is seen as, by its fields
+abbrev pub view_of : Processing → List Image → State → ℕ → State → ℕ → SessionView
+view_of processor images present step machine n = record {
+  scenario = processor.scenario;
+  meter = processor.meter;
+  images = images;
+  present = present;
+  shown = (step, machine);
+  n = n;
+}
 
 pub Rises-steps : (images : List Image) → IsRising images → Rises (steps images)
 Rises-steps [] h = tt
@@ -80,21 +91,23 @@ of_run_after scenario n images kept thinned s of_run is e part k d below =
     let i = get_or thinned k d in
     All-contains (λ (i : Image). i.1 ≡ run scenario i.0) kept i all (part i (Contains-get_or thinned k d below))
 
--- a step of the machine that stands at the state after k steps
+-- a step of the machine that stands at the state after k steps, and what it puts out
+made : (scenario : Scenario) (k : ℕ) (before after : State) (output : Option Output) → k < 2 ^ 40 → before ≡ run scenario k
+    → (before.cycles ≤ 2 ^ 62 → FitsRun scenario before → (after, output) ≡ next scenario before)
+    → (after, output) ≡ next scenario (run scenario k)
+made scenario k before after output low is step =
+    let e = ap (λ (s : State). s.cycles) is in
+    step (omega (arith, cycles-run scenario k)) (rw is (run-fits scenario k)) ∙ ap (next scenario) is
+
 pub steps_on : (scenario : Scenario) (k : ℕ) (before after : State) (output : Option Output) → k < 2 ^ 40 → before ≡ run scenario k
     → (before.cycles ≤ 2 ^ 62 → FitsRun scenario before → (after, output) ≡ next scenario before) → after ≡ run scenario (k + 1)
 steps_on scenario k before after output low is step =
-    let e = ap (λ (s : State). s.cycles) is in
-    ap (λ (p : State × Option Output). p.0) (step (omega (arith, cycles-run scenario k)) (rw is (run-fits scenario k)))
-    ∙ ap (λ (s : State). (next scenario s).0) is ∙ sym (run-add-one scenario k)
+    ap (λ (p : State × Option Output). p.0) (made scenario k before after output low is step) ∙ sym (run-add-one scenario k)
 
--- and what it puts out
 pub puts_out : (scenario : Scenario) (k : ℕ) (before after : State) (output : Option Output) → k < 2 ^ 40 → before ≡ run scenario k
     → (before.cycles ≤ 2 ^ 62 → FitsRun scenario before → (after, output) ≡ next scenario before) → output ≡ out scenario (k + 1)
 puts_out scenario k before after output low is step =
-    let e = ap (λ (s : State). s.cycles) is in
-    ap (λ (p : State × Option Output). p.1) (step (omega (arith, cycles-run scenario k)) (rw is (run-fits scenario k)))
-    ∙ ap (λ (s : State). (next scenario s).1) is ∙ sym (out-add-one scenario k)
+    ap (λ (p : State × Option Output). p.1) (made scenario k before after output low is step) ∙ sym (out-add-one scenario k)
 
 -- a step further, with the images thinned
 pub goes_sound : (s : SessionView) (after : State) (output : Option Output) (scenario : Scenario) (kept thinned : List Image) (meter : ℕ)
@@ -114,10 +127,18 @@ goes_sound s after output scenario kept thinned meter sound low same metered is 
   metered = metered;
 })
 
+-- a session that shows another machine, after so many steps in all
+abbrev pub with_shown : SessionView → Scenario → Image → ℕ → SessionView
+with_shown s scenario shown meter = record
+    { scenario = scenario; meter = meter; images = s.images; present = s.present; shown = shown; n = s.n }
+
+pub shown_same : (s : SessionView) (scenario : Scenario) (shown : Image) (meter : ℕ) → scenario ≡ s.scenario
+    → with_shown s scenario shown meter ≡ with_shown s s.scenario shown meter
+shown_same s scenario shown meter same = ap (λ (q : Scenario). with_shown s q shown meter) same
+
 -- a session stays sound where only the shown machine and the meter change
 pub shown_sound : (s : SessionView) (scenario : Scenario) (shown : Image) (meter : ℕ) → IsSound s → scenario ≡ s.scenario → meter < 2 ^ 128
-    → IsOfRun s.scenario s.n shown → IsSound (record
-    { scenario = scenario; meter = meter; images = s.images; present = s.present; shown = shown; n = s.n })
+    → IsOfRun s.scenario s.n shown → IsSound (with_shown s scenario shown meter)
 shown_sound s scenario shown meter sound same metered of_run = rw same (record {
   stands = record { within = sound.stands.within; present = sound.stands.present; shown = of_run; few = sound.stands.few };
   of_run = sound.of_run;
@@ -129,16 +150,14 @@ shown_sound s scenario shown meter sound same metered of_run = rw same (record {
 pub has_shown : (old s : SessionView) (t : ℕ) (scenario : Scenario) (shown : Image) (meter : ℕ) → s ≡ old → IsSound s → t < s.n
     → scenario ≡ s.scenario → meter < 2 ^ 128 → s.meter ≤ meter → ((c : ℕ) → Contains (steps s.images) c → c ≤ t → meter + c ≤ s.meter + t)
     → shown.0 ≡ t → shown.1 ≡ run s.scenario t → (s.shown.0 ≤ t → meter + s.shown.0 ≤ s.meter + t)
-    → HasShown old t (record { scenario = scenario; meter = meter; images = s.images; present = s.present; shown = shown; n = s.n })
+    → HasShown old t (with_shown s scenario shown meter)
 has_shown old s t scenario shown meter is sound early same metered least most at of_run on =
     let c = stays_covers s.n (steps s.images) sound.staying t early in
     let cost = most c.0 c.1 c.2 in
     rw (← is) (record {
       stands = (shown_sound s scenario shown meter sound same metered
           (omega (arith, at, early), of_run ∙ ap (run s.scenario) (sym at))).stands;
-      same = ap (λ (p : Scenario). let q : SessionView = record
-          { scenario = p; meter = meter; images = s.images; present = s.present; shown = shown; n = s.n } in
-          q) same;
+      same = shown_same s scenario shown meter same;
       unchanged = λ late. absurd (omega arith);
       least = least;
       cheap = λ _. omega (arith, c.3);

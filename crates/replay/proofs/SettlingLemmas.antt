@@ -1,14 +1,13 @@
 -- Which images stay at a step that was reached by many steps at once.
 use Rattle.std.specs.Int.{◌∣◌}
-use Rattle.std.proofs.Common.{◌≡◌, ℕ, zero, suc, ◌+◌, ◌-◌, ◌*◌, ◌/◌, ◌^◌, ◌<◌, ◌≤◌, ◌↔◌, ◌≢◌, ◌⊎◌, List, true, inl, inr, refl, arith}
+use Rattle.std.proofs.Common.{◌≡◌, ℕ, zero, suc, ◌+◌, ◌-◌, ◌*◌, ◌/◌, ◌^◌, ◌<◌, ◌≤◌, ◌↔◌, ◌⊎◌, List, inl, inr, refl, arith}
 use Rattle.std.proofs.Math.Nat.{pow-succ', one-dvd}
 use Rattle.std.proofs.lemmas.Nat.Gcd.{dvd-zero}
 use Rattle.std.proofs.lemmas.Bool.{cases_lt}
 use Rattle.std.proofs.lemmas.Nat.{pow_pos}
 use Rattle.std.specs.List.{filter, Contains}
-use Rattle.std.proofs.lemmas.Bool.Decides.{nat_tests}
 use Rattle.replay.specs.Spacing.{Stays, AreStaying, IsNeeded, IsPrevious}
-use Rattle.replay.proofs.StepLemmas.{other, contains_filter, contains_filter_back}
+use Rattle.replay.proofs.StepLemmas.{other, is_other, not_other, contains_filter, contains_filter_back}
 use Rattle.replay.proofs.StayingLemmas.{divides, doubles}
 use Rattle.std.proofs.Common.{[], ◌∷◌, ◌++◌, length, get_or}
 use Rattle.std.proofs.lemmas.List.{length-map, map-append}
@@ -85,17 +84,15 @@ pub thinned_to_goes : (n last at step : ℕ) (old kept : List ℕ) → IsThinned
 thinned_to_goes n last at step old kept thinned previous goes =
     let back = contains_filter (other step) kept in
     let on = contains_filter_back (other step) kept in
-    let is_other : (x : ℕ) → x ≢ step → other step x ≡ true = λ x ne. grind (arith, nat_tests) in
-    let not_step : (x : ℕ) → other step x ≡ true → x ≢ step = λ x t e. grind (arith, nat_tests) in
     record {
       part = λ c h. thinned.part c (back c h).0;
       left = λ c h late. elim (cases_lt c at) [
-        | inl below ↦ absurd (not_step c (back c h).1 (omega (arith, previous.greatest c (back c h).0 below)))
+        | inl below ↦ absurd (not_other step c (back c h).1 (omega (arith, previous.greatest c (back c h).0 below)))
         | inr above ↦ thinned.left c (back c h).0 above
       ];
       full = λ c h either. elim either [
-        | inl below ↦ on c (thinned.full c h (inl (omega (arith, previous.before)))) (is_other c (omega arith))
-        | inr is ↦ on c (thinned.full c h (inr is)) (is_other c (λ e. goes (rw e at is.0) (rw e at is.1)))
+        | inl below ↦ on c (thinned.full c h (inl (omega (arith, previous.before)))) (is_other step c (omega arith))
+        | inr is ↦ on c (thinned.full c h (inr is)) (is_other step c (λ e. goes (rw e at is.0) (rw e at is.1)))
       ];
     }
 

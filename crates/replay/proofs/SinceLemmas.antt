@@ -8,7 +8,7 @@ use Rattle.replay.specs.View.{SessionView, IsOfRun, IsSound}
 use Rattle.replay.specs.Since.{HasSoughtSince}
 use Rattle.replay.specs.Found.{or_other, last_between}
 use Rattle.replay.proofs.StayingLemmas.{stays_covers}
-use Rattle.replay.proofs.SessionLemmas.{shown_sound}
+use Rattle.replay.proofs.SessionLemmas.{shown_sound, shown_same, with_shown}
 
 some_by : (at at' : ℕ) (r : ℕ × ℕ) (found : Option ℕ) (some all : Option (ℕ × ℕ)) → at ≡ at' → or_other at found some ≡ Some r
     → (some ≡ Some r → all ≡ Some r) → or_other at' found all ≡ Some r
@@ -68,13 +68,11 @@ pub has_found_since : (old s : SessionView) (first p : ℕ) (r : Option (ℕ × 
     → IfSome r (λ t. (c : ℕ) → Contains (steps s.images) c → c ≤ t.0 → meter + c ≤ s.meter + p)
     → IfNone r ((c : ℕ) → Contains (steps s.images) c → c ≤ first → meter + c ≤ s.meter + p)
     → HasSoughtSince old first (option_map (λ t. t.0) r)
-    (record { scenario = scenario; meter = meter; images = s.images; present = s.present; shown = shown; n = s.n })
+    (with_shown s scenario shown meter)
 has_found_since old s first p None scenario shown meter is sound order early same metered least of_run between found none = rw (← is)
     (record {
       stands = (shown_sound s scenario shown meter sound same metered of_run).stands;
-      same = ap (λ (q : Scenario). let m : SessionView = record
-          { scenario = q; meter = meter; images = s.images; present = s.present; shown = shown; n = s.n } in m)
-          same;
+      same = shown_same s scenario shown meter same;
       least = least;
       found = tt;
       none =
@@ -87,9 +85,7 @@ has_found_since old s first p (Some t) scenario shown meter is sound order early
     let cost = found c.0 c.1 c.2 in
     rw (← is) (record {
       stands = (shown_sound s scenario shown meter sound same metered of_run).stands;
-      same = ap (λ (q : Scenario). let m : SessionView = record
-          { scenario = q; meter = meter; images = s.images; present = s.present; shown = shown; n = s.n } in
-          m) same;
+      same = shown_same s scenario shown meter same;
       least = least;
       found = omega (arith, c.3, cost, early);
       none = tt;

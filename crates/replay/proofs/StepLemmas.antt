@@ -1,6 +1,7 @@
 -- Elements of a list, and the steps that are kept.
-use Rattle.std.proofs.Common.{◌≡◌, ℕ, zero, suc, ◌⊎◌, inl, inr, List, [], ◌∷◌, ◌++◌, cond, Bool, true, false, not, ◌==◌, refl, arith}
+use Rattle.std.proofs.Common.{◌≡◌, ◌≢◌, ℕ, zero, suc, ◌⊎◌, inl, inr, List, [], ◌∷◌, ◌++◌, cond, Bool, true, false, not, ◌==◌, refl, arith}
 use Rattle.std.specs.List.{filter, Contains}
+use Rattle.std.proofs.lemmas.Bool.Decides.{nat_tests}
 use Rattle.std.proofs.lemmas.List.Elements.{Contains-append_cases}
 
 pub contains_first : {X : Type 0} (y : X) (ys : List X) → Contains (y ∷ ys) y
@@ -25,6 +26,12 @@ contains_push_cases xs y x h = elim (Contains-append_cases xs (y ∷ []) x h) [
 -- all steps but this one
 abbrev pub other : ℕ → ℕ → Bool
 other step x = not (x == step)
+
+pub is_other : (step x : ℕ) → x ≢ step → other step x ≡ true
+is_other step x ne = grind (arith, nat_tests)
+
+pub not_other : (step x : ℕ) → other step x ≡ true → x ≢ step
+not_other step x t e = grind (arith, nat_tests)
 
 contains_cond : (b : Bool) (z : ℕ) (rest : List ℕ) (x : ℕ) → Contains (cond b (z ∷ rest) rest) x → ((z ≡ x) × (b ≡ true)) ⊎ Contains rest x
 contains_cond true z rest x h = elim (contains_cases z rest x h) [ inl is ↦ inl (is, refl) | inr late ↦ inr late ]

@@ -1,17 +1,16 @@
 -- Which images fall out at a step, and that those are left which stay.
 use Rattle.std.specs.Int.{◌∣◌}
 use Rattle.std.specs.List.{filter, Contains}
-use Rattle.std.proofs.Common.{◌≡◌, ℕ, zero, suc, ◌+◌, ◌-◌, ◌*◌, ◌/◌, ◌%◌, ◌^◌, ◌<◌, ◌≤◌, ◌≢◌, ◌⊎◌, List, true, inl, inr, refl, sym, ◌∙◌, ap}
+use Rattle.std.proofs.Common.{◌≡◌, ℕ, zero, suc, ◌+◌, ◌-◌, ◌*◌, ◌/◌, ◌%◌, ◌^◌, ◌<◌, ◌≤◌, ◌≢◌, ◌⊎◌, List, inl, inr, refl, sym, ◌∙◌, ap}
 use Rattle.std.proofs.Common.{subst, arith}
 use Rattle.std.proofs.Math.Pow.{pow_mono}
 use Rattle.std.proofs.lemmas.Bool.{cases_lt}
-use Rattle.std.proofs.lemmas.Bool.Decides.{nat_tests}
 use Rattle.std.proofs.lemmas.Nat.{pow_pos, mod_below}
 use Rattle.std.proofs.lemmas.Nat.Gcd.{dvd_refl, dvd-zero, dvd_of_mod-eq-zero, mod-eq-zero_of_dvd}
 use Rattle.std.proofs.Math.Nat.{pow-succ', dvd-sub, dvd-mod_iff, dvd-add_iff_left, div-add-mod, mul-suc, dvd-mul_right, dvd-mul_left}
 use Rattle.std.proofs.Math.Nat.{dvd_of_mul-dvd-mul_right, div-mul_cancel, mul_comm, mul_assoc}
 use Rattle.replay.specs.Spacing.{Stays, AreStaying, FallOut}
-use Rattle.replay.proofs.StepLemmas.{other, contains_filter, contains_filter_back}
+use Rattle.replay.proofs.StepLemmas.{other, is_other, not_other, contains_filter, contains_filter_back}
 use Rattle.replay.proofs.StayingLemmas.{apart, grows, divides, doubles}
 
 -- a multiple of a power of two is one of the next power, or it is half of that more
@@ -69,16 +68,14 @@ thinned_next n i high kept out less thinned =
     let step = n + 1 - 3 * 2 ^ i in
     let back = contains_filter (other step) kept in
     let on = contains_filter_back (other step) kept in
-    let is_other : (x : ℕ) → x ≢ step → other step x ≡ true = λ x ne. grind (arith, nat_tests) in
-    let not_step : (x : ℕ) → other step x ≡ true → x ≢ step = λ x t e. grind (arith, nat_tests) in
     record {
       stays = λ c h. thinned.stays c (back c h).0;
       gone = λ c j h above below. elim (cases_lt i j) [
         | inl later ↦ thinned.gone c j (back c h).0 later below
-        | inr same ↦ λ e. let p : 2 ^ j ≡ 2 ^ i = ap (λ (k : ℕ). 2 ^ k) (omega arith) in not_step c (back c h).1 (omega (arith, p, e))
+        | inr same ↦ λ e. let p : 2 ^ j ≡ 2 ^ i = ap (λ (k : ℕ). 2 ^ k) (omega arith) in not_other step c (back c h).1 (omega (arith, p, e))
       ];
       full = λ c below stays none. on c (thinned.full c below stays (λ j above high_too. none j (omega arith) high_too))
-          (is_other c (λ e. none i (omega arith) less (omega (arith, fits.1, e))));
+          (is_other step c (λ e. none i (omega arith) less (omega (arith, fits.1, e))));
     }
 
 -- no image falls out that stays

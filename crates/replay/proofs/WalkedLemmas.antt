@@ -3,7 +3,7 @@ use Rattle.std.proofs.Common.{◌≡◌, ℕ, zero, suc, ◌+◌, Bool, false, O
 use Rattle.cpu.specs.State.{State, Scenario}
 use Rattle.cpu.specs.declared.output.Output.{Output}
 use Rattle.cpu.specs.Next.{next}
-use Rattle.cpu.specs.Run.{run, out}
+use Rattle.cpu.specs.Run.{run}
 use Rattle.cpu.proofs.RunLaws.{run-add-one, out-add-one}
 use Rattle.replay.specs.Walked.{Walked, WalkedFor}
 use Rattle.replay.specs.Watched.{Watched, WatchedFor}

@@ -1,12 +1,8 @@
 //! Many steps at once.
 
-ghost use Rattle.std.specs.Prelude.{◌≡◌, ◌+◌, ◌-◌, ◌*◌, ◌^◌, ◌<◌, ◌≤◌, false};
+ghost use Rattle.std.specs.Prelude.{◌+◌, ◌*◌, ◌^◌, ◌≤◌};
 ghost use Rattle.std.specs.Int.{◌∣◌};
-ghost use Rattle.cpu.specs.Run.{run};
-ghost use Rattle.replay.specs.Images.{steps};
-ghost use Rattle.replay.specs.Spacing.{AreStaying};
-ghost use Rattle.replay.specs.View.{AreOfRun, counted_by};
-ghost use Rattle.replay.specs.Walked.{Walked};
+ghost use Rattle.replay.specs.Travelled.{CanTravel, HasTravelled};
 
 use crate::keeper::Keeper;
 use crate::settling::{keep_sure, settle, thin_up_to};
@@ -23,24 +19,9 @@ fn leap<K: Keeper, S: Stepper>(
     high: u64,
     stepper: &mut S,
 ) -> (u64, bool)
-    requires sure { K.may_refuse ≡ false }
-    requires order { low < high }
-    requires within { high < 2 ^ 40 - 1 }
-    requires metered { processor.old.meter < 2 ^ 128 }
-    requires of_run { AreOfRun processor.old.scenario (K.images keeper.old) }
-    requires staying { AreStaying low low (steps (K.images keeper.old)) }
-    requires stands { machine.old ≡ run processor.old.scenario low }
-    ensures past { low < result.0 }
-    ensures within { result.0 ≤ high }
-    ensures all { result.1 ≡ false → result.0 ≡ high }
-    ensures machine { machine.new ≡ run processor.old.scenario result.0 }
-    ensures walked { Walked S.sees processor.old.scenario low result.0 result.1 stepper.old stepper.new }
-    ensures staying { AreStaying result.0 result.0 (steps (K.images keeper.new)) }
-    ensures of_run { AreOfRun processor.old.scenario (K.images keeper.new) }
-    ensures scenario { processor.new.scenario ≡ processor.old.scenario }
-    ensures metered { processor.new.meter < 2 ^ 128 }
-    ensures least { counted_by (result.0 - low) processor.old.meter ≤ processor.new.meter }
-    ensures most { processor.new.meter + 2 * low ≤ processor.old.meter + 2 * result.0 }
+    requires { CanTravel K.may_refuse processor.old (K.images keeper.old) machine.old low high }
+    ensures { HasTravelled S.sees low high result processor.old processor.new
+        (K.images keeper.new) machine.new stepper.old stepper.new }
 {
     keep_sure(keeper, low, machine);
     let (end, ended) = walk(processor, machine, low, high, stepper);
@@ -62,24 +43,9 @@ fn stride_on<K: Keeper, S: Stepper>(
     stepper: &mut S,
 ) -> (u64, bool)
     requires grid { 2 ^ 14 ∣ low }
-    requires sure { K.may_refuse ≡ false }
-    requires order { low < high }
-    requires within { high < 2 ^ 40 - 1 }
-    requires metered { processor.old.meter < 2 ^ 128 }
-    requires of_run { AreOfRun processor.old.scenario (K.images keeper.old) }
-    requires staying { AreStaying low low (steps (K.images keeper.old)) }
-    requires stands { machine.old ≡ run processor.old.scenario low }
-    ensures past { low < result.0 }
-    ensures within { result.0 ≤ high }
-    ensures all { result.1 ≡ false → result.0 ≡ high }
-    ensures machine { machine.new ≡ run processor.old.scenario result.0 }
-    ensures walked { Walked S.sees processor.old.scenario low result.0 result.1 stepper.old stepper.new }
-    ensures staying { AreStaying result.0 result.0 (steps (K.images keeper.new)) }
-    ensures of_run { AreOfRun processor.old.scenario (K.images keeper.new) }
-    ensures scenario { processor.new.scenario ≡ processor.old.scenario }
-    ensures metered { processor.new.meter < 2 ^ 128 }
-    ensures least { counted_by (result.0 - low) processor.old.meter ≤ processor.new.meter }
-    ensures most { processor.new.meter + 2 * low ≤ processor.old.meter + 2 * result.0 }
+    requires ready { CanTravel K.may_refuse processor.old (K.images keeper.old) machine.old low high }
+    ensures travelled { HasTravelled S.sees low high result processor.old processor.new
+        (K.images keeper.new) machine.new stepper.old stepper.new }
     ensures once { processor.new.meter + low ≤ processor.old.meter + result.0 + 3 * 2 ^ 14 }
 {
     let mut at = low;
@@ -105,24 +71,9 @@ pub(crate) fn travel<K: Keeper, S: Stepper>(
     high: u64,
     stepper: &mut S,
 ) -> (u64, bool)
-    requires sure { K.may_refuse ≡ false }
-    requires order { low < high }
-    requires within { high < 2 ^ 40 - 1 }
-    requires metered { processor.old.meter < 2 ^ 128 }
-    requires of_run { AreOfRun processor.old.scenario (K.images keeper.old) }
-    requires staying { AreStaying low low (steps (K.images keeper.old)) }
-    requires stands { machine.old ≡ run processor.old.scenario low }
-    ensures past { low < result.0 }
-    ensures within { result.0 ≤ high }
-    ensures all { result.1 ≡ false → result.0 ≡ high }
-    ensures machine { machine.new ≡ run processor.old.scenario result.0 }
-    ensures walked { Walked S.sees processor.old.scenario low result.0 result.1 stepper.old stepper.new }
-    ensures staying { AreStaying result.0 result.0 (steps (K.images keeper.new)) }
-    ensures of_run { AreOfRun processor.old.scenario (K.images keeper.new) }
-    ensures scenario { processor.new.scenario ≡ processor.old.scenario }
-    ensures metered { processor.new.meter < 2 ^ 128 }
-    ensures least { counted_by (result.0 - low) processor.old.meter ≤ processor.new.meter }
-    ensures most { processor.new.meter + 2 * low ≤ processor.old.meter + 2 * result.0 }
+    requires { CanTravel K.may_refuse processor.old (K.images keeper.old) machine.old low high }
+    ensures travelled { HasTravelled S.sees low high result processor.old processor.new
+        (K.images keeper.new) machine.new stepper.old stepper.new }
     ensures once { processor.new.meter + low ≤ processor.old.meter + result.0 + 2 ^ 16 }
 {
     let past = low % STRIDE;

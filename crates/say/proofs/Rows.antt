@@ -1,5 +1,5 @@
 -- Sentences worked out by hand.
-use Rattle.std.proofs.Common.{◌≡◌, ℕ, List, [], ◌++◌, true, false, Some, None, refl}
+use Rattle.std.proofs.Common.{◌≡◌, ℕ, List, [], ◌∷◌, ◌++◌, true, false, Some, None, map, refl}
 use Rattle.std.specs.Prelude.{◌-◌, ◌^◌, codes}
 use Rattle.std.specs.Fmt.{digits}
 use Rattle.words.specs.Numerals.{octal_text}
@@ -17,39 +17,15 @@ use Rattle.say.specs.Said.{filled, piece, shown}
 
 -- ## Numbers
 
-five : shown 5 ≡ codes "00005 (5)"
+numbers : map shown (5 ∷ 0o177772 ∷ 0 ∷ 0o177777 ∷ []) ≡ codes "00005 (5)" ∷ codes "77772 (-5)" ∷ codes "00000 (0)" ∷ codes "77777 (-0)" ∷ []
 unfolding shown octal_text digits
-five = refl
+numbers = refl
 
-minus_five : shown 0o177772 ≡ codes "77772 (-5)"
+-- the greatest number, and one more, which overflows; 20000 and -20000
+overflows : map shown (0o37777 ∷ 0o40000 ∷ 0o47040 ∷ 0o130737 ∷ [])
+    ≡ codes "37777 (16383)" ∷ codes "040000 (16384, overflow)" ∷ codes "047040 (20000, overflow)" ∷ codes "130737 (-20000, overflow)" ∷ []
 unfolding shown octal_text digits
-minus_five = refl
-
-zeros : shown 0 ≡ codes "00000 (0)"
-unfolding shown octal_text digits
-zeros = refl
-
-minus_zeros : shown 0o177777 ≡ codes "77777 (-0)"
-unfolding shown octal_text digits
-minus_zeros = refl
-
--- the greatest number, and one more, which overflows
-greatest : shown 0o37777 ≡ codes "37777 (16383)"
-unfolding shown octal_text digits
-greatest = refl
-
-one_more : shown 0o40000 ≡ codes "040000 (16384, overflow)"
-unfolding shown octal_text digits
-one_more = refl
-
--- 20000 and -20000
-above : shown 0o47040 ≡ codes "047040 (20000, overflow)"
-unfolding shown octal_text digits
-above = refl
-
-below : shown 0o130737 ≡ codes "130737 (-20000, overflow)"
-unfolding shown octal_text digits
-below = refl
+overflows = refl
 
 -- ## Sentences
 
@@ -66,49 +42,30 @@ abbrev fixed : List ℕ → List ℕ
 fixed text = tells 7 8 0o17 8 text
 
 -- 7 and 8, and 7 doubled
-added : tells 7 8 0o17 8 (ad (Fixed 2 7)) ≡ codes "A, 00007 (7), and SUM, 00010 (8), are added: A is 00017 (15)."
+added : tells 7 8 0o17 8 (ad (Fixed 2 7)) ∷ tells 7 7 0o16 0o16 (ad (Erasable 0)) ∷ []
+    ≡ codes "A, 00007 (7), and SUM, 00010 (8), are added: A is 00017 (15)." ∷ codes "A, 00007 (7), is doubled: it is 00016 (14)." ∷ []
 unfolding filled piece shown octal_text digits
 added = refl
 
-doubled : tells 7 7 0o16 0o16 (ad (Erasable 0)) ≡ codes "A, 00007 (7), is doubled: it is 00016 (14)."
-unfolding filled piece shown octal_text digits
-doubled = refl
-
 -- the four ways of CCS: of 2, +0, -2 and -0
-counts : tells 0 2 1 2 (ccs 2) ≡ codes "SUM is 00002 (2), above 0: A takes one less, 00001 (1), and the next word follows."
+counts : tells 0 2 1 2 (ccs 2) ∷ tells 5 0 0 0 (ccs 0) ∷ tells 0 0o177775 1 0o177775 (ccs 0o177775)
+    ∷ tells 5 0o177777 0 0o177777 (ccs 0o177777) ∷ []
+    ≡ codes "SUM is 00002 (2), above 0: A takes one less, 00001 (1), and the next word follows."
+    ∷ codes "SUM is +0: A is 00000 (0), and one word is skipped."
+    ∷ codes "SUM is 77775 (-2), below 0: A takes its size less one, 00001 (1), and two words are skipped."
+    ∷ codes "SUM is -0: A is 00000 (0), and three words are skipped." ∷ []
 unfolding filled piece shown octal_text digits
 counts = refl
 
-at_zero : tells 5 0 0 0 (ccs 0) ≡ codes "SUM is +0: A is 00000 (0), and one word is skipped."
-unfolding filled piece shown octal_text digits
-at_zero = refl
-
-counts_below : tells 0 0o177775 1 0o177775 (ccs 0o177775)
-    ≡ codes "SUM is 77775 (-2), below 0: A takes its size less one, 00001 (1), and two words are skipped."
-unfolding filled piece shown octal_text digits
-counts_below = refl
-
-at_minus_zero : tells 5 0o177777 0 0o177777 (ccs 0o177777) ≡ codes "SUM is -0: A is 00000 (0), and three words are skipped."
-unfolding filled piece shown octal_text digits
-at_minus_zero = refl
-
 -- TS of 5, of 20000, which is 16384 and 3616, and to A and Z
-kept : tells 5 0 5 5 (ts (Erasable 0o100) 5) ≡ codes "SUM takes A: 00005 (5)."
+kept : tells 5 0 5 5 (ts (Erasable 0o100) 5) ∷ tells 0o47040 0 1 0o7040 (ts (Erasable 0o100) 0o47040)
+    ∷ tells 5 5 5 5 (ts (Erasable 0) 5) ∷ tells 0o4100 5 0o4100 0o4100 (ts (Erasable 5) 0o4100) ∷ []
+    ≡ codes "SUM takes A: 00005 (5)."
+    ∷ codes "SUM takes A, 047040 (20000, overflow), without the overflow: 07040 (3616). A is 00001 (1), and the next word is skipped."
+    ∷ codes "A, 00005 (5), does not overflow: the next word follows."
+    ∷ codes "It goes to where A leads, 04100 (2112)." ∷ []
 unfolding filled piece shown octal_text digits
 kept = refl
-
-kept_without : tells 0o47040 0 1 0o7040 (ts (Erasable 0o100) 0o47040)
-    ≡ codes "SUM takes A, 047040 (20000, overflow), without the overflow: 07040 (3616). A is 00001 (1), and the next word is skipped."
-unfolding filled piece shown octal_text digits
-kept_without = refl
-
-tested : tells 5 5 5 5 (ts (Erasable 0) 5) ≡ codes "A, 00005 (5), does not overflow: the next word follows."
-unfolding filled piece shown octal_text digits
-tested = refl
-
-led : tells 0o4100 5 0o4100 0o4100 (ts (Erasable 5) 0o4100) ≡ codes "It goes to where A leads, 04100 (2112)."
-unfolding filled piece shown octal_text digits
-led = refl
 
 -- the second of four editing places, and the places beside them
 edited : tells 5 0 5 2 (ts (Erasable 0o21) 5) ≡ codes "SUM takes A, 00005 (5), and edits it: 00002 (2)."
@@ -119,25 +76,16 @@ not_edited : ts (Erasable 0o17) 5 ≡ ts (Erasable 0o24) 5
 not_edited = refl
 
 -- branches at 0, -0, -1 and 1
-zero_jumps : tells 0 0 0 0 (bzf 0) ≡ codes "A, 00000 (0), is 0: it goes to SUM."
+at_zero : tells 0 0 0 0 (bzf 0) ∷ tells 0o177777 0 0o177777 0 (bzf 0o177777) ∷ tells 1 0 1 0 (bzf 1) ∷ []
+    ≡ codes "A, 00000 (0), is 0: it goes to SUM." ∷ codes "A, 77777 (-0), is 0: it goes to SUM."
+    ∷ codes "A, 00001 (1), is not 0: the next word follows." ∷ []
 unfolding filled piece shown octal_text digits
-zero_jumps = refl
+at_zero = refl
 
-minus_zero_jumps : tells 0o177777 0 0o177777 0 (bzf 0o177777) ≡ codes "A, 77777 (-0), is 0: it goes to SUM."
+not_above : tells 0o177776 0 0o177776 0 (bzmf 0o177776) ∷ tells 1 0 1 0 (bzmf 1) ∷ []
+    ≡ codes "A, 77776 (-1), is not above 0: it goes to SUM." ∷ codes "A, 00001 (1), is above 0: the next word follows." ∷ []
 unfolding filled piece shown octal_text digits
-minus_zero_jumps = refl
-
-one_passes : tells 1 0 1 0 (bzf 1) ≡ codes "A, 00001 (1), is not 0: the next word follows."
-unfolding filled piece shown octal_text digits
-one_passes = refl
-
-minus_jumps : tells 0o177776 0 0o177776 0 (bzmf 0o177776) ≡ codes "A, 77776 (-1), is not above 0: it goes to SUM."
-unfolding filled piece shown octal_text digits
-minus_jumps = refl
-
-plus_passes : tells 1 0 1 0 (bzmf 1) ≡ codes "A, 00001 (1), is above 0: the next word follows."
-unfolding filled piece shown octal_text digits
-plus_passes = refl
+not_above = refl
 
 -- 10 by 3 is 3, and 1 is left; by 0 it is too much
 divided : filled sum 0 (values 0 3) (record (values 3 3) { l = 1 }) (dv (values 0 3))

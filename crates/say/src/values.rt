@@ -29,12 +29,9 @@ pub(crate) fn values_before(rope: &Rope, machine: &Machine, places: &Places) -> 
     ensures { result ≡ values_before rope.now machine.now places.now }
 {
     Values {
-        a: machine.reg(Eras::A),
-        l: machine.reg(Eras::L),
-        q: machine.reg(Eras::Q),
         first: read_at(rope, machine, &places.first),
         second: read_at(rope, machine, &places.second),
-        channel: machine.channel(places.channel),
+        ..values_after(rope, machine, places)
     }
 }
 

@@ -5,6 +5,7 @@ ghost use Rattle.space.specs.Laws.{AreApart, LeadsBack, LeadsAgain};
 
 use crate::numbers::{Addr12, Chan, Eras};
 use crate::place::{Banks, Linear};
+use crate::resolve::banks_of;
 use crate::store::Store;
 use words::Wide;
 
@@ -47,10 +48,11 @@ pub fn places_and_channels_are_apart(store: &Store, place: Eras, channel: Chan, 
 {}
 
 /// Under the banks of a place its window leads to it.
-#[tactic(auto, unfolding(crate::specs::Places::window, crate::specs::Places::place, crate::specs::Places::eb_of, crate::specs::Places::fb_of, crate::specs::Places::sup_of))]
 pub fn window_leads_back(linear: Linear)
     ensures { LeadsBack linear }
-{}
+{
+    let _banks = banks_of(linear);
+}
 
 /// Whatever the banks, the window of the place to which an address leads is an address of that place.
 #[tactic(auto, unfolding(crate::specs::Places::window, crate::specs::Places::place))]

@@ -92,7 +92,7 @@ pub fn window(linear: Linear) -> Addr12
 
 /// The bank registers and the superbank bit as they are set for a place. Under them its window
 /// leads back to it.
-#[tactic(auto, unfolding(crate::specs::Places::window, crate::specs::Places::place, crate::specs::Places::eb_of, crate::specs::Places::fb_of, crate::specs::Places::sup_of))]
+#[tactic(auto, unfolding(crate::specs::Places::eb_of, crate::specs::Places::fb_of, crate::specs::Places::sup_of))]
 pub fn banks_of(linear: Linear) -> Banks
     ensures eb { result.eb ≡ eb_of linear }
     ensures fb { result.fb ≡ fb_of linear }

@@ -1,4 +1,3 @@
-mod Same
 mod Stray
 mod Alike
 mod Finding

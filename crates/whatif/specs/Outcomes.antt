@@ -1,6 +1,7 @@
 -- What comes of a run, beside the words that another has put out.
 use Rattle.std.specs.Prelude.{ℕ, ◌+◌, ◌==◌, ◌&&◌, ◌||◌, not, Bool, true, false, List, [], ◌∷◌, ◌++◌, Option, None, Some}
 use Rattle.std.specs.Prelude.{slice_get, if◌then◌else◌}
+use Rattle.std.specs.Cmp.Lexicographic.{pointwise}
 use Rattle.space.specs.Cells.{return_address}
 use Rattle.space.specs.declared.place.Linear.{Linear}
 use Rattle.space.specs.declared.place.Linear.TheVariants.{Erasable, Fixed}
@@ -18,10 +19,7 @@ abbrev pub is_equal : Sent → Sent → Bool
 is_equal a b = a.channel == b.channel && a.word == b.word
 
 abbrev pub are_same : List Sent → List Sent → Bool
-are_same [] [] = true
-are_same [] (b ∷ ys) = false
-are_same (a ∷ xs) [] = false
-are_same (a ∷ xs) (b ∷ ys) = is_equal a b && are_same xs ys
+are_same = pointwise is_equal
 
 -- what comes of a run: how many of the words that it puts out first are those of the other, its words from the first other one on, and
 -- whether it has executed an instruction in erasable memory

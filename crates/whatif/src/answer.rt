@@ -220,15 +220,7 @@ fn is_equal(one: Sent, other: Sent) -> bool
 fn are_same(one: &[Sent], other: &[Sent]) -> bool
     ensures { result ≡ are_same one.now other.now }
 {
-    if one.len() != other.len() {
-        return false;
-    }
-    for index in 0..one.len() {
-        if !is_equal(one[index], other[index]) {
-            return false;
-        }
-    }
-    true
+    one == other
 }
 
 /// Whether the next step executes an instruction in erasable memory; RETURN leads to Q, which is none of that.

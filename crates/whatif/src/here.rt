@@ -10,6 +10,7 @@ ghost use Rattle.whatif.specs.Looked.{all_came, came, looked};
 ghost use Rattle.whatif.specs.Together.{told_together};
 ghost use Rattle.whatif.specs.Trials.{tried, trial_at};
 
+use crate::answer::Answer;
 use crate::branch::{Tried, branch};
 use crate::fault::{Refused, TrialFault, told_of};
 use crate::going::Going;
@@ -17,7 +18,7 @@ use crate::images::Images;
 use crate::others::Others;
 use crate::seen::Seen;
 use crate::span::{with_trial, write_open, write_without};
-use crate::trying::{run_alone, telling};
+use crate::trying::{run_without, telling};
 use cpu::{Machine, Processor};
 use feed::{Input, Plain};
 use std::alloc::Global;
@@ -58,7 +59,8 @@ pub fn try_steps(
     };
     let mut images = Images::none();
     let mut trunk = Going::after(alloc, &mut images, machine, first);
-    let without = run_alone(alloc, &mut images, &mut copy, &trunk, steps)?;
+    let alone = Answer::none(alloc);
+    let without = run_without(alloc, &mut images, &mut copy, &alone, &trunk, steps)?;
     let mut text = Buffer::new(alloc);
     write_without(&without, &mut text)?;
     let told = telling(Others::First, &without);

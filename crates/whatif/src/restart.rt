@@ -21,7 +21,7 @@ use crate::images::Images;
 use crate::others::{Others, Telling};
 use crate::seen::Seen;
 use crate::span::{with_trial, write_open, write_without};
-use crate::trying::run_alone;
+use crate::trying::run_without;
 use cpu::{Machine, Processor};
 use std::alloc::Global;
 use words::{Buffer, Write};
@@ -52,7 +52,8 @@ pub fn try_restarts(
     };
     let mut images = Images::none();
     let mut trunk = Going::after(alloc, &mut images, machine, first);
-    let without = run_alone(alloc, &mut images, &mut copy, &trunk, steps)?;
+    let alone = Answer::none(alloc);
+    let without = run_without(alloc, &mut images, &mut copy, &alone, &trunk, steps)?;
     let mut text = Buffer::new(alloc);
     write_without(&without, &mut text)?;
     write_restarts(

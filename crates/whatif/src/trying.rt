@@ -6,7 +6,7 @@ ghost use Rattle.words.specs.Devices.{Writes, one_more};
 ghost use Rattle.whatif.specs.Failing.{has_write_failed};
 ghost use Rattle.whatif.specs.Images.{most_images, with_image};
 ghost use Rattle.whatif.specs.Looked.{all_came, looked};
-ghost use Rattle.whatif.specs.Outcomes.{begun, outcome};
+ghost use Rattle.whatif.specs.Outcomes.{begun};
 ghost use Rattle.whatif.specs.Spans.{telling, trials_text, whatif_text};
 ghost use Rattle.cpu.specs.Run.{run};
 ghost use Rattle.whatif.specs.Trials.{IsBefore, are_rising};
@@ -14,7 +14,7 @@ ghost use Rattle.whatif.specs.Together.{told_together};
 
 use crate::answer::Answer;
 use crate::branch::try_one;
-use crate::fault::{Refused, TrialFault, told_of};
+use crate::fault::{TrialFault, told_of};
 use crate::going::Going;
 use crate::images::Images;
 use crate::others::{Others, Telling};
@@ -89,7 +89,8 @@ fn try_after<W: Write>(
     if !are_rising(first, trials) {
         return Err(TrialFault::OutOfOrder);
     }
-    let without = run_alone(alloc, images, processor, start, steps)?;
+    let alone = Answer::none(alloc);
+    let without = run_without(alloc, images, processor, &alone, start, steps)?;
     write_without(&without, out)?;
     let told = telling(others, &without);
     write_trials(
@@ -117,30 +118,6 @@ pub(crate) fn telling(others: Others, without: &Going<Answer>) -> Telling
     }
 }
 
-/// How the run without a trial comes out: beside no words it has none but others.
-pub(crate) fn run_alone(
-    alloc: Global,
-    images: &mut Images,
-    processor: &mut Processor,
-    start: &Going<Answer>,
-    steps: u64,
-) -> Result<Going<Answer>, TrialFault>
-    requires room { images.old.held < most_images }
-    requires few { steps ≤ 2 ^ 40 - 2 }
-    requires within { start.now.done ≤ steps }
-    requires begun { start.now.seen ≡ begun }
-    requires from { start.now.from ≡ start.now.done }
-    requires machine { start.now.machine ≡ run processor.old.scenario start.now.done }
-    ensures kept { has_write_failed result ≡ false }
-    ensures machine { IfOk result (λ without. without.machine ≡ run processor.old.scenario steps) }
-    ensures seen { IfOk result (λ without. without.seen ≡ outcome [] start.now.from processor.old.scenario steps) }
-    ensures scenario { processor.new.scenario ≡ processor.old.scenario }
-    ensures once { processor.new.meter + start.now.done ≤ processor.old.meter + steps }
-    ensures images { OnOk result (images.new ≡ with_image images.old) }
-{
-    run_without(alloc, images, processor, &Answer::none(alloc), start, steps)
-}
-
 /// The run without a trial, to its end.
 pub(crate) fn run_without<S: Seen>(
     alloc: Global,
@@ -164,37 +141,14 @@ pub(crate) fn run_without<S: Seen>(
     ensures once { processor.new.meter + start.now.done ≤ processor.old.meter + steps }
     ensures images { OnOk result (images.new ≡ with_image images.old) }
 {
-    match run_whole(alloc, images, processor, beside, start, steps) {
-        Ok(whole) => Ok(whole),
+    let mut whole = match start.copied(alloc, images) {
+        Ok(whole) => whole,
+        Err(refused) => return Err(told_of(refused)),
+    };
+    match whole.go_on(processor, beside, steps) {
+        Ok(()) => Ok(whole),
         Err(refused) => Err(told_of(refused)),
     }
-}
-
-/// The same, or what refused it.
-fn run_whole<S: Seen>(
-    alloc: Global,
-    images: &mut Images,
-    processor: &mut Processor,
-    beside: &S::Beside,
-    start: &Going<S>,
-    steps: u64,
-) -> Result<Going<S>, Refused>
-    requires room { images.old.held < most_images }
-    requires few { steps ≤ 2 ^ 40 - 2 }
-    requires within { start.now.done ≤ steps }
-    requires begun { start.now.seen ≡ S.begins }
-    requires from { start.now.from ≡ start.now.done }
-    requires machine { start.now.machine ≡ run processor.old.scenario start.now.done }
-    ensures machine { IfOk result (λ without. without.machine ≡ run processor.old.scenario steps) }
-    ensures seen { IfOk result (λ without. without.seen
-        ≡ looked S.begins (S.more beside.now) start.now.from processor.old.scenario steps) }
-    ensures scenario { processor.new.scenario ≡ processor.old.scenario }
-    ensures once { processor.new.meter + start.now.done ≤ processor.old.meter + steps }
-    ensures images { OnOk result (images.new ≡ with_image images.old) }
-{
-    let mut whole = start.copied(alloc, images)?;
-    whole.go_on(processor, beside, steps)?;
-    Ok(whole)
 }
 
 /// Whether the cycles of some inputs rise from one on.

@@ -1,34 +1,32 @@
--- The words of each operator are shown by its name and its operand.
-use Rattle.std.proofs.Common.{◌≡◌, ◌≤◌, ◌<◌, ◌+◌, ◌-◌, ◌*◌, ◌/◌, ◌%◌, ◌^◌, ℕ, List, [], ◌∷◌, ◌++◌, Bool, true, false, not, ◌&&◌, refl}
-use Rattle.std.proofs.Common.{arith, length, eqb, leb, ltb, ◌∙◌, ap, sym, subst, inl, inr, Ok, Err, Result}
+-- The words of each operator are shown by its name and its operand: this is tested row by row, by computing.
+use Rattle.std.proofs.Common.{◌≡◌, ◌≤◌, ◌<◌, ◌+◌, ◌-◌, ◌*◌, ◌/◌, ◌%◌, ◌^◌, ℕ, List, [], ◌∷◌, ◌++◌, Bool, true, false, not, ◌&&◌, ◌||◌, refl}
+use Rattle.std.proofs.Common.{arith, eqb, leb, ltb, ◌==◌, ◌∙◌, ap, sym, inl, inr, Ok, Err, Result}
 use Rattle.std.specs.Prelude.{codes}
-use Rattle.std.proofs.lemmas.Bool.{cases_Bool, cases_lt, and_parts, eqb-true, leb-true, ltb-true}
+use Rattle.std.specs.List.{AllByRecursion, list_all}
+use Rattle.std.proofs.lemmas.Bool.{cases_Bool, cases_lt, and_parts, or_cases, eqb-true, leb-true, ltb-true, true≢false}
 use Rattle.std.proofs.lemmas.Bool.Decides.{nat_tests}
 use Rattle.std.proofs.lemmas.Nat.{mod-mul-add}
 use Rattle.std.proofs.Math.Nat.{mod-eq_of_lt, mod_self}
 use Rattle.words.specs.Numerals.{octal_text}
-use Rattle.cpu.specs.Codes.{basic_rows, extracode_rows, table, code_of}
+use Rattle.agc_text.specs.Tables.{same_name}
+use Rattle.cpu.specs.Codes.{Range, basic_rows, extracode_rows, table, serves, row_of, bits, instruction_of, operand_of}
+use Rattle.cpu.specs.Codes.{code_of}
 use Rattle.cpu.specs.Effects.{first_of}
-use Rattle.cpu.specs.Texts.{instruction_text, disassembly}
-use Rattle.cpu.proofs.RowTexts.{row_at, row_bits, row_text, shown_by_row}
+use Rattle.cpu.specs.Texts.{operand_text, instruction_text, disassembly}
+use Rattle.cpu.specs.declared.instruction.Instruction.{Instruction}
+use Rattle.cpu.proofs.RowTexts.{row_found, is_address, is_next_of, is_channel, address_shown, next_shown, channel_shown}
 use Rattle.yayul.specs.Layout.{and_then}
-use Rattle.yayul.specs.Operators.{operators}
+use Rattle.yayul.specs.Laws.{GivesAlone, GivesWith, instructions, operand_digits}
+use Rattle.yayul.specs.Operators.{operators, operator_rows}
 use Rattle.yayul.specs.Words.{accepted, address_of, address_below}
 use Rattle.yayul.specs.declared.faults.FaultKind.{FaultKind}
 use Rattle.yayul.specs.Language.{Num}
+use Rattle.yayul.proofs.GivenWords.{Kind, Says, field, Gives, stands_alone, word_alone, stands_with, takes_number, kind_of, least_of}
+use Rattle.yayul.proofs.GivenWords.{size_of, gives_alone, given_stands, gives_with}
+use Rattle.yayul.proofs.GivenWords.Kind.{Number, Pair, Far, Channel}
 use Rattle.workshop.specs.Laws.{shown_as, is_own, IsShown, AreShown}
 
--- what a field holds: the number, the one after it, the address of a fixed place, or a channel
-pub data Kind : Type 0 where
-  Number Pair Far Channel : Kind
-
--- what a field of a kind holds of a number, if it takes it
-abbrev pub field : Kind → ℕ → ℕ → Result ℕ FaultKind
-field Number size n = address_below size (Num n)
-field Pair size n = and_then (λ address. Ok ((address + 1) % size)) (address_below size (Num n))
-field Far size n = and_then (accepted (λ a. leb 0o2000 a)) (address_of (Num n))
-field Channel size n = accepted (λ channel. ltb channel size) n
-
+-- what a field holds of a number
 abbrev pub Holds : Kind → ℕ → ℕ → ℕ → Type 0
 Holds Number size n f = (n < size) × (f ≡ n)
 Holds Pair size n f = (n < size) × (f ≡ (n + 1) % size)
@@ -106,38 +104,12 @@ field_to Number size = size
 field_to Pair size = size
 field_to Channel size = size
 
--- the fields of a code lie in one row, and are the row's operands
-pub record Suits (extracode : Bool) (k least size : ℕ) (kind : Kind) : Type 0 where
-  pub few : k < length (table extracode)
-  pub low : (row_at extracode k).least ≤ least + field_from kind
-  pub high : least + field_to kind size ≤ (row_at extracode k).greatest + 1
-  pub room : field_to kind size ≤ 2 ^ row_bits extracode k
-  pub whole : least / 2 ^ row_bits extracode k * 2 ^ row_bits extracode k ≡ least
-  pub most : (row_at extracode k).greatest < 2 ^ 15
-
-abbrev pub suits : Bool → ℕ → ℕ → ℕ → Kind → Bool
-suits extracode k least size kind =
-    let r = row_at extracode k in
-    ltb k (length (table extracode)) && (leb r.least (least + field_from kind) && (leb (least + field_to kind size) (r.greatest + 1)
-    && (leb (field_to kind size) (2 ^ row_bits extracode k)
-    && (eqb (least / 2 ^ row_bits extracode k * 2 ^ row_bits extracode k) least && ltb r.greatest (2 ^ 15)))))
-
-pub if_suits : (extracode : Bool) (k least size : ℕ) (kind : Kind) → suits extracode k least size kind ≡ true
-    → Suits extracode k least size kind
-if_suits extracode k least size kind e =
-    let a = and_parts _ _ e in
-    let b = and_parts _ _ a.1 in
-    let c = and_parts _ _ b.1 in
-    let d = and_parts _ _ c.1 in
-    let f = and_parts _ _ d.1 in
-    record {
-      few = ltb-true _ _ a.0;
-      low = leb-true _ _ b.0;
-      high = leb-true _ _ c.0;
-      room = leb-true _ _ d.0;
-      whole = eqb-true _ _ f.0;
-      most = ltb-true _ _ f.1;
-    }
+-- what a field holds of a number lies where fields lie
+within : (kind : Kind) (size n f : ℕ) → Holds kind size n f → (field_from kind ≤ f) × (f < field_to kind size)
+within Number size n f (lt, is) = (omega arith, omega arith)
+within Pair size n f (lt, is) = (omega arith, omega arith)
+within Far size n f (range, is) = (omega arith, omega arith)
+within Channel size n f (lt, is) = (omega arith, omega arith)
 
 -- before the next address stands the address
 first_of_next : (size n : ℕ) → n < size → first_of (size - 1) ((n + 1) % size) ≡ n
@@ -149,245 +121,202 @@ first_of_next size n lt =
           ∙ mod_self size in rw none (omega arith))
     ]
 
--- the fields of a code are shown as the row has it
-field_text : (name : List ℕ) (extracode : Bool) (k least size f : ℕ) (kind : Kind) → Suits extracode k least size kind → field_from kind ≤ f
-    → f < field_to kind size
-    → ((m : ℕ) → row_text extracode k m ≡ name ++ codes " " ++ shown_field kind size m)
-    → disassembly extracode (least + f) ≡ name ++ codes " " ++ shown_field kind size f
-field_text name extracode k least size f kind s from to texts =
-    let m = 2 ^ row_bits extracode k in
-    let part : (least / m * m + f) % m ≡ f = mod-mul-add (least / m) m f (omega (arith, s.room)) in
-    let operand : (least + f) % m ≡ f = ap (λ (l : ℕ). (l + f) % m) (sym s.whole) ∙ part in
-    shown_by_row extracode k (least + f) f s.few (omega arith) (omega arith) (omega arith) operand ∙ texts f
+-- it is shown as the number
+number_shown : (kind : Kind) (size n f : ℕ) → Holds kind size n f → shown_field kind size f ≡ octal_text (digits kind) n
+number_shown Number size n f (lt, is) = ap (octal_text 4) is
+number_shown Pair size n f (lt, is) = ap (octal_text 4) (ap (first_of (size - 1)) is ∙ first_of_next size n lt)
+number_shown Far size n f (range, is) = ap (octal_text 4) is
+number_shown Channel size n f (lt, is) = ap (octal_text 3) is
 
--- the word of a code and a number is shown with the number
-number_text : (name : List ℕ) (extracode : Bool) (k least size n f : ℕ) (kind : Kind) → Suits extracode k least size kind
-    → ((m : ℕ) → row_text extracode k m ≡ name ++ codes " " ++ shown_field kind size m)
-    → Holds kind size n f → disassembly extracode (least + f) ≡ name ++ codes " " ++ octal_text (digits kind) n
-number_text name extracode k least size n f Number s texts (lt, is) =
-    field_text name extracode k least size f Number s (omega arith) (omega arith) texts
-    ∙ ap (λ (m : ℕ). name ++ codes " " ++ octal_text 4 m) is
-number_text name extracode k least size n f Pair s texts (lt, is) =
-    field_text name extracode k least size f Pair s (omega arith) (omega arith) texts
-    ∙ ap (λ (m : ℕ). name ++ codes " " ++ octal_text 4 m) (ap (first_of (size - 1)) is ∙ first_of_next size n lt)
-number_text name extracode k least size n f Far s texts (within, is) =
-    field_text name extracode k least size f Far s (omega arith) (omega arith) texts
-    ∙ ap (λ (m : ℕ). name ++ codes " " ++ octal_text 4 m) is
-number_text name extracode k least size n f Channel s texts (lt, is) =
-    field_text name extracode k least size f Channel s (omega arith) (omega arith) texts
-    ∙ ap (λ (m : ℕ). name ++ codes " " ++ octal_text 3 m) is
-
--- a code gives a word of a number: its least word and a field
-abbrev pub Gives : Kind → ℕ → ℕ → ℕ → ℕ → Type 0
-Gives kind least size n word = and_then (λ f. Ok ((least + f) ∷ [])) (field kind size n) ≡ Ok (word ∷ [])
-
-pub given_text : (name : List ℕ) (extracode : Bool) (k least size n word : ℕ) (kind : Kind) → Suits extracode k least size kind
-    → ((m : ℕ) → row_text extracode k m ≡ name ++ codes " " ++ shown_field kind size m)
-    → Gives kind least size n word → disassembly extracode word ≡ name ++ codes " " ++ octal_text (digits kind) n
-given_text name extracode k least size n word kind s texts e =
+given_field : (kind : Kind) (least size n word : ℕ) → Gives kind least size n word
+    → (f : ℕ) × (Holds kind size n f × (word ≡ least + f))
+given_field kind least size n word e =
     let h = then_ok {A = ℕ} {B = List ℕ} (λ f. Ok ((least + f) ∷ [])) (field kind size n) (word ∷ []) e in
     let is : word ≡ least + h.0 = (let same = h.1.1 in cc) in
-    rw is (number_text name extracode k least size n h.0 kind s texts (field_ok kind size n h.0 h.1.0))
+    (h.0, (field_ok kind size n h.0 h.1.0, is))
 
--- where a basic code may stand, and where an extracode may
-abbrev pub basic_stands : Bool → Bool
-basic_stands extracode = not extracode
+-- ## Rows of the machine
+-- a row of the machine's table is right for the words of a code: it has none of them, or one alone with a name of its own, or a test holds
+abbrev pub row_is_right : Bool → Kind → ℕ → ℕ → (Range → Bool) → Range → Bool
+row_is_right extracode kind least size test r =
+    (leb (least + field_to kind size) r.least || ltb r.greatest (least + field_from kind))
+    || ((eqb r.least r.greatest && is_own extracode r.least) || test r)
 
-abbrev pub extra_stands : Bool → Bool
-extra_stands extracode = extracode
+-- so is each row
+abbrev pub rows_are_right : Bool → Kind → ℕ → ℕ → (Range → Bool) → Bool
+rows_are_right extracode kind least size test =
+    leb (least + field_to kind size) (2 ^ 15) && list_all (row_is_right extracode kind least size test) (table extracode)
 
-numbered_basic : (name : List ℕ) (k least size : ℕ) (kind : Kind) → suits false k least size kind ≡ true
-    → ((m : ℕ) → row_text false k m ≡ name ++ codes " " ++ shown_field kind size m)
-    → IsShown name (λ extracode word. ⊥) (λ extracode n word. (basic_stands extracode ≡ true) × Gives kind least size n word) (digits kind)
-numbered_basic name k least size kind s texts = record {
-  alone = λ extracode word no. absurd no;
-  with_number = λ extracode n word given own. at extracode n word given;
-}
-  where
-    at : (extracode : Bool) (n word : ℕ) → (basic_stands extracode ≡ true) × Gives kind least size n word
-        → disassembly extracode word ≡ name ++ codes " " ++ octal_text (digits kind) n
-    at false n word given = given_text name false k least size n word kind (if_suits false k least size kind s) texts given.1
-    at true n word given = absurd (let no = given.0 in cc)
-
-numbered_extra : (name : List ℕ) (k least size : ℕ) (kind : Kind) → suits true k least size kind ≡ true
-    → ((m : ℕ) → row_text true k m ≡ name ++ codes " " ++ shown_field kind size m)
-    → IsShown name (λ extracode word. ⊥) (λ extracode n word. (extra_stands extracode ≡ true) × Gives kind least size n word) (digits kind)
-numbered_extra name k least size kind s texts = record {
-  alone = λ extracode word no. absurd no;
-  with_number = λ extracode n word given own. at extracode n word given;
-}
-  where
-    at : (extracode : Bool) (n word : ℕ) → (extra_stands extracode ≡ true) × Gives kind least size n word
-        → disassembly extracode word ≡ name ++ codes " " ++ octal_text (digits kind) n
-    at true n word given = given_text name true k least size n word kind (if_suits true k least size kind s) texts given.1
-    at false n word given = absurd (let no = given.0 in cc)
-
-alone_basic : (code : ℕ) (text : List ℕ) → disassembly false code ≡ text
-    → IsShown text (λ extracode word. (basic_stands extracode ≡ true) × (word ≡ code)) (λ extracode n word. ⊥) 4
-alone_basic code text e = record {
-  alone = λ extracode word given. at extracode word given;
-  with_number = λ extracode n word no own. absurd no;
-}
-  where
-    at : (extracode : Bool) (word : ℕ) → (basic_stands extracode ≡ true) × (word ≡ code) → disassembly extracode word ≡ text
-    at false word given = ap (disassembly false) given.1 ∙ e
-    at true word given = absurd (let no = given.0 in cc)
-
-alone_extra : (code : ℕ) (text : List ℕ) → disassembly true code ≡ text
-    → IsShown text (λ extracode word. (extra_stands extracode ≡ true) × (word ≡ code)) (λ extracode n word. ⊥) 4
-alone_extra code text e = record {
-  alone = λ extracode word given. at extracode word given;
-  with_number = λ extracode n word no own. absurd no;
-}
-  where
-    at : (extracode : Bool) (word : ℕ) → (extra_stands extracode ≡ true) × (word ≡ code) → disassembly extracode word ≡ text
-    at true word given = ap (disassembly true) given.1 ∙ e
-    at false word given = absurd (let no = given.0 in cc)
-
-gives_none : (text : List ℕ) → IsShown text (λ extracode word. ⊥) (λ extracode n word. ⊥) 4
-gives_none text = record { alone = λ extracode word no. absurd no; with_number = λ extracode n word no own. absurd no }
-
--- a word that is none with a name of its own
-pub no_own : (own word : ℕ) → is_own false own ≡ true → is_own false word ≡ false → word ≡ own → ⊥
-no_own own word yes' no' e = absurd (let same : is_own false word ≡ is_own false own = ap (is_own false) e in cc)
-
--- TC stands in three rows, between words with names of their own
-pub tc_text : (n word : ℕ) → n < 0o10000 → word ≡ n → is_own false word ≡ false
-    → disassembly false word ≡ codes "TC" ++ codes " " ++ octal_text 4 n
-unfolding basic_rows instruction_text
-tc_text n word lt is own =
-    let relint = no_own 3 word refl own in
-    let inhint = no_own 4 word refl own in
-    let extend = no_own 6 word refl own in
-    elim (cases_lt word 3) [
-      | inl less ↦ shown_by_row false 0 word n (omega arith) (omega arith) (omega arith) (omega arith) (omega arith)
-      | inr more ↦ elim (cases_lt word 7) [
-        | inl less ↦ (let five : word ≡ 5 = omega (arith, relint, inhint, extend) in shown_by_row false 3 word n (omega arith) (omega arith)
-            (omega arith) (omega arith) (omega arith))
-        | inr last ↦ shown_by_row false 5 word n (omega arith) (omega arith) (omega arith) (omega arith) (omega arith)
+-- of a row that has a word without a name of its own the test holds
+test_holds : (extracode : Bool) (kind : Kind) (least size : ℕ) (test : Range → Bool) (r : Range) (word f : ℕ)
+    → row_is_right extracode kind least size test r ≡ true → serves word r ≡ true → word ≡ least + f
+    → (field_from kind ≤ f) × (f < field_to kind size) → is_own extracode word ≡ false → test r ≡ true
+test_holds extracode kind least size test r word f right lies is range own =
+    let ends = and_parts (leb r.least word) (leb word r.greatest) lies in
+    let low : r.least ≤ word = leb-true _ _ ends.0 in
+    let high : word ≤ r.greatest = leb-true _ _ ends.1 in
+    elim (or_cases (leb (least + field_to kind size) r.least || ltb r.greatest (least + field_from kind))
+    ((eqb r.least r.greatest && is_own extracode r.least) || test r) right) [
+      | inl beside ↦ absurd (elim (or_cases (leb (least + field_to kind size) r.least) (ltb r.greatest (least + field_from kind)) beside) [
+        | inl above ↦ (let le : least + field_to kind size ≤ r.least = leb-true (least + field_to kind size) r.least above in
+            omega (arith, is, range, low, le))
+        | inr below ↦ (let lt : r.greatest < least + field_from kind = ltb-true r.greatest (least + field_from kind) below in
+            omega (arith, is, range, high, lt))
+      ])
+      | inr there ↦ elim (or_cases (eqb r.least r.greatest && is_own extracode r.least) (test r) there) [
+        | inl apart ↦ absurd (
+            let parts = and_parts (eqb r.least r.greatest) (is_own extracode r.least) apart in
+            let one : r.least ≡ r.greatest = eqb-true _ _ parts.0 in
+            let same : word ≡ r.least = omega (arith, one, low, high) in
+            true≢false (sym parts.1 ∙ ap (is_own extracode) (sym same) ∙ own))
+        | inr holds ↦ holds
       ]
     ]
 
--- INDEX in two, around RESUME
-pub index_text : (n word : ℕ) → n < 0o2000 → word ≡ 0o50000 + n → is_own false word ≡ false
-    → disassembly false word ≡ codes "INDEX" ++ codes " " ++ octal_text 4 n
-unfolding basic_rows instruction_text
-index_text n word lt is own =
-    let resume = no_own 0o50017 word refl own in
-    elim (cases_lt word 0o50017) [
-      | inl less ↦ shown_by_row false 14 word n (omega arith) (omega arith) (omega arith) (omega arith) (omega arith)
-      | inr more ↦ (let above : 0o50020 ≤ word = omega (arith, resume) in shown_by_row false 16 word n (omega arith) (omega arith)
-          (omega arith) (omega arith) (omega arith))
-    ]
+-- a word that a code gives is the instruction of a row of which the test holds
+pub row_of_given : (extracode : Bool) (kind : Kind) (least size : ℕ) (test : Range → Bool)
+    → rows_are_right extracode kind least size test ≡ true → (n word : ℕ) → Gives kind least size n word → is_own extracode word ≡ false
+    → (r : Range) × ((instruction_of extracode word ≡ r.instruction) × (test r ≡ true))
+row_of_given extracode kind least size test right n word given own =
+    let each = row_is_right extracode kind least size test in
+    let parts = and_parts (leb (least + field_to kind size) (2 ^ 15)) (list_all each (table extracode)) right in
+    let g = given_field kind least size n word given in
+    let range = within kind size n g.0 g.1.0 in
+    let is : word ≡ least + g.0 = g.1.1 in
+    let end : least + field_to kind size ≤ 2 ^ 15 = leb-true _ _ parts.0 in
+    let h = row_found extracode each word (omega (arith, is, range, end)) parts.1 in
+    (h.0, (h.1.0, test_holds extracode kind least size test h.0 word g.0 h.1.1.1 h.1.1.0 is range own))
 
-pub number_ok : (least size n word : ℕ) → Gives Number least size n word → (n < size) × (word ≡ least + n)
-number_ok least size n word e =
-    let h = then_ok {A = ℕ} {B = List ℕ} (λ f. Ok ((least + f) ∷ [])) (field Number size n) (word ∷ []) e in
-    let b : (n < size) × (h.0 ≡ n) = below_ok size n h.0 h.1.0 in
-    let is : word ≡ least + h.0 = (let same = h.1.1 in cc) in
-    (b.0, is ∙ ap (λ (f : ℕ). least + f) b.1)
+-- ## Texts
+pub names_same : (a b : List ℕ) → same_name a b ≡ true → a ≡ b
+names_same [] [] e = refl
+names_same [] (y ∷ ys) e = absurd (cc)
+names_same (x ∷ xs) [] e = absurd (cc)
+names_same (x ∷ xs) (y ∷ ys) e =
+    let parts = and_parts (x == y) (same_name xs ys) e in
+    ap (λ k. k ∷ xs) (eqb-true x y parts.0) ∙ ap (λ ks. y ∷ ks) (names_same xs ys parts.1)
 
-tc : IsShown (codes "TC") (λ extracode word. ⊥) (λ extracode n word. (basic_stands extracode ≡ true) × Gives Number 0 0o10000 n word) 4
-tc = record { alone = λ extracode word no. absurd no; with_number = at }
-  where
-    at : (extracode : Bool) (n word : ℕ) → (basic_stands extracode ≡ true) × Gives Number 0 0o10000 n word → is_own extracode word ≡ false
-        → disassembly extracode word ≡ codes "TC" ++ codes " " ++ octal_text 4 n
-    at false n word given own = let h = number_ok 0 0o10000 n word given.1 in tc_text n word h.0 (omega arith) own
-    at true n word given own = absurd (let no = given.0 in cc)
+appended : (xs ys zs : List ℕ) → xs ++ (ys ++ zs) ≡ (xs ++ ys) ++ zs
+appended [] ys zs = refl
+appended (x ∷ xs) ys zs = ap (λ t. x ∷ t) (appended xs ys zs)
 
-index_basic : (n word : ℕ) → Gives Number 0o50000 0o2000 n word → is_own false word ≡ false
-    → disassembly false word ≡ codes "INDEX" ++ codes " " ++ octal_text 4 n
-index_basic n word given own = let h = number_ok 0o50000 0o2000 n word given in index_text n word h.0 h.1 own
+-- the operand of an instruction is shown as a field of a kind
+abbrev pub shows : Kind → ℕ → Instruction → Bool
+shows Number size i = is_address (row_of i).operand
+shows Pair size i = is_next_of size (row_of i).operand
+shows Far size i = is_address (row_of i).operand
+shows Channel size i = is_channel (row_of i).operand
 
-index_extra : (n word : ℕ) → Gives Number 0o50000 0o10000 n word → disassembly true word ≡ codes "INDEX" ++ codes " " ++ octal_text 4 n
-unfolding extracode_rows instruction_text
-index_extra n word given =
-    given_text (codes "INDEX") true 16 0o50000 0o10000 n word Number
-    (if_suits true 16 0o50000 0o10000 Number refl) (λ m. refl) given
+operand_shown : (kind : Kind) (size f : ℕ) (i : Instruction) → shows kind size i ≡ true
+    → operand_text (row_of i).operand f ≡ codes " " ++ shown_field kind size f
+operand_shown Number size f i e = address_shown (row_of i).operand f e
+operand_shown Pair size f i e = next_shown size (row_of i).operand f e
+operand_shown Far size f i e = address_shown (row_of i).operand f e
+operand_shown Channel size f i e = channel_shown (row_of i).operand f e
 
--- the field of INDEX has another size under extracode
-index : (size : Bool → ℕ) → size false ≡ 0o2000 → size true ≡ 0o10000
-    → IsShown (codes "INDEX") (λ extracode word. ⊥) (λ extracode n word. (true ≡ true) × Gives Number 0o50000 (size extracode) n word) 4
-index size basic extra = record { alone = λ extracode word no. absurd no; with_number = at }
-  where
-    at : (extracode : Bool) (n word : ℕ) → (true ≡ true) × Gives Number 0o50000 (size extracode) n word → is_own extracode word ≡ false
-        → disassembly extracode word ≡ codes "INDEX" ++ codes " " ++ octal_text 4 n
-    at false n word given own = index_basic n word (subst (λ (s : ℕ). Gives Number 0o50000 s n word) basic given.1) own
-    at true n word given own = index_extra n word (subst (λ (s : ℕ). Gives Number 0o50000 s n word) extra given.1)
+-- a row shows its words by a name and a field of a kind, which is their operand
+abbrev pub shows_as : List ℕ → Kind → ℕ → ℕ → Range → Bool
+shows_as name kind least size r =
+    let row = row_of r.instruction in
+    let unit = 2 ^ bits row.operand in
+    same_name row.name name && (shows kind size r.instruction && (eqb (least / unit * unit) least && leb (field_to kind size) unit))
 
--- one after another
-infixr 5 ◌&◌
-pub ◌&◌ : {A B : Type 0} → A → B → A × B
-a & b = (a, b)
+-- a code is shown by a name, where extracode is in force or is not
+abbrev pub is_named : List ℕ → Bool → Kind → ℕ → ℕ → Bool
+is_named name extracode kind least size = rows_are_right extracode kind least size (shows_as name kind least size)
+
+pub given_text : (name : List ℕ) (extracode : Bool) (kind : Kind) (least size n word : ℕ) → is_named name extracode kind least size ≡ true
+    → Gives kind least size n word → is_own extracode word ≡ false
+    → disassembly extracode word ≡ name ++ codes " " ++ octal_text (digits kind) n
+unfolding code_of instruction_text
+given_text name extracode kind least size n word right given own =
+    let h = row_of_given extracode kind least size (shows_as name kind least size) right n word given own in
+    let i = h.0.instruction in
+    let unit = 2 ^ bits (row_of i).operand in
+    let a = and_parts (same_name (row_of i).name name) _ h.1.1 in
+    let b = and_parts (shows kind size i) _ a.1 in
+    let c = and_parts (eqb (least / unit * unit) least) (leb (field_to kind size) unit) b.1 in
+    let g = given_field kind least size n word given in
+    let range = within kind size n g.0 g.1.0 in
+    let whole : least / unit * unit ≡ least = eqb-true _ _ c.0 in
+    let room : field_to kind size ≤ unit = leb-true _ _ c.1 in
+    let part : (least / unit * unit + g.0) % unit ≡ g.0 = mod-mul-add (least / unit) unit g.0 (omega (arith, room, range)) in
+    let is : word % unit ≡ g.0 = ap (λ (w : ℕ). w % unit) g.1.1 ∙ ap (λ (l : ℕ). (l + g.0) % unit) (sym whole) ∙ part in
+    ap (λ (j : Instruction). instruction_text (record { instruction = j; operand = operand_of j word })) h.1.0
+    ∙ ap (λ (k : ℕ). (row_of i).name ++ operand_text (row_of i).operand k) is
+    ∙ ap (λ (t : List ℕ). t ++ operand_text (row_of i).operand g.0) (names_same (row_of i).name name a.0)
+    ∙ ap (λ (t : List ℕ). name ++ t) (operand_shown kind size g.0 i b.0)
+    ∙ appended name (codes " ") (shown_field kind size g.0)
+    ∙ ap (λ (t : List ℕ). name ++ codes " " ++ t) (number_shown kind size n g.0 g.1.0)
+
+-- ## Rows of the assembler
+-- what holds without extracode and under it
+pub either_way : (test : Bool → Bool) → (test false && test true) ≡ true → (extracode : Bool) → test extracode ≡ true
+either_way test e false = (and_parts (test false) (test true) e).0
+either_way test e true = (and_parts (test false) (test true) e).1
+
+-- what holds where something stands
+pub where_it_stands : (stands test : Bool) → (not stands || test) ≡ true → stands ≡ true → test ≡ true
+where_it_stands true test e is = e
+where_it_stands false test e is = absurd (cc)
+
+-- an operator is shown by a text alone, and of a number by the text and the number
+abbrev is_shown_alone : List ℕ → Says → Bool → Bool
+is_shown_alone text operator extracode =
+    not (stands_alone operator extracode) || same_name (disassembly extracode (word_alone operator)) text
+
+abbrev is_shown_with : List ℕ → Says → Bool → Bool
+is_shown_with text operator extracode =
+    not (stands_with operator extracode)
+    || (takes_number operator && (eqb (digits (kind_of operator)) (operand_digits operator)
+    && is_named text extracode (kind_of operator) (least_of operator) (size_of operator extracode)))
+
+abbrev is_shown : List ℕ → Says → Bool
+is_shown text operator =
+    (is_shown_alone text operator false && is_shown_alone text operator true)
+    && (is_shown_with text operator false && is_shown_with text operator true)
+
+alone_text : (text : List ℕ) (operator : Says) (extracode : Bool) (word : ℕ) → is_shown_alone text operator extracode ≡ true
+    → GivesAlone operator extracode word → disassembly extracode word ≡ text
+alone_text text operator extracode word e given =
+    let g = gives_alone operator extracode word given in
+    let same = where_it_stands (stands_alone operator extracode) (same_name (disassembly extracode (word_alone operator)) text) e g.0 in
+    ap (disassembly extracode) g.1 ∙ names_same (disassembly extracode (word_alone operator)) text same
+
+text_with : (text : List ℕ) (operator : Says) (extracode : Bool) (n word : ℕ) → is_shown_with text operator extracode ≡ true
+    → GivesWith operator extracode n word → is_own extracode word ≡ false
+    → disassembly extracode word ≡ text ++ codes " " ++ octal_text (operand_digits operator) n
+text_with text operator extracode n word e given own =
+    let kind = kind_of operator in
+    let named = is_named text extracode kind (least_of operator) (size_of operator extracode) in
+    let stands = given_stands operator extracode n word given in
+    let right = where_it_stands (stands_with operator extracode)
+    (takes_number operator && (eqb (digits kind) (operand_digits operator) && named)) e stands in
+    let a = and_parts (takes_number operator) (eqb (digits kind) (operand_digits operator) && named) right in
+    let b = and_parts (eqb (digits kind) (operand_digits operator)) named a.1 in
+    given_text text extracode kind (least_of operator) (size_of operator extracode) n word b.1
+    (gives_with operator extracode n word a.0 given) own
+    ∙ ap (λ (d : ℕ). text ++ codes " " ++ octal_text d n) (eqb-true (digits kind) (operand_digits operator) b.0)
+
+if_shown : (text : List ℕ) (operator : Says) → is_shown text operator ≡ true
+    → IsShown text (GivesAlone operator) (GivesWith operator) (operand_digits operator)
+if_shown text operator e =
+    let parts = and_parts (is_shown_alone text operator false && is_shown_alone text operator true)
+    (is_shown_with text operator false && is_shown_with text operator true) e in
+    record {
+      alone = λ extracode word given.
+          alone_text text operator extracode word (either_way (is_shown_alone text operator) parts.0 extracode) given;
+      with_number = λ extracode n word given own.
+          text_with text operator extracode n word (either_way (is_shown_with text operator) parts.1 extracode) given own;
+    }
+
+each_shown : (rows : List (List ℕ × Says)) → list_all (λ row. is_shown (shown_as row.0) row.1) rows ≡ true
+    → AllByRecursion (λ row. IsShown (shown_as row.0) (GivesAlone row.1) (GivesWith row.1) (operand_digits row.1)) rows
+each_shown [] e = tt
+each_shown (row ∷ rows) e =
+    let parts = and_parts (is_shown (shown_as row.0) row.1) (list_all (λ row. is_shown (shown_as row.0) row.1) rows) e in
+    (if_shown (shown_as row.0) row.1 parts.0, each_shown rows parts.1)
 
 pub are_shown : AreShown
-unfolding operators instruction_text basic_rows extracode_rows code_of octal_text
-are_shown =
-    gives_none _
-    & gives_none _
-    & gives_none _
-    & gives_none _
-    & gives_none _
-    & gives_none _
-    & gives_none _
-    & gives_none _
-    & gives_none _
-    & gives_none _
-    & tc
-    & tc
-    & numbered_basic (codes "CCS") 6 0o10000 0o2000 Number refl (λ m. refl)
-    & numbered_basic (codes "TCF") 7 0o10000 0o10000 Far refl (λ m. refl)
-    & numbered_basic (codes "DAS") 8 0o20000 0o2000 Pair refl (λ m. refl)
-    & numbered_basic (codes "LXCH") 9 0o22000 0o2000 Number refl (λ m. refl)
-    & numbered_basic (codes "INCR") 10 0o24000 0o2000 Number refl (λ m. refl)
-    & numbered_basic (codes "ADS") 11 0o26000 0o2000 Number refl (λ m. refl)
-    & numbered_basic (codes "CA") 12 0o30000 0o10000 Number refl (λ m. refl)
-    & numbered_basic (codes "CA") 12 0o30000 0o2000 Number refl (λ m. refl)
-    & numbered_basic (codes "CA") 12 0o30000 0o10000 Far refl (λ m. refl)
-    & numbered_basic (codes "CS") 13 0o40000 0o10000 Number refl (λ m. refl)
-    & index _ refl refl
-    & index _ refl refl
-    & numbered_basic (codes "DXCH") 17 0o52000 0o2000 Pair refl (λ m. refl)
-    & numbered_basic (codes "TS") 18 0o54000 0o2000 Number refl (λ m. refl)
-    & numbered_basic (codes "XCH") 19 0o56000 0o2000 Number refl (λ m. refl)
-    & numbered_basic (codes "AD") 20 0o60000 0o10000 Number refl (λ m. refl)
-    & numbered_basic (codes "MASK") 21 0o70000 0o10000 Number refl (λ m. refl)
-    & numbered_basic (codes "MASK") 21 0o70000 0o10000 Number refl (λ m. refl)
-    & numbered_extra (codes "READ") 0 0o0 0o1000 Channel refl (λ m. refl)
-    & numbered_extra (codes "WRITE") 1 0o1000 0o1000 Channel refl (λ m. refl)
-    & numbered_extra (codes "RAND") 2 0o2000 0o1000 Channel refl (λ m. refl)
-    & numbered_extra (codes "WAND") 3 0o3000 0o1000 Channel refl (λ m. refl)
-    & numbered_extra (codes "ROR") 4 0o4000 0o1000 Channel refl (λ m. refl)
-    & numbered_extra (codes "WOR") 5 0o5000 0o1000 Channel refl (λ m. refl)
-    & numbered_extra (codes "RXOR") 6 0o6000 0o1000 Channel refl (λ m. refl)
-    & numbered_extra (codes "DV") 8 0o10000 0o2000 Number refl (λ m. refl)
-    & numbered_extra (codes "BZF") 9 0o10000 0o10000 Far refl (λ m. refl)
-    & numbered_extra (codes "MSU") 10 0o20000 0o2000 Number refl (λ m. refl)
-    & numbered_extra (codes "QXCH") 11 0o22000 0o2000 Number refl (λ m. refl)
-    & numbered_extra (codes "AUG") 12 0o24000 0o2000 Number refl (λ m. refl)
-    & numbered_extra (codes "DIM") 13 0o26000 0o2000 Number refl (λ m. refl)
-    & numbered_extra (codes "DCA") 14 0o30000 0o10000 Pair refl (λ m. refl)
-    & numbered_extra (codes "DCS") 15 0o40000 0o10000 Pair refl (λ m. refl)
-    & numbered_extra (codes "SU") 17 0o60000 0o2000 Number refl (λ m. refl)
-    & numbered_extra (codes "BZMF") 18 0o60000 0o10000 Far refl (λ m. refl)
-    & numbered_extra (codes "MP") 19 0o70000 0o10000 Number refl (λ m. refl)
-    & alone_basic 0o3 (shown_as (codes "RELINT")) refl
-    & alone_basic 0o4 (shown_as (codes "INHINT")) refl
-    & alone_basic 0o6 (shown_as (codes "EXTEND")) refl
-    & alone_basic 0o50017 (shown_as (codes "RESUME")) refl
-    & alone_basic 0o0 (shown_as (codes "XXALQ")) refl
-    & alone_basic 0o1 (shown_as (codes "XLQ")) refl
-    & alone_basic 0o2 (shown_as (codes "RETURN")) refl
-    & alone_basic 0o20001 (shown_as (codes "DDOUBL")) refl
-    & alone_basic 0o22007 (shown_as (codes "ZL")) refl
-    & alone_basic 0o40000 (shown_as (codes "COM")) refl
-    & alone_basic 0o52005 (shown_as (codes "DTCF")) refl
-    & alone_basic 0o52006 (shown_as (codes "DTCB")) refl
-    & alone_basic 0o54000 (shown_as (codes "OVSK")) refl
-    & alone_basic 0o54005 (shown_as (codes "TCAA")) refl
-    & alone_basic 0o60000 (shown_as (codes "DOUBLE")) refl
-    & alone_extra 0o22007 (shown_as (codes "ZQ")) refl
-    & alone_extra 0o40001 (shown_as (codes "DCOM")) refl
-    & alone_extra 0o70000 (shown_as (codes "SQUARE")) refl
-    & numbered_basic (codes "TCF") 7 0o10000 0o10000 Far refl (λ m. refl)
-    & tt
+unfolding operators operator_rows instruction_text basic_rows extracode_rows code_of octal_text
+are_shown = each_shown instructions refl

@@ -9,7 +9,7 @@ use Rattle.feed.specs.Feed.{inputs, first_fault, plain_from, series_from}
 use Rattle.feed.specs.Merged.{merged, in_order, inserted, is_before, entries_from, entries_of}
 use Rattle.feed.specs.Names.{counters, sequences}
 use Rattle.feed.specs.Statements.{statement_of as feed_statement_of}
-use Rattle.yayul.specs.Operators.{operators}
+use Rattle.yayul.specs.Operators.{operators, operator_rows}
 use Rattle.yayul.specs.Forms.{statement_of}
 use Rattle.yayul.specs.Layout.{line_effect}
 use Rattle.yayul.specs.Words.{request_words, request_faults}
@@ -35,11 +35,11 @@ AssemblesTo words symbols (Err fault) = ⊥
 five_source : AssemblesTo (rope five_words) ((codes "FIVE", Fixed 2 5) ∷ [])
     (program Standard (ended (codes " SETLOC 4000" ∷ codes " CA FIVE" ∷ codes " AD FIVE" ∷ codes " EXTEND" ∷ codes " WRITE 10"
     ∷ codes " TCF 4000" ∷ codes "FIVE OCT 5" ∷ [])))
-unfolding program runs operators statement_of line_effect request_words request_faults lines window fb_of rope
+unfolding program runs operators operator_rows statement_of line_effect request_words request_faults lines window fb_of rope
 five_source = (refl, refl)
 
 loop_source : AssemblesTo (rope loop_words) [] (program Standard (ended (codes " SETLOC 4000" ∷ codes " TCF 4000" ∷ [])))
-unfolding program runs operators statement_of line_effect request_words request_faults lines window fb_of rope
+unfolding program runs operators operator_rows statement_of line_effect request_words request_faults lines window fb_of rope
 loop_source = (refl, refl)
 
 clock_feed : inputs (ended (codes "EVERY 3 5 2 4 TIME1 PINC" ∷ codes "5 CHAN 015 00021" ∷ [])) ≡ Ok (clock [])

@@ -2,22 +2,24 @@
 use Rattle.std.proofs.Common.{◌≡◌, ◌≤◌, ◌<◌, ◌+◌, ◌-◌, ◌%◌, ℕ, zero, suc, List, [], ◌∷◌, ◌++◌, Bool, true, false, refl, arith, ltb, leb}
 use Rattle.std.proofs.Common.{◌∙◌, ap, sym, inl, inr, Ok}
 use Rattle.std.specs.Prelude.{codes}
+use Rattle.std.specs.List.{position_or_len}
 use Rattle.std.proofs.lemmas.Bool.{cases_lt}
 use Rattle.std.proofs.lemmas.Bool.Decides.{nat_tests}
 use Rattle.std.proofs.Math.Nat.{mod-eq_of_lt, mod_self}
 use Rattle.words.specs.Numerals.{octal_text}
+use Rattle.agc_text.specs.Tables.{same_name}
 use Rattle.cpu.specs.Codes.{basic_rows, extracode_rows, code_of}
 use Rattle.cpu.specs.Effects.{first_of}
 use Rattle.cpu.specs.Texts.{instruction_text, disassembly}
-use Rattle.cpu.proofs.RowTexts.{row_text}
 use Rattle.yayul.specs.Layout.{and_then}
-use Rattle.yayul.specs.Operators.{operators}
+use Rattle.yayul.specs.Laws.{instructions}
+use Rattle.yayul.specs.Operators.{operators, operator_rows}
 use Rattle.yayul.specs.Words.{accepted, address_of, address_below}
 use Rattle.yayul.specs.Language.{Num}
 use Rattle.workshop.specs.Laws.{is_own, is_edrupt, IsWritten, AreWritten}
-use Rattle.workshop.proofs.OperatorTexts.{Kind, field, Holds, field_from, field_to, digits, shown_field, suits, if_suits, Gives, given_text}
-use Rattle.workshop.proofs.OperatorTexts.{tc_text, index_text}
-use Rattle.workshop.proofs.OperatorTexts.Kind.{Number, Pair, Far, Channel}
+use Rattle.yayul.proofs.GivenWords.{Kind, field, Gives}
+use Rattle.yayul.proofs.GivenWords.Kind.{Number, Pair, Far, Channel}
+use Rattle.workshop.proofs.OperatorTexts.{Holds, field_from, field_to, digits, is_named, given_text}
 
 -- the number of which a field is made
 number_of : Kind → ℕ → ℕ → ℕ
@@ -77,277 +79,300 @@ gives_word kind least size word some le low high =
     ap (and_then (λ g. Ok ((least + g) ∷ []))) (field_is kind size (number_of kind size f) f le
     (holds kind size f some (omega arith) (omega arith))) ∙ ap (λ (m : ℕ). Ok (m ∷ [])) whole
 
-written_number : (name : List ℕ) (extracode : Bool) (k least size word : ℕ) (kind : Kind) → suits extracode k least size kind ≡ true
-    → ((m : ℕ) → row_text extracode k m ≡ name ++ codes " " ++ shown_field kind size m)
-    → 0 < size → size ≤ 0o10000 → least + field_from kind ≤ word → word < least + field_to kind size
+written_number : (name : List ℕ) (extracode : Bool) (kind : Kind) (least size word : ℕ) → is_named name extracode kind least size ≡ true
+    → is_own extracode word ≡ false → 0 < size → size ≤ 0o10000 → least + field_from kind ≤ word → word < least + field_to kind size
     → Written extracode word name kind least size
-written_number name extracode k least size word kind s texts some le low high =
+written_number name extracode kind least size word right own some le low high =
     let gives = gives_word kind least size word some le low high in
     record {
       number = number_of kind size (word - least);
-      shown = given_text name extracode k least size
-          (number_of kind size (word - least)) word kind (if_suits extracode k least size kind s) texts gives;
+      shown = given_text name extracode kind least size (number_of kind size (word - least)) word right gives own;
       gives = gives;
     }
 
-written_tc : (word : ℕ) → word < 0o10000 → is_own false word ≡ false → Written false word (codes "TC") Number 0 0o10000
-unfolding number_of
-written_tc word lt own = record {
-  number = word
-      - 0;
-  shown = tc_text (word - 0) word (omega arith) (omega arith) own;
-  gives = gives_word Number 0 0o10000 word (omega arith)
-      (omega arith) (omega arith) (omega arith);
-}
-
-written_index : (word : ℕ) → 0o50000 ≤ word → word < 0o52000 → is_own false word ≡ false
-    → Written false word (codes "INDEX") Number 0o50000 0o2000
-unfolding number_of
-written_index word low high own = record {
-  number = word
-      - 0o50000;
-  shown = index_text (word - 0o50000) word (omega arith) (omega arith) own;
-  gives = gives_word Number 0o50000 0o2000 word
-      (omega arith) (omega arith) (omega arith) (omega arith);
-}
+-- the row of an operator by its name
+abbrev row_of_name : List ℕ → ℕ
+row_of_name name = position_or_len (λ row. same_name name row.0) instructions
 
 -- the words of each row
 case_false_0 : (word : ℕ) → 0o0 ≤ word → word < 0o3 → IsWritten false word
-unfolding operators instruction_text basic_rows extracode_rows octal_text
-case_false_0 word low high = let w = written_tc word (omega arith) (grind (arith, nat_tests)) in record
-    { row = 10; by = inr (record { number = w.number; shown = w.shown; gives = (refl, w.gives) }) }
+unfolding operators operator_rows basic_rows extracode_rows
+case_false_0 word low high =
+    let w = written_number (codes "TC") false Number 0 0o10000 word refl (grind (arith, nat_tests)) (omega arith) (omega arith)
+    (omega arith) (omega arith) in
+    record { row = row_of_name (codes "TC"); by = inr (record { number = w.number; shown = w.shown; gives = (refl, w.gives) }) }
 
 case_false_1 : (word : ℕ) → 0o3 ≤ word → word < 0o4 → IsWritten false word
-unfolding operators instruction_text basic_rows extracode_rows octal_text code_of
+unfolding operators operator_rows instruction_text basic_rows extracode_rows octal_text code_of
 case_false_1 word low high = let same : word ≡ 0o3 = omega arith in record
-    { row = 48; by = inl (ap (disassembly false) same, (refl, same)) }
+    { row = row_of_name (codes "RELINT"); by = inl (ap (disassembly false) same, (refl, same)) }
 
 case_false_2 : (word : ℕ) → 0o4 ≤ word → word < 0o5 → IsWritten false word
-unfolding operators instruction_text basic_rows extracode_rows octal_text code_of
+unfolding operators operator_rows instruction_text basic_rows extracode_rows octal_text code_of
 case_false_2 word low high = let same : word ≡ 0o4 = omega arith in record
-    { row = 49; by = inl (ap (disassembly false) same, (refl, same)) }
+    { row = row_of_name (codes "INHINT"); by = inl (ap (disassembly false) same, (refl, same)) }
 
 case_false_3 : (word : ℕ) → 0o5 ≤ word → word < 0o6 → IsWritten false word
-unfolding operators instruction_text basic_rows extracode_rows octal_text
-case_false_3 word low high = let w = written_tc word (omega arith) (grind (arith, nat_tests)) in record
-    { row = 10; by = inr (record { number = w.number; shown = w.shown; gives = (refl, w.gives) }) }
+unfolding operators operator_rows basic_rows extracode_rows
+case_false_3 word low high =
+    let w = written_number (codes "TC") false Number 0 0o10000 word refl (grind (arith, nat_tests)) (omega arith) (omega arith)
+    (omega arith) (omega arith) in
+    record { row = row_of_name (codes "TC"); by = inr (record { number = w.number; shown = w.shown; gives = (refl, w.gives) }) }
 
 case_false_4 : (word : ℕ) → 0o6 ≤ word → word < 0o7 → IsWritten false word
-unfolding operators instruction_text basic_rows extracode_rows octal_text code_of
+unfolding operators operator_rows instruction_text basic_rows extracode_rows octal_text code_of
 case_false_4 word low high = let same : word ≡ 0o6 = omega arith in record
-    { row = 50; by = inl (ap (disassembly false) same, (refl, same)) }
+    { row = row_of_name (codes "EXTEND"); by = inl (ap (disassembly false) same, (refl, same)) }
 
 case_false_5 : (word : ℕ) → 0o7 ≤ word → word < 0o10000 → IsWritten false word
-unfolding operators instruction_text basic_rows extracode_rows octal_text
-case_false_5 word low high = let w = written_tc word (omega arith) (grind (arith, nat_tests)) in record
-    { row = 10; by = inr (record { number = w.number; shown = w.shown; gives = (refl, w.gives) }) }
+unfolding operators operator_rows basic_rows extracode_rows
+case_false_5 word low high =
+    let w = written_number (codes "TC") false Number 0 0o10000 word refl (grind (arith, nat_tests)) (omega arith) (omega arith)
+    (omega arith) (omega arith) in
+    record { row = row_of_name (codes "TC"); by = inr (record { number = w.number; shown = w.shown; gives = (refl, w.gives) }) }
 
 case_false_6 : (word : ℕ) → 0o10000 ≤ word → word < 0o12000 → IsWritten false word
-unfolding operators instruction_text basic_rows extracode_rows octal_text
-case_false_6 word low high = let w = written_number (codes "CCS") false 6 0o10000 0o2000 word Number refl (λ m. refl) (omega arith)
-    (omega arith) (omega arith) (omega arith) in record
-    { row = 12; by = inr (record { number = w.number; shown = w.shown; gives = (refl, w.gives) }) }
+unfolding operators operator_rows basic_rows extracode_rows
+case_false_6 word low high =
+    let w = written_number (codes "CCS") false Number 0o10000 0o2000 word refl (grind (arith, nat_tests)) (omega arith) (omega arith)
+    (omega arith) (omega arith) in
+    record { row = row_of_name (codes "CCS"); by = inr (record { number = w.number; shown = w.shown; gives = (refl, w.gives) }) }
 
 case_false_7 : (word : ℕ) → 0o12000 ≤ word → word < 0o20000 → IsWritten false word
-unfolding operators instruction_text basic_rows extracode_rows octal_text
-case_false_7 word low high = let w = written_number (codes "TCF") false 7 0o10000 0o10000 word Far refl (λ m. refl) (omega arith)
-    (omega arith) (omega arith) (omega arith) in record
-    { row = 13; by = inr (record { number = w.number; shown = w.shown; gives = (refl, w.gives) }) }
+unfolding operators operator_rows basic_rows extracode_rows
+case_false_7 word low high =
+    let w = written_number (codes "TCF") false Far 0o10000 0o10000 word refl (grind (arith, nat_tests)) (omega arith) (omega arith)
+    (omega arith) (omega arith) in
+    record { row = row_of_name (codes "TCF"); by = inr (record { number = w.number; shown = w.shown; gives = (refl, w.gives) }) }
 
 case_false_8 : (word : ℕ) → 0o20000 ≤ word → word < 0o22000 → IsWritten false word
-unfolding operators instruction_text basic_rows extracode_rows octal_text
-case_false_8 word low high = let w = written_number (codes "DAS") false 8 0o20000 0o2000 word Pair refl (λ m. refl) (omega arith)
-    (omega arith) (omega arith) (omega arith) in record
-    { row = 14; by = inr (record { number = w.number; shown = w.shown; gives = (refl, w.gives) }) }
+unfolding operators operator_rows basic_rows extracode_rows
+case_false_8 word low high =
+    let w = written_number (codes "DAS") false Pair 0o20000 0o2000 word refl (grind (arith, nat_tests)) (omega arith) (omega arith)
+    (omega arith) (omega arith) in
+    record { row = row_of_name (codes "DAS"); by = inr (record { number = w.number; shown = w.shown; gives = (refl, w.gives) }) }
 
 case_false_9 : (word : ℕ) → 0o22000 ≤ word → word < 0o24000 → IsWritten false word
-unfolding operators instruction_text basic_rows extracode_rows octal_text
-case_false_9 word low high = let w = written_number (codes "LXCH") false 9 0o22000 0o2000 word Number refl (λ m. refl) (omega arith)
-    (omega arith) (omega arith) (omega arith) in record
-    { row = 15; by = inr (record { number = w.number; shown = w.shown; gives = (refl, w.gives) }) }
+unfolding operators operator_rows basic_rows extracode_rows
+case_false_9 word low high =
+    let w = written_number (codes "LXCH") false Number 0o22000 0o2000 word refl (grind (arith, nat_tests)) (omega arith) (omega arith)
+    (omega arith) (omega arith) in
+    record { row = row_of_name (codes "LXCH"); by = inr (record { number = w.number; shown = w.shown; gives = (refl, w.gives) }) }
 
 case_false_10 : (word : ℕ) → 0o24000 ≤ word → word < 0o26000 → IsWritten false word
-unfolding operators instruction_text basic_rows extracode_rows octal_text
-case_false_10 word low high = let w = written_number (codes "INCR") false 10 0o24000 0o2000 word Number refl (λ m. refl) (omega arith)
-    (omega arith) (omega arith) (omega arith) in record
-    { row = 16; by = inr (record { number = w.number; shown = w.shown; gives = (refl, w.gives) }) }
+unfolding operators operator_rows basic_rows extracode_rows
+case_false_10 word low high =
+    let w = written_number (codes "INCR") false Number 0o24000 0o2000 word refl (grind (arith, nat_tests)) (omega arith) (omega arith)
+    (omega arith) (omega arith) in
+    record { row = row_of_name (codes "INCR"); by = inr (record { number = w.number; shown = w.shown; gives = (refl, w.gives) }) }
 
 case_false_11 : (word : ℕ) → 0o26000 ≤ word → word < 0o30000 → IsWritten false word
-unfolding operators instruction_text basic_rows extracode_rows octal_text
-case_false_11 word low high = let w = written_number (codes "ADS") false 11 0o26000 0o2000 word Number refl (λ m. refl) (omega arith)
-    (omega arith) (omega arith) (omega arith) in record
-    { row = 17; by = inr (record { number = w.number; shown = w.shown; gives = (refl, w.gives) }) }
+unfolding operators operator_rows basic_rows extracode_rows
+case_false_11 word low high =
+    let w = written_number (codes "ADS") false Number 0o26000 0o2000 word refl (grind (arith, nat_tests)) (omega arith) (omega arith)
+    (omega arith) (omega arith) in
+    record { row = row_of_name (codes "ADS"); by = inr (record { number = w.number; shown = w.shown; gives = (refl, w.gives) }) }
 
 case_false_12 : (word : ℕ) → 0o30000 ≤ word → word < 0o40000 → IsWritten false word
-unfolding operators instruction_text basic_rows extracode_rows octal_text
-case_false_12 word low high = let w = written_number (codes "CA") false 12 0o30000 0o10000 word Number refl (λ m. refl) (omega arith)
-    (omega arith) (omega arith) (omega arith) in record
-    { row = 18; by = inr (record { number = w.number; shown = w.shown; gives = (refl, w.gives) }) }
+unfolding operators operator_rows basic_rows extracode_rows
+case_false_12 word low high =
+    let w = written_number (codes "CA") false Number 0o30000 0o10000 word refl (grind (arith, nat_tests)) (omega arith) (omega arith)
+    (omega arith) (omega arith) in
+    record { row = row_of_name (codes "CA"); by = inr (record { number = w.number; shown = w.shown; gives = (refl, w.gives) }) }
 
 case_false_13 : (word : ℕ) → 0o40000 ≤ word → word < 0o50000 → IsWritten false word
-unfolding operators instruction_text basic_rows extracode_rows octal_text
-case_false_13 word low high = let w = written_number (codes "CS") false 13 0o40000 0o10000 word Number refl (λ m. refl) (omega arith)
-    (omega arith) (omega arith) (omega arith) in record
-    { row = 21; by = inr (record { number = w.number; shown = w.shown; gives = (refl, w.gives) }) }
+unfolding operators operator_rows basic_rows extracode_rows
+case_false_13 word low high =
+    let w = written_number (codes "CS") false Number 0o40000 0o10000 word refl (grind (arith, nat_tests)) (omega arith) (omega arith)
+    (omega arith) (omega arith) in
+    record { row = row_of_name (codes "CS"); by = inr (record { number = w.number; shown = w.shown; gives = (refl, w.gives) }) }
 
 case_false_14 : (word : ℕ) → 0o50000 ≤ word → word < 0o50017 → IsWritten false word
-unfolding operators instruction_text basic_rows extracode_rows octal_text
-case_false_14 word low high = let w = written_index word (omega arith) (omega arith) (grind (arith, nat_tests)) in record
-    { row = 22; by = inr (record { number = w.number; shown = w.shown; gives = (refl, w.gives) }) }
+unfolding operators operator_rows basic_rows extracode_rows
+case_false_14 word low high =
+    let w = written_number (codes "INDEX") false Number 0o50000 0o2000 word refl (grind (arith, nat_tests)) (omega arith) (omega arith)
+    (omega arith) (omega arith) in
+    record { row = row_of_name (codes "INDEX"); by = inr (record { number = w.number; shown = w.shown; gives = (refl, w.gives) }) }
 
 case_false_15 : (word : ℕ) → 0o50017 ≤ word → word < 0o50020 → IsWritten false word
-unfolding operators instruction_text basic_rows extracode_rows octal_text code_of
+unfolding operators operator_rows instruction_text basic_rows extracode_rows octal_text code_of
 case_false_15 word low high = let same : word ≡ 0o50017 = omega arith in record
-    { row = 51; by = inl (ap (disassembly false) same, (refl, same)) }
+    { row = row_of_name (codes "RESUME"); by = inl (ap (disassembly false) same, (refl, same)) }
 
 case_false_16 : (word : ℕ) → 0o50020 ≤ word → word < 0o52000 → IsWritten false word
-unfolding operators instruction_text basic_rows extracode_rows octal_text
-case_false_16 word low high = let w = written_index word (omega arith) (omega arith) (grind (arith, nat_tests)) in record
-    { row = 22; by = inr (record { number = w.number; shown = w.shown; gives = (refl, w.gives) }) }
+unfolding operators operator_rows basic_rows extracode_rows
+case_false_16 word low high =
+    let w = written_number (codes "INDEX") false Number 0o50000 0o2000 word refl (grind (arith, nat_tests)) (omega arith) (omega arith)
+    (omega arith) (omega arith) in
+    record { row = row_of_name (codes "INDEX"); by = inr (record { number = w.number; shown = w.shown; gives = (refl, w.gives) }) }
 
 case_false_17 : (word : ℕ) → 0o52000 ≤ word → word < 0o54000 → IsWritten false word
-unfolding operators instruction_text basic_rows extracode_rows octal_text
-case_false_17 word low high = let w = written_number (codes "DXCH") false 17 0o52000 0o2000 word Pair refl (λ m. refl) (omega arith)
-    (omega arith) (omega arith) (omega arith) in record
-    { row = 24; by = inr (record { number = w.number; shown = w.shown; gives = (refl, w.gives) }) }
+unfolding operators operator_rows basic_rows extracode_rows
+case_false_17 word low high =
+    let w = written_number (codes "DXCH") false Pair 0o52000 0o2000 word refl (grind (arith, nat_tests)) (omega arith) (omega arith)
+    (omega arith) (omega arith) in
+    record { row = row_of_name (codes "DXCH"); by = inr (record { number = w.number; shown = w.shown; gives = (refl, w.gives) }) }
 
 case_false_18 : (word : ℕ) → 0o54000 ≤ word → word < 0o56000 → IsWritten false word
-unfolding operators instruction_text basic_rows extracode_rows octal_text
-case_false_18 word low high = let w = written_number (codes "TS") false 18 0o54000 0o2000 word Number refl (λ m. refl) (omega arith)
-    (omega arith) (omega arith) (omega arith) in record
-    { row = 25; by = inr (record { number = w.number; shown = w.shown; gives = (refl, w.gives) }) }
+unfolding operators operator_rows basic_rows extracode_rows
+case_false_18 word low high =
+    let w = written_number (codes "TS") false Number 0o54000 0o2000 word refl (grind (arith, nat_tests)) (omega arith) (omega arith)
+    (omega arith) (omega arith) in
+    record { row = row_of_name (codes "TS"); by = inr (record { number = w.number; shown = w.shown; gives = (refl, w.gives) }) }
 
 case_false_19 : (word : ℕ) → 0o56000 ≤ word → word < 0o60000 → IsWritten false word
-unfolding operators instruction_text basic_rows extracode_rows octal_text
-case_false_19 word low high = let w = written_number (codes "XCH") false 19 0o56000 0o2000 word Number refl (λ m. refl) (omega arith)
-    (omega arith) (omega arith) (omega arith) in record
-    { row = 26; by = inr (record { number = w.number; shown = w.shown; gives = (refl, w.gives) }) }
+unfolding operators operator_rows basic_rows extracode_rows
+case_false_19 word low high =
+    let w = written_number (codes "XCH") false Number 0o56000 0o2000 word refl (grind (arith, nat_tests)) (omega arith) (omega arith)
+    (omega arith) (omega arith) in
+    record { row = row_of_name (codes "XCH"); by = inr (record { number = w.number; shown = w.shown; gives = (refl, w.gives) }) }
 
 case_false_20 : (word : ℕ) → 0o60000 ≤ word → word < 0o70000 → IsWritten false word
-unfolding operators instruction_text basic_rows extracode_rows octal_text
-case_false_20 word low high = let w = written_number (codes "AD") false 20 0o60000 0o10000 word Number refl (λ m. refl) (omega arith)
-    (omega arith) (omega arith) (omega arith) in record
-    { row = 27; by = inr (record { number = w.number; shown = w.shown; gives = (refl, w.gives) }) }
+unfolding operators operator_rows basic_rows extracode_rows
+case_false_20 word low high =
+    let w = written_number (codes "AD") false Number 0o60000 0o10000 word refl (grind (arith, nat_tests)) (omega arith) (omega arith)
+    (omega arith) (omega arith) in
+    record { row = row_of_name (codes "AD"); by = inr (record { number = w.number; shown = w.shown; gives = (refl, w.gives) }) }
 
 case_false_21 : (word : ℕ) → 0o70000 ≤ word → word < 0o100000 → IsWritten false word
-unfolding operators instruction_text basic_rows extracode_rows octal_text
-case_false_21 word low high = let w = written_number (codes "MASK") false 21 0o70000 0o10000 word Number refl (λ m. refl) (omega arith)
-    (omega arith) (omega arith) (omega arith) in record
-    { row = 28; by = inr (record { number = w.number; shown = w.shown; gives = (refl, w.gives) }) }
+unfolding operators operator_rows basic_rows extracode_rows
+case_false_21 word low high =
+    let w = written_number (codes "MASK") false Number 0o70000 0o10000 word refl (grind (arith, nat_tests)) (omega arith) (omega arith)
+    (omega arith) (omega arith) in
+    record { row = row_of_name (codes "MASK"); by = inr (record { number = w.number; shown = w.shown; gives = (refl, w.gives) }) }
 
 case_true_0 : (word : ℕ) → 0o0 ≤ word → word < 0o1000 → IsWritten true word
-unfolding operators instruction_text basic_rows extracode_rows octal_text
-case_true_0 word low high = let w = written_number (codes "READ") true 0 0o0 0o1000 word Channel refl (λ m. refl) (omega arith)
-    (omega arith) (omega arith) (omega arith) in record
-    { row = 30; by = inr (record { number = w.number; shown = w.shown; gives = (refl, w.gives) }) }
+unfolding operators operator_rows basic_rows extracode_rows
+case_true_0 word low high =
+    let w = written_number (codes "READ") true Channel 0o0 0o1000 word refl refl (omega arith) (omega arith)
+    (omega arith) (omega arith) in
+    record { row = row_of_name (codes "READ"); by = inr (record { number = w.number; shown = w.shown; gives = (refl, w.gives) }) }
 
 case_true_1 : (word : ℕ) → 0o1000 ≤ word → word < 0o2000 → IsWritten true word
-unfolding operators instruction_text basic_rows extracode_rows octal_text
-case_true_1 word low high = let w = written_number (codes "WRITE") true 1 0o1000 0o1000 word Channel refl (λ m. refl) (omega arith)
-    (omega arith) (omega arith) (omega arith) in record
-    { row = 31; by = inr (record { number = w.number; shown = w.shown; gives = (refl, w.gives) }) }
+unfolding operators operator_rows basic_rows extracode_rows
+case_true_1 word low high =
+    let w = written_number (codes "WRITE") true Channel 0o1000 0o1000 word refl refl (omega arith) (omega arith)
+    (omega arith) (omega arith) in
+    record { row = row_of_name (codes "WRITE"); by = inr (record { number = w.number; shown = w.shown; gives = (refl, w.gives) }) }
 
 case_true_2 : (word : ℕ) → 0o2000 ≤ word → word < 0o3000 → IsWritten true word
-unfolding operators instruction_text basic_rows extracode_rows octal_text
-case_true_2 word low high = let w = written_number (codes "RAND") true 2 0o2000 0o1000 word Channel refl (λ m. refl) (omega arith)
-    (omega arith) (omega arith) (omega arith) in record
-    { row = 32; by = inr (record { number = w.number; shown = w.shown; gives = (refl, w.gives) }) }
+unfolding operators operator_rows basic_rows extracode_rows
+case_true_2 word low high =
+    let w = written_number (codes "RAND") true Channel 0o2000 0o1000 word refl refl (omega arith) (omega arith)
+    (omega arith) (omega arith) in
+    record { row = row_of_name (codes "RAND"); by = inr (record { number = w.number; shown = w.shown; gives = (refl, w.gives) }) }
 
 case_true_3 : (word : ℕ) → 0o3000 ≤ word → word < 0o4000 → IsWritten true word
-unfolding operators instruction_text basic_rows extracode_rows octal_text
-case_true_3 word low high = let w = written_number (codes "WAND") true 3 0o3000 0o1000 word Channel refl (λ m. refl) (omega arith)
-    (omega arith) (omega arith) (omega arith) in record
-    { row = 33; by = inr (record { number = w.number; shown = w.shown; gives = (refl, w.gives) }) }
+unfolding operators operator_rows basic_rows extracode_rows
+case_true_3 word low high =
+    let w = written_number (codes "WAND") true Channel 0o3000 0o1000 word refl refl (omega arith) (omega arith)
+    (omega arith) (omega arith) in
+    record { row = row_of_name (codes "WAND"); by = inr (record { number = w.number; shown = w.shown; gives = (refl, w.gives) }) }
 
 case_true_4 : (word : ℕ) → 0o4000 ≤ word → word < 0o5000 → IsWritten true word
-unfolding operators instruction_text basic_rows extracode_rows octal_text
-case_true_4 word low high = let w = written_number (codes "ROR") true 4 0o4000 0o1000 word Channel refl (λ m. refl) (omega arith)
-    (omega arith) (omega arith) (omega arith) in record
-    { row = 34; by = inr (record { number = w.number; shown = w.shown; gives = (refl, w.gives) }) }
+unfolding operators operator_rows basic_rows extracode_rows
+case_true_4 word low high =
+    let w = written_number (codes "ROR") true Channel 0o4000 0o1000 word refl refl (omega arith) (omega arith)
+    (omega arith) (omega arith) in
+    record { row = row_of_name (codes "ROR"); by = inr (record { number = w.number; shown = w.shown; gives = (refl, w.gives) }) }
 
 case_true_5 : (word : ℕ) → 0o5000 ≤ word → word < 0o6000 → IsWritten true word
-unfolding operators instruction_text basic_rows extracode_rows octal_text
-case_true_5 word low high = let w = written_number (codes "WOR") true 5 0o5000 0o1000 word Channel refl (λ m. refl) (omega arith)
-    (omega arith) (omega arith) (omega arith) in record
-    { row = 35; by = inr (record { number = w.number; shown = w.shown; gives = (refl, w.gives) }) }
+unfolding operators operator_rows basic_rows extracode_rows
+case_true_5 word low high =
+    let w = written_number (codes "WOR") true Channel 0o5000 0o1000 word refl refl (omega arith) (omega arith)
+    (omega arith) (omega arith) in
+    record { row = row_of_name (codes "WOR"); by = inr (record { number = w.number; shown = w.shown; gives = (refl, w.gives) }) }
 
 case_true_6 : (word : ℕ) → 0o6000 ≤ word → word < 0o7000 → IsWritten true word
-unfolding operators instruction_text basic_rows extracode_rows octal_text
-case_true_6 word low high = let w = written_number (codes "RXOR") true 6 0o6000 0o1000 word Channel refl (λ m. refl) (omega arith)
-    (omega arith) (omega arith) (omega arith) in record
-    { row = 36; by = inr (record { number = w.number; shown = w.shown; gives = (refl, w.gives) }) }
+unfolding operators operator_rows basic_rows extracode_rows
+case_true_6 word low high =
+    let w = written_number (codes "RXOR") true Channel 0o6000 0o1000 word refl refl (omega arith) (omega arith)
+    (omega arith) (omega arith) in
+    record { row = row_of_name (codes "RXOR"); by = inr (record { number = w.number; shown = w.shown; gives = (refl, w.gives) }) }
 
 case_true_8 : (word : ℕ) → 0o10000 ≤ word → word < 0o12000 → IsWritten true word
-unfolding operators instruction_text basic_rows extracode_rows octal_text
-case_true_8 word low high = let w = written_number (codes "DV") true 8 0o10000 0o2000 word Number refl (λ m. refl) (omega arith)
-    (omega arith) (omega arith) (omega arith) in record
-    { row = 37; by = inr (record { number = w.number; shown = w.shown; gives = (refl, w.gives) }) }
+unfolding operators operator_rows basic_rows extracode_rows
+case_true_8 word low high =
+    let w = written_number (codes "DV") true Number 0o10000 0o2000 word refl refl (omega arith) (omega arith)
+    (omega arith) (omega arith) in
+    record { row = row_of_name (codes "DV"); by = inr (record { number = w.number; shown = w.shown; gives = (refl, w.gives) }) }
 
 case_true_9 : (word : ℕ) → 0o12000 ≤ word → word < 0o20000 → IsWritten true word
-unfolding operators instruction_text basic_rows extracode_rows octal_text
-case_true_9 word low high = let w = written_number (codes "BZF") true 9 0o10000 0o10000 word Far refl (λ m. refl) (omega arith)
-    (omega arith) (omega arith) (omega arith) in record
-    { row = 38; by = inr (record { number = w.number; shown = w.shown; gives = (refl, w.gives) }) }
+unfolding operators operator_rows basic_rows extracode_rows
+case_true_9 word low high =
+    let w = written_number (codes "BZF") true Far 0o10000 0o10000 word refl refl (omega arith) (omega arith)
+    (omega arith) (omega arith) in
+    record { row = row_of_name (codes "BZF"); by = inr (record { number = w.number; shown = w.shown; gives = (refl, w.gives) }) }
 
 case_true_10 : (word : ℕ) → 0o20000 ≤ word → word < 0o22000 → IsWritten true word
-unfolding operators instruction_text basic_rows extracode_rows octal_text
-case_true_10 word low high = let w = written_number (codes "MSU") true 10 0o20000 0o2000 word Number refl (λ m. refl) (omega arith)
-    (omega arith) (omega arith) (omega arith) in record
-    { row = 39; by = inr (record { number = w.number; shown = w.shown; gives = (refl, w.gives) }) }
+unfolding operators operator_rows basic_rows extracode_rows
+case_true_10 word low high =
+    let w = written_number (codes "MSU") true Number 0o20000 0o2000 word refl refl (omega arith) (omega arith)
+    (omega arith) (omega arith) in
+    record { row = row_of_name (codes "MSU"); by = inr (record { number = w.number; shown = w.shown; gives = (refl, w.gives) }) }
 
 case_true_11 : (word : ℕ) → 0o22000 ≤ word → word < 0o24000 → IsWritten true word
-unfolding operators instruction_text basic_rows extracode_rows octal_text
-case_true_11 word low high = let w = written_number (codes "QXCH") true 11 0o22000 0o2000 word Number refl (λ m. refl) (omega arith)
-    (omega arith) (omega arith) (omega arith) in record
-    { row = 40; by = inr (record { number = w.number; shown = w.shown; gives = (refl, w.gives) }) }
+unfolding operators operator_rows basic_rows extracode_rows
+case_true_11 word low high =
+    let w = written_number (codes "QXCH") true Number 0o22000 0o2000 word refl refl (omega arith) (omega arith)
+    (omega arith) (omega arith) in
+    record { row = row_of_name (codes "QXCH"); by = inr (record { number = w.number; shown = w.shown; gives = (refl, w.gives) }) }
 
 case_true_12 : (word : ℕ) → 0o24000 ≤ word → word < 0o26000 → IsWritten true word
-unfolding operators instruction_text basic_rows extracode_rows octal_text
-case_true_12 word low high = let w = written_number (codes "AUG") true 12 0o24000 0o2000 word Number refl (λ m. refl) (omega arith)
-    (omega arith) (omega arith) (omega arith) in record
-    { row = 41; by = inr (record { number = w.number; shown = w.shown; gives = (refl, w.gives) }) }
+unfolding operators operator_rows basic_rows extracode_rows
+case_true_12 word low high =
+    let w = written_number (codes "AUG") true Number 0o24000 0o2000 word refl refl (omega arith) (omega arith)
+    (omega arith) (omega arith) in
+    record { row = row_of_name (codes "AUG"); by = inr (record { number = w.number; shown = w.shown; gives = (refl, w.gives) }) }
 
 case_true_13 : (word : ℕ) → 0o26000 ≤ word → word < 0o30000 → IsWritten true word
-unfolding operators instruction_text basic_rows extracode_rows octal_text
-case_true_13 word low high = let w = written_number (codes "DIM") true 13 0o26000 0o2000 word Number refl (λ m. refl) (omega arith)
-    (omega arith) (omega arith) (omega arith) in record
-    { row = 42; by = inr (record { number = w.number; shown = w.shown; gives = (refl, w.gives) }) }
+unfolding operators operator_rows basic_rows extracode_rows
+case_true_13 word low high =
+    let w = written_number (codes "DIM") true Number 0o26000 0o2000 word refl refl (omega arith) (omega arith)
+    (omega arith) (omega arith) in
+    record { row = row_of_name (codes "DIM"); by = inr (record { number = w.number; shown = w.shown; gives = (refl, w.gives) }) }
 
 case_true_14 : (word : ℕ) → 0o30000 ≤ word → word < 0o40000 → IsWritten true word
-unfolding operators instruction_text basic_rows extracode_rows octal_text
-case_true_14 word low high = let w = written_number (codes "DCA") true 14 0o30000 0o10000 word Pair refl (λ m. refl) (omega arith)
-    (omega arith) (omega arith) (omega arith) in record
-    { row = 43; by = inr (record { number = w.number; shown = w.shown; gives = (refl, w.gives) }) }
+unfolding operators operator_rows basic_rows extracode_rows
+case_true_14 word low high =
+    let w = written_number (codes "DCA") true Pair 0o30000 0o10000 word refl refl (omega arith) (omega arith)
+    (omega arith) (omega arith) in
+    record { row = row_of_name (codes "DCA"); by = inr (record { number = w.number; shown = w.shown; gives = (refl, w.gives) }) }
 
 case_true_15 : (word : ℕ) → 0o40000 ≤ word → word < 0o50000 → IsWritten true word
-unfolding operators instruction_text basic_rows extracode_rows octal_text
-case_true_15 word low high = let w = written_number (codes "DCS") true 15 0o40000 0o10000 word Pair refl (λ m. refl) (omega arith)
-    (omega arith) (omega arith) (omega arith) in record
-    { row = 44; by = inr (record { number = w.number; shown = w.shown; gives = (refl, w.gives) }) }
+unfolding operators operator_rows basic_rows extracode_rows
+case_true_15 word low high =
+    let w = written_number (codes "DCS") true Pair 0o40000 0o10000 word refl refl (omega arith) (omega arith)
+    (omega arith) (omega arith) in
+    record { row = row_of_name (codes "DCS"); by = inr (record { number = w.number; shown = w.shown; gives = (refl, w.gives) }) }
 
 case_true_16 : (word : ℕ) → 0o50000 ≤ word → word < 0o60000 → IsWritten true word
-unfolding operators instruction_text basic_rows extracode_rows octal_text
-case_true_16 word low high = let w = written_number (codes "INDEX") true 16 0o50000 0o10000 word Number refl (λ m. refl) (omega arith)
-    (omega arith) (omega arith) (omega arith) in record
-    { row = 22; by = inr (record { number = w.number; shown = w.shown; gives = (refl, w.gives) }) }
+unfolding operators operator_rows basic_rows extracode_rows
+case_true_16 word low high =
+    let w = written_number (codes "INDEX") true Number 0o50000 0o10000 word refl refl (omega arith) (omega arith)
+    (omega arith) (omega arith) in
+    record { row = row_of_name (codes "INDEX"); by = inr (record { number = w.number; shown = w.shown; gives = (refl, w.gives) }) }
 
 case_true_17 : (word : ℕ) → 0o60000 ≤ word → word < 0o62000 → IsWritten true word
-unfolding operators instruction_text basic_rows extracode_rows octal_text
-case_true_17 word low high = let w = written_number (codes "SU") true 17 0o60000 0o2000 word Number refl (λ m. refl) (omega arith)
-    (omega arith) (omega arith) (omega arith) in record
-    { row = 45; by = inr (record { number = w.number; shown = w.shown; gives = (refl, w.gives) }) }
+unfolding operators operator_rows basic_rows extracode_rows
+case_true_17 word low high =
+    let w = written_number (codes "SU") true Number 0o60000 0o2000 word refl refl (omega arith) (omega arith)
+    (omega arith) (omega arith) in
+    record { row = row_of_name (codes "SU"); by = inr (record { number = w.number; shown = w.shown; gives = (refl, w.gives) }) }
 
 case_true_18 : (word : ℕ) → 0o62000 ≤ word → word < 0o70000 → IsWritten true word
-unfolding operators instruction_text basic_rows extracode_rows octal_text
-case_true_18 word low high = let w = written_number (codes "BZMF") true 18 0o60000 0o10000 word Far refl (λ m. refl) (omega arith)
-    (omega arith) (omega arith) (omega arith) in record
-    { row = 46; by = inr (record { number = w.number; shown = w.shown; gives = (refl, w.gives) }) }
+unfolding operators operator_rows basic_rows extracode_rows
+case_true_18 word low high =
+    let w = written_number (codes "BZMF") true Far 0o60000 0o10000 word refl refl (omega arith) (omega arith)
+    (omega arith) (omega arith) in
+    record { row = row_of_name (codes "BZMF"); by = inr (record { number = w.number; shown = w.shown; gives = (refl, w.gives) }) }
 
 case_true_19 : (word : ℕ) → 0o70000 ≤ word → word < 0o100000 → IsWritten true word
-unfolding operators instruction_text basic_rows extracode_rows octal_text
-case_true_19 word low high = let w = written_number (codes "MP") true 19 0o70000 0o10000 word Number refl (λ m. refl) (omega arith)
-    (omega arith) (omega arith) (omega arith) in record
-    { row = 47; by = inr (record { number = w.number; shown = w.shown; gives = (refl, w.gives) }) }
+unfolding operators operator_rows basic_rows extracode_rows
+case_true_19 word low high =
+    let w = written_number (codes "MP") true Number 0o70000 0o10000 word refl refl (omega arith) (omega arith)
+    (omega arith) (omega arith) in
+    record { row = row_of_name (codes "MP"); by = inr (record { number = w.number; shown = w.shown; gives = (refl, w.gives) }) }
 
 barred : (word : ℕ) → 0o7000 ≤ word → word < 0o10000 → is_edrupt true word ≡ false → ⊥
 barred word low high e = absurd (grind (arith, nat_tests))

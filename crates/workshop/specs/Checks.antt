@@ -9,10 +9,10 @@ use Rattle.yayul.specs.declared.faults.Fault.{Fault}
 use Rattle.yayul.specs.declared.language.Language.{Language}
 use Rattle.yayul.specs.declared.language.Language.TheVariants.{Flight, Standard}
 use Rattle.diagnostics.specs.FeedReport.{feed_faults, feed_report}
-use Rattle.diagnostics.specs.Joined.{joined}
+use Rattle.warnings.specs.Joined.{joined}
 use Rattle.diagnostics.specs.Report.{count_text, report}
-use Rattle.diagnostics.specs.Warnings.{warnings}
-use Rattle.diagnostics.specs.declared.told.Warning.{Warning}
+use Rattle.warnings.specs.Warnings.{warnings}
+use Rattle.warnings.specs.declared.told.Warning.{Warning}
 use Rattle.certain.specs.Doubted.{doubted}
 use Rattle.workshop.specs.declared.checking.Tally.{Tally}
 use Rattle.workshop.specs.declared.fault.WorkshopFault.{WorkshopFault}

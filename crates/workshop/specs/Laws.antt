@@ -7,31 +7,7 @@ use Rattle.agc_text.specs.Tables.{value_in}
 use Rattle.cpu.specs.Next.{extracode_after}
 use Rattle.cpu.specs.Texts.{disassembly}
 use Rattle.yayul.specs.Laws.{instructions, GivesAlone, GivesWith, operand_digits, LeavesExtracode}
-
--- the other names of instructions, each with the name or with the whole text by which its words are shown
-abbrev pub spellings : List (List ℕ × List ℕ)
-spellings =
-    (codes "TCR", codes "TC")
-    ∷ (codes "CAE", codes "CA")
-    ∷ (codes "CAF", codes "CA")
-    ∷ (codes "NDX", codes "INDEX")
-    ∷ (codes "MSK", codes "MASK")
-    ∷ (codes "NOOP", codes "TCF")
-    ∷ (codes "XXALQ", codes "TC 0000")
-    ∷ (codes "XLQ", codes "TC 0001")
-    ∷ (codes "RETURN", codes "TC 0002")
-    ∷ (codes "DDOUBL", codes "DAS 0000")
-    ∷ (codes "ZL", codes "LXCH 0007")
-    ∷ (codes "COM", codes "CS 0000")
-    ∷ (codes "DTCF", codes "DXCH 0004")
-    ∷ (codes "DTCB", codes "DXCH 0005")
-    ∷ (codes "OVSK", codes "TS 0000")
-    ∷ (codes "TCAA", codes "TS 0005")
-    ∷ (codes "DOUBLE", codes "AD 0000")
-    ∷ (codes "ZQ", codes "QXCH 0007")
-    ∷ (codes "DCOM", codes "DCS 0000")
-    ∷ (codes "SQUARE", codes "MP 0000")
-    ∷ []
+use Rattle.yayul.specs.Operators.{spellings}
 
 -- what the words of an operator are shown by: another operator's name or text, or its own name
 abbrev pub shown_as : List ℕ → List ℕ

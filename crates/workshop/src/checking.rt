@@ -14,11 +14,12 @@ ghost use Rattle.workshop.specs.Loading.{Reads, ReadsText};
 
 use crate::fault::WorkshopFault;
 use certain::doubted_lines;
-use diagnostics::{Warning, counts, feed_report, joined, refused_file, report, warnings};
+use diagnostics::{counts, feed_report, refused_file, report};
 use json_text::Notation;
 use std::alloc::{AllocError, Global};
+use warnings::{Warning, joined, warnings};
 use words::{MOST_BYTES, Read, Write, read_text, write_all};
-use yayul::{Language, Program, SourceFindings, Symbols, assemble, findings};
+use yayul::{Language, Program, SourceFindings, SourceLines, Symbols, assemble, findings};
 
 /// How many faults and warnings were told.
 #[derive(Clone, Copy, PartialEq, Eq, Debug, Drop)]
@@ -142,41 +143,36 @@ fn read_report<S: Read>(
         (reader S.told S.left S.failures source.old) (reader S.told S.left S.failures source.new)
         (result_map_both (λ r. (r.0.items, r.1)) (λ fault. fault) result) }
 {
-    let source = read_text(alloc, source, MOST_BYTES)?;
-    let found = findings(alloc, language, &source)?;
-    match told_of(alloc, notation, language, name, unused, &source, &found) {
+    let text = read_text(alloc, source, MOST_BYTES)?;
+    let Ok(source) = SourceLines::read(alloc, language, &text) else {
+        return Err(WorkshopFault::NoMemory);
+    };
+    let found = findings(alloc, &source)?;
+    match told_of(alloc, notation, name, unused, &source, &found) {
         Ok(told) => Ok(told),
         Err(_) => Err(WorkshopFault::NoMemory),
     }
 }
 
-// The faults of a source of a language and its warnings in a notation, and how many there are.
+// The faults of a source and its warnings in a notation, and how many there are.
 pub(crate) fn told_of(
     alloc: Global,
     notation: Notation,
-    language: Language,
     name: &[u8],
     unused: bool,
-    source: &[u8],
+    source: &SourceLines<'_>,
     found: &SourceFindings,
 ) -> Result<(Vec<u8>, Tally), AllocError>
-    ensures text { IfOk result (λ r. r.0.items ≡ report notation language name.now source.now found.now.faults.items
-        (cautions language unused found.now.symbols source.now)) }
+    ensures text { IfOk result (λ r. r.0.items
+        ≡ report notation source.now.language name.now source.now.text found.now.faults.items
+        (cautions source.now.language unused found.now.symbols source.now.text)) }
     ensures count { IfOk result (λ r. r.1 ≡ record {
       errors = length found.now.faults.items;
-      warnings = length (cautions language unused found.now.symbols source.now);
+      warnings = length (cautions source.now.language unused found.now.symbols source.now.text);
     }) }
 {
-    let warnings = cautions(alloc, language, unused, &found.symbols, source)?;
-    let text = report(
-        alloc,
-        notation,
-        language,
-        name,
-        source,
-        &found.faults,
-        &warnings,
-    )?;
+    let warnings = cautions(alloc, unused, &found.symbols, source)?;
+    let text = report(alloc, notation, name, source, &found.faults, &warnings)?;
     let tally = Tally {
         errors: found.faults.len(),
         warnings: warnings.len(),
@@ -184,22 +180,22 @@ pub(crate) fn told_of(
     Ok((text, tally))
 }
 
-// All warnings of a source of a language, by the values of its symbols, those of labels that no operand names where
-// they are asked for.
+// All warnings of a source, by the values of its symbols, those of labels that no operand names where they are asked
+// for.
 fn cautions(
     alloc: Global,
-    language: Language,
     unused: bool,
     symbols: &Symbols,
-    source: &[u8],
+    source: &SourceLines<'_>,
 ) -> Result<Vec<Warning>, AllocError>
-    ensures { IfOk result (λ found. found.items ≡ cautions language unused symbols.now source.now) }
+    ensures { IfOk result (λ found. found.items
+        ≡ cautions source.now.language unused symbols.now source.now.text) }
 {
-    let warnings = warnings(alloc, language, source, symbols, unused)?;
-    match language {
+    let warnings = warnings(alloc, source, symbols, unused)?;
+    match source.language() {
         Language::Standard => Ok(warnings),
         Language::Flight => {
-            let doubts = doubts_in(alloc, source)?;
+            let doubts = doubts_in(alloc, source.text())?;
             joined(alloc, &warnings, &doubts)
         }
     }

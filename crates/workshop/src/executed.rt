@@ -34,7 +34,7 @@ pub(crate) fn executed_instructions(
         return Err(WorkshopFault::NoMemory);
     };
     let mut machine = Machine::start();
-    tally.make_steps_apart(processor, &mut machine, 0, steps);
+    tally.make_steps(processor, &mut machine, 0, steps);
     Ok(executed_of(&tally, &instructions))
 }
 

@@ -30,7 +30,7 @@ use notes::Notebook;
 use std::alloc::Global;
 use trace::PlaceNames;
 use words::{Buffer, MOST_BYTES, Read, Write, read_text};
-use yayul::{Language, NamedPlaces, Program, SourceRows, assemble, findings};
+use yayul::{Language, NamedPlaces, Program, SourceLines, SourceRows, assemble, findings};
 
 /// What a text of tests comes to.
 #[derive(Clone, Copy, Debug, Drop)]
@@ -262,16 +262,11 @@ fn checked_for(
 fn checked(alloc: Global, name: &[u8], source: &[u8]) -> Result<(Vec<u8>, Tally), WorkshopFault>
     ensures { IfOk result (λ r. (r.0.items, r.1) ≡ checked name.now source.now) }
 {
-    let found = findings(alloc, Language::Standard, source)?;
-    match told_of(
-        alloc,
-        Notation::Text,
-        Language::Standard,
-        name,
-        false,
-        source,
-        &found,
-    ) {
+    let Ok(lines) = SourceLines::read(alloc, Language::Standard, source) else {
+        return Err(WorkshopFault::NoMemory);
+    };
+    let found = findings(alloc, &lines)?;
+    match told_of(alloc, Notation::Text, name, false, &lines, &found) {
         Ok(told) => Ok(told),
         Err(_) => Err(WorkshopFault::NoMemory),
     }

@@ -54,10 +54,6 @@ pub use debugging::{
     open_program, open_session,
 };
 pub use delaying::delays_program;
-pub use diagnostics::{
-    NoteKind, Refusal, all_headings, explanation, near_in, note_explanation, note_kind, refusal_of,
-    warning_explanation, warning_of,
-};
 pub use differing::{Side, differ_program};
 pub use ending::write_end;
 pub use engine::{
@@ -65,11 +61,16 @@ pub use engine::{
 };
 pub use expect::{Asked, Expectation, Refusal as TextRefusal, expectation_in};
 pub use expecting::{Judged, judge_program};
+pub use explain::{
+    NoteKind, Refusal, all_headings, explanation, note_explanation, note_kind, refusal_of,
+    warning_explanation, warning_of,
+};
 pub use fault::{WorkshopFault, report};
 pub use holed::{asm_filled_with_check_words, asm_with_holes};
 pub use holed_run::{HoledSummary, run_to_hole};
 pub use idling::run_until_idle;
 pub use naming::{named_source_engine, read_names};
+pub use near_names::near_in;
 pub use noting::run_with_notes;
 pub use origin::Origin;
 pub use progress::Unheard;

@@ -1,7 +1,7 @@
 use Rattle.std.proofs.Common.{◌≡◌, ◌∙◌, ℕ, List, Option, None, Some, true, IfSome, refl, sym, ap, subst}
 use Rattle.std.specs.Option.{option_map, option_or}
-use Rattle.yayul.specs.Operators.{operators}
-use Rattle.yayul.specs.Flight.{flight_operator, flight_operators}
+use Rattle.yayul.specs.Operators.{operators, operator_rows}
+use Rattle.yayul.specs.Flight.{flight_operator, flight_operators, flight_rows}
 use Rattle.yayul.specs.Language.{FlightOperator, Operator}
 use Rattle.yayul.specs.Inside.Codes.{has_room, flight_has_room}
 use Rattle.agc_text.specs.Tables.{value_in}
@@ -9,7 +9,7 @@ use Rattle.yayul.proofs.Tables.{value_in-all}
 
 -- the words of each operator have 15 bits
 pub operators_fit : (name : List ℕ) → IfSome (value_in operators name) (λ operator. has_room operator ≡ true)
-unfolding operators
+unfolding operators operator_rows
 operators_fit name = value_in-all has_room operators name refl
 
 pub operator_fits : (name : List ℕ) (operator : Operator) → Some operator ≡ value_in operators name → has_room operator ≡ true
@@ -17,7 +17,7 @@ operator_fits name operator e = subst (λ o. IfSome o (λ operator. has_room ope
 
 -- so have those of each operator that the language of flight programs has of its own
 own_fit : (name : List ℕ) → IfSome (value_in flight_operators name) (λ operator. flight_has_room operator ≡ true)
-unfolding flight_operators
+unfolding flight_operators flight_rows
 own_fit name = value_in-all flight_has_room flight_operators name refl
 
 pub own_fits : (name : List ℕ) (own : FlightOperator) → Some own ≡ value_in flight_operators name → flight_has_room own ≡ true

@@ -3,10 +3,10 @@ use Rattle.std.proofs.Common.{◌≡◌, ◌∙◌, ◌==◌, ◌<◌, ℕ, List
 use Rattle.std.proofs.lemmas.Bool.{cases_Bool}
 use Rattle.std.specs.Option.{option_map}
 use Rattle.agc_text.specs.Tables.{same_name, value_in}
-use Rattle.yayul.specs.Operators.{operators}
-use Rattle.yayul.specs.Flight.{flight_operators}
+use Rattle.yayul.specs.Operators.{operators, operator_rows}
+use Rattle.yayul.specs.Flight.{flight_operators, flight_rows}
 use Rattle.yayul.specs.Language.{FlightOperator, Operator}
-use Rattle.yayul.specs.Roles.{flight_roles, flight_rows, operator_rows, roles}
+use Rattle.yayul.specs.Roles.{role_in}
 use Rattle.yayul.specs.declared.role.Role.{Role}
 use Rattle.yayul.proofs.ByLength.{none_of_length}
 
@@ -20,45 +20,23 @@ column part (e ∷ es) name =
       | inr apart ↦ rw apart (column part es name)
     ]
 
-operators_beside : map (λ e. (e.0, e.1.0)) operator_rows ≡ operators
-unfolding operators roles
-operators_beside = refl
-
-roles_beside : map (λ e. (e.0, e.1.1)) operator_rows ≡ roles
-unfolding operators roles
-roles_beside = refl
-
-flight_operators_beside : map (λ e. (e.0, e.1.0)) flight_rows ≡ flight_operators
-unfolding flight_operators flight_roles
-flight_operators_beside = refl
-
-flight_roles_beside : map (λ e. (e.0, e.1.1)) flight_rows ≡ flight_roles
-unfolding flight_operators flight_roles
-flight_roles_beside = refl
-
 -- the two columns of the row of a name
 pub operator_beside : (name : List ℕ) (row : Option (Operator × Role)) → row ≡ value_in operator_rows name
     → option_map (λ r. r.0) row ≡ value_in operators name
+unfolding operators
 operator_beside name row e = ap (option_map (λ r. r.0)) e ∙ column (λ r. r.0) operator_rows name
-    ∙ ap (λ t. value_in t name) operators_beside
-
-pub role_beside : (name : List ℕ) (row : Option (Operator × Role)) → row ≡ value_in operator_rows name
-    → option_map (λ r. r.1) row ≡ value_in roles name
-role_beside name row e = ap (option_map (λ r. r.1)) e ∙ column (λ r. r.1) operator_rows name ∙ ap (λ t. value_in t name) roles_beside
 
 pub own_operator_beside :
     (name : List ℕ) (row : Option (FlightOperator × Role)) → row ≡ value_in flight_rows name
     → option_map (λ r. r.0) row ≡ value_in flight_operators name
+unfolding flight_operators
 own_operator_beside name row e = ap (option_map (λ r. r.0)) e ∙ column (λ r. r.0) flight_rows name
-    ∙ ap (λ t. value_in t name) flight_operators_beside
 
-pub own_role_beside :
-    (name : List ℕ) (row : Option (FlightOperator × Role)) → row ≡ value_in flight_rows name
-    → option_map (λ r. r.1) row ≡ value_in flight_roles name
-own_role_beside name row e = ap (option_map (λ r. r.1)) e ∙ column (λ r. r.1) flight_rows name
-    ∙ ap (λ t. value_in t name) flight_roles_beside
+pub role_beside : {V : Type 0} (rows : List (List ℕ × (V × Role))) (name : List ℕ) (row : Option (V × Role)) → row ≡ value_in rows name
+    → option_map (λ r. r.1) row ≡ role_in rows name
+role_beside rows name row e = ap (option_map (λ r. r.1)) e
 
 -- no operator's row has another length of name than 1 to 6
 pub no_row_of_length : (count : ℕ) → (0 < count → count < 7 → ⊥) → filter (λ row. length row.0 == count) operator_rows ≡ []
-unfolding operators roles
+unfolding operator_rows
 no_row_of_length count outside = none_of_length count operator_rows refl outside

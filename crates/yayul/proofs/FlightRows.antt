@@ -5,9 +5,9 @@ use Rattle.std.specs.Prelude.{codes, ◌==◌, if◌then◌else◌, is_ok}
 use Rattle.agc_text.specs.Fields.{runs}
 use Rattle.agc_text.specs.Lines.{lines}
 use Rattle.space.specs.Places.{window, fb_of, sup_of}
-use Rattle.yayul.specs.Operators.{operators}
+use Rattle.yayul.specs.Operators.{operators, operator_rows}
 use Rattle.yayul.specs.Forms.{statement_of}
-use Rattle.yayul.specs.Flight.{flight_operators, uncounted_statement}
+use Rattle.yayul.specs.Flight.{flight_operators, uncounted_statement, flight_rows}
 use Rattle.yayul.specs.FlightForms.{has_flight_form}
 use Rattle.yayul.specs.Layout.{fault_number, start, line_effect, layout_after}
 use Rattle.yayul.specs.Later.{with_values}
@@ -117,8 +117,8 @@ good = (
 
 each_good : map {B = Bool × List (ℕ × ℕ × ℕ)} (λ row. (is_ok (program Flight (source row.0)), words (source row.0))) good
     ≡ map {B = Bool × List (ℕ × ℕ × ℕ)} (λ row. (true, row.1)) good
-unfolding program runs operators flight_operators statement_of uncounted_statement line_effect request_words request_faults lines window
-    fb_of sup_of
+unfolding program runs operators operator_rows flight_operators flight_rows statement_of uncounted_statement line_effect request_words
+    request_faults lines window fb_of sup_of
 each_good = refl
 
 -- sources with the line and the kind of their least fault
@@ -201,8 +201,8 @@ faulty =
 
 each_faulty : map (λ row. program Flight (source row.0)) faulty
     ≡ map (λ row. Err (record { line = row.1; number = fault_number row.2 })) faulty
-unfolding program runs operators flight_operators statement_of uncounted_statement line_effect request_words request_faults lines window
-    fb_of sup_of
+unfolding program runs operators operator_rows flight_operators flight_rows statement_of uncounted_statement line_effect request_words
+    request_faults lines window fb_of sup_of
 each_faulty = refl
 
 -- what the standard language refuses of this
@@ -240,7 +240,7 @@ refused =
 
 each_refused : map (λ row. program Standard (source row.0)) refused
     ≡ map (λ row. Err (record { line = row.1; number = fault_number row.2 })) refused
-unfolding program runs operators statement_of line_effect request_words request_faults lines window fb_of sup_of
+unfolding program runs operators operator_rows statement_of line_effect request_words request_faults lines window fb_of sup_of
 each_refused = refl
 
 -- ## Forms
@@ -257,7 +257,7 @@ taken_forms =
     codes " SETLOC 77777 +1" ∷ codes " EBANK= 4000" ∷ codes " " ∷ (codes " OCT 1 #" ++ replicate 120 0o40) ∷ []
 
 all_are_taken : list_all has_flight_form taken_forms ≡ true
-unfolding has_flight_form runs operators flight_operators statement_of uncounted_statement line_effect
+unfolding has_flight_form runs operators operator_rows flight_operators flight_rows statement_of uncounted_statement line_effect
 all_are_taken = refl
 
 -- and lines whose form it does not take
@@ -269,5 +269,5 @@ refused_forms =
     ∷ codes " TFC LOOP" ∷ codes " VN 12" ∷ (replicate 120 0o40 ++ codes "CA X") ∷ []
 
 none_is_taken : list_any has_flight_form refused_forms ≡ false
-unfolding has_flight_form runs operators flight_operators statement_of uncounted_statement line_effect
+unfolding has_flight_form runs operators operator_rows flight_operators flight_rows statement_of uncounted_statement line_effect
 none_is_taken = refl

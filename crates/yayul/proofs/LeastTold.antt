@@ -289,7 +289,7 @@ none_lost w operation all = λ i. names_none operation i || none_in_vain w.promi
 none_waits : (kind : Option FaultKind) → kind ≡ None → standing (kind ∷ []) ≡ []
 none_waits kind e = ap (λ k. standing (k ∷ [])) e
 
-nothing_told : (language : Language) (d : Doubt) (line : ℕ) (text : List ℕ) (taken : Option ℕ) → told_of language d line text taken [] ≡ []
+pub nothing_told : (language : Language) (d : Doubt) (line : ℕ) (text : List ℕ) (taken : Option ℕ) → told_of language d line text taken [] ≡ []
 nothing_told language d line text taken = ap (map (finding language line text taken)) (none_pass (kinds_on language text))
   where
     none_pass : (kinds : List FaultKind) → filter (λ kind. is_one_of [] kind && not (follows d kind)) kinds ≡ []

@@ -13,7 +13,13 @@ mod LeastOfSet
 mod Labels
 mod LateFaults
 mod FormFaults
+pub mod GivenWords
 mod Lines
+pub mod LinesRead
+mod ReadSaid
+mod LanguageKept
+mod KeptFaultless
+mod NoneStands
 mod Tables
 mod TakenPlaces
 mod TextAlone

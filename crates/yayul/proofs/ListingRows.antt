@@ -8,7 +8,7 @@ use Rattle.rope.specs.Places.{Words, word_at}
 use Rattle.space.specs.Places.{window, fb_of}
 use Rattle.words.specs.Numerals.{octal_text}
 use Rattle.yayul.specs.Language.{Standard}
-use Rattle.yayul.specs.Operators.{operators}
+use Rattle.yayul.specs.Operators.{operators, operator_rows}
 use Rattle.yayul.specs.Forms.{statement_of}
 use Rattle.yayul.specs.Layout.{start, line_effect}
 use Rattle.yayul.specs.Words.{request_words, request_faults}
@@ -44,12 +44,12 @@ shows texts = lines_show 1 (start Standard) texts
 
 five_plus_five_shows : shows (codes " SETLOC 4000" ∷ codes " CA FIVE" ∷ codes " AD FIVE" ∷ codes " EXTEND" ∷ codes " WRITE 10"
     ∷ codes " TCF 4000" ∷ codes "FIVE OCT 5" ∷ []) ≡ nothing ∷ word 2 0 ∷ word 2 1 ∷ word 2 2 ∷ word 2 3 ∷ word 2 4 ∷ word 2 5 ∷ []
-unfolding runs operators statement_of line_effect
+unfolding runs operators operator_rows statement_of line_effect
 five_plus_five_shows = refl
 
 bank_five_shows : shows (codes " BANK 5" ∷ codes " OCT 1" ∷ codes " SETLOC 4000" ∷ codes " BANK 5" ∷ codes " OCT 2" ∷ [])
     ≡ nothing ∷ word 5 0 ∷ nothing ∷ nothing ∷ word 5 1 ∷ []
-unfolding runs operators statement_of line_effect
+unfolding runs operators operator_rows statement_of line_effect
 bank_five_shows = refl
 
 second_row_of_five_plus_five : (words : Words) → word_at words 2 0 ≡ 0o34005
@@ -98,11 +98,11 @@ places_without_words : listed (program Standard
     ∷ codes "Y        ERASABLE 0502"
     ∷ codes "LAST     FIXED 03,0000"
     ∷ [])
-unfolding program runs operators statement_of line_effect request_words request_faults lines window fb_of listing line_rows number_column
-    word_columns place_text symbol_row symbols_head octal_text digits
+unfolding program runs operators operator_rows statement_of line_effect request_words request_faults lines window fb_of listing line_rows
+    number_column word_columns place_text symbol_row symbols_head octal_text digits
 places_without_words = refl
 
 no_lines : listed (program Standard []) ≡ source (codes "SYMBOLS 0" ∷ [])
-unfolding program runs operators statement_of line_effect request_words request_faults lines window fb_of listing line_rows number_column
-    word_columns place_text symbol_row symbols_head octal_text digits
+unfolding program runs operators operator_rows statement_of line_effect request_words request_faults lines window fb_of listing line_rows
+    number_column word_columns place_text symbol_row symbols_head octal_text digits
 no_lines = refl

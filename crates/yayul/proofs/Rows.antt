@@ -5,7 +5,7 @@ use Rattle.agc_text.specs.Fields.{runs}
 use Rattle.agc_text.specs.Lines.{lines}
 use Rattle.rope.specs.Places.{Placed}
 use Rattle.space.specs.Places.{window, fb_of, sup_of}
-use Rattle.yayul.specs.Operators.{operators}
+use Rattle.yayul.specs.Operators.{operators, operator_rows}
 use Rattle.yayul.specs.Forms.{statement_of}
 use Rattle.yayul.specs.Layout.{fault_number, start, line_effect, layout_after}
 use Rattle.yayul.specs.Words.{request_words, request_faults}
@@ -103,7 +103,7 @@ good = (
 
 each_good : map {B = Bool × List ℕ} (λ row. (is_ok (program Standard (source row.0)), map (λ p. p.word) (placed (source row.0)))) good
     ≡ map {B = Bool × List ℕ} (λ row. (true, row.1)) good
-unfolding program runs operators statement_of line_effect request_words request_faults lines window fb_of sup_of
+unfolding program runs operators operator_rows statement_of line_effect request_words request_faults lines window fb_of sup_of
 each_good = refl
 
 -- sources with the banks and the offsets of their words
@@ -119,7 +119,7 @@ spread =
 each_spread : map {B = Bool × List (ℕ × ℕ)} (λ row.
     (is_ok (program Standard (source row.0)), map (λ p. (p.bank, p.offset)) (placed (source row.0)))) spread
     ≡ map {B = Bool × List (ℕ × ℕ)} (λ row. (true, row.1)) spread
-unfolding program runs operators statement_of line_effect request_words request_faults lines window fb_of sup_of
+unfolding program runs operators operator_rows statement_of line_effect request_words request_faults lines window fb_of sup_of
 each_spread = refl
 
 -- sources with the line and the kind of their least fault
@@ -231,5 +231,5 @@ faulty =
 
 each_faulty : map (λ row. program Standard (source row.0)) faulty
     ≡ map (λ row. Err (record { line = row.1; number = fault_number row.2 })) faulty
-unfolding program runs operators statement_of line_effect request_words request_faults lines window fb_of sup_of
+unfolding program runs operators operator_rows statement_of line_effect request_words request_faults lines window fb_of sup_of
 each_faulty = refl

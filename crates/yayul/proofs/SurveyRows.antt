@@ -5,9 +5,9 @@ use Rattle.agc_text.specs.Fields.{runs}
 use Rattle.agc_text.specs.Lines.{lines}
 use Rattle.space.specs.Places.{window, fb_of, sup_of}
 use Rattle.yayul.specs.Language.{Flight, Standard}
-use Rattle.yayul.specs.Operators.{operators}
+use Rattle.yayul.specs.Operators.{operators, operator_rows}
 use Rattle.yayul.specs.Forms.{statement_of}
-use Rattle.yayul.specs.Flight.{flight_operators, uncounted_statement}
+use Rattle.yayul.specs.Flight.{flight_operators, uncounted_statement, flight_rows}
 use Rattle.yayul.specs.Layout.{fault_number, line_effect}
 use Rattle.yayul.specs.Words.{request_words, request_faults}
 use Rattle.yayul.specs.Mended.{given_by}
@@ -50,13 +50,13 @@ told_rows =
 
 each_told : map {B = List (ℕ × ℕ × ℕ × ℕ)} (λ r. map row (told Standard (source r.0))) told_rows
     ≡ map {B = List (ℕ × ℕ × ℕ × ℕ)} (λ r. r.1) told_rows
-unfolding told span_in span_at runs operators statement_of passed_line given_by line_effect request_words request_faults lines window fb_of
-    sup_of
+unfolding told span_in span_at runs operators operator_rows statement_of passed_line given_by line_effect request_words request_faults lines
+    window fb_of sup_of
 each_told = refl
 
 -- so it is in the language of flight programs: on a line with a count the fields after it are marked
-abbrev flight_rows : List (List ℕ × List (ℕ × ℕ × ℕ × ℕ))
-flight_rows =
+abbrev flight_sources : List (List ℕ × List (ℕ × ℕ × ℕ × ℕ))
+flight_sources =
     (codes "+3 CA X", (1, 7, 1, 17) ∷ [])
     ∷ (codes " -1 FROB X", (1, 5, 4, 15) ∷ [])
     ∷ (codes "  +8D TC 14000 +5", (1, 10, 8, 26) ∷ [])
@@ -71,10 +71,10 @@ flight_rows =
     ∷ (replicate 121 0o40 ++ codes "# one byte and its sign too many", (1, 121, 2, 11) ∷ [])
     ∷ []
 
-each_flight : map {B = List (ℕ × ℕ × ℕ × ℕ)} (λ r. map row (told Flight (source r.0))) flight_rows
-    ≡ map {B = List (ℕ × ℕ × ℕ × ℕ)} (λ r. r.1) flight_rows
-unfolding told span_in span_at runs operators flight_operators statement_of uncounted_statement passed_line given_by line_effect
-    request_words request_faults lines window fb_of sup_of
+each_flight : map {B = List (ℕ × ℕ × ℕ × ℕ)} (λ r. map row (told Flight (source r.0))) flight_sources
+    ≡ map {B = List (ℕ × ℕ × ℕ × ℕ)} (λ r. r.1) flight_sources
+unfolding told span_in span_at runs operators operator_rows flight_operators flight_rows statement_of uncounted_statement passed_line
+    given_by line_effect request_words request_faults lines window fb_of sup_of
 each_flight = refl
 
 -- of places that are taken, the line and that whose word stands there: the first word's, else the second's; an operand without a form takes
@@ -96,8 +96,8 @@ taken_rows =
 
 each_taken : map {B = List (ℕ × ℕ × Option ℕ)} (λ r. map taken_row (told Standard (source r.0))) taken_rows
     ≡ map {B = List (ℕ × ℕ × Option ℕ)} (λ r. r.1) taken_rows
-unfolding told span_in span_at runs operators statement_of passed_line given_by line_effect request_words request_faults lines window fb_of
-    sup_of
+unfolding told span_in span_at runs operators operator_rows statement_of passed_line given_by line_effect request_words request_faults lines
+    window fb_of sup_of
 each_taken = refl
 
 -- and in the language of flight programs, where 2DEC gives two words
@@ -108,6 +108,6 @@ flight_taken =
 
 each_flight_taken : map {B = List (ℕ × ℕ × Option ℕ)} (λ r. map taken_row (told Flight (source r.0))) flight_taken
     ≡ map {B = List (ℕ × ℕ × Option ℕ)} (λ r. r.1) flight_taken
-unfolding told span_in span_at runs operators flight_operators statement_of uncounted_statement passed_line given_by line_effect
-    request_words request_faults lines window fb_of sup_of
+unfolding told span_in span_at runs operators operator_rows flight_operators flight_rows statement_of uncounted_statement passed_line
+    given_by line_effect request_words request_faults lines window fb_of sup_of
 each_flight_taken = refl

@@ -15,7 +15,7 @@ use Rattle.agc_text.specs.Digits.{digits_value, is_digit}
 use Rattle.agc_text.specs.Fields.{Piece, is_blank, before_comment, runs, texts, label_of, others_of}
 use Rattle.agc_text.specs.Tables.{value_in}
 use Rattle.agc_text.proofs.Splits.{texts-skip, texts-take}
-use Rattle.yayul.specs.Operators.{operators}
+use Rattle.yayul.specs.Operators.{operators, operator_rows}
 use Rattle.yayul.specs.Forms.{statement_of, label_in, operation_in, operation_of, octal_in, number_in, greatest_number, is_marked_decimal}
 use Rattle.yayul.specs.Language.{All, Bank, Constant, Gives, Is, Missing, Statement}
 use Rattle.yayul.proofs.Octals.{octal_all, octal_number}
@@ -180,12 +180,12 @@ bank_others bank = refl
 
 octal_says : (text : List ℕ) (word : ℕ) → octal_in text ≡ Is word
     → operation_of (value_in operators (codes "OCT")) (text ∷ []) ≡ Gives (Some (Constant (Some word)))
-unfolding operators
+unfolding operators operator_rows
 octal_says text word is = rw is refl
 
 bank_says : (text : List ℕ) (bank : ℕ) → number_in text ≡ Is bank
     → operation_of (value_in operators (codes "BANK")) (text ∷ []) ≡ Bank All (Is bank)
-unfolding operators
+unfolding operators operator_rows
 bank_says text bank is = ap (Bank All) is
 
 pub word_said : (word : ℕ) (comment : List ℕ) → word < 8 ^ 5

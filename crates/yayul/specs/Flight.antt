@@ -1,6 +1,6 @@
 -- The language of flight programs: what it has beyond the standard one, and what a line says in either.
 use Rattle.std.specs.Prelude.{ℕ, ◌+◌, ◌-◌, ◌*◌, ◌/◌, ◌%◌, ◌==◌, ◌&&◌, ◌||◌, not, nat_le, nat_lt, Bool, true, false, List, [], ◌∷◌, length}
-use Rattle.std.specs.Prelude.{take, drop, slice_get, codes, Option, None, Some, option_map, if◌then◌else◌}
+use Rattle.std.specs.Prelude.{map, take, drop, slice_get, codes, Option, None, Some, option_map, if◌then◌else◌}
 use Rattle.std.specs.List.{list_any}
 use Rattle.std.specs.Option.{option_map_or, option_or}
 use Rattle.agc_text.specs.Digits.{number_of}
@@ -18,6 +18,7 @@ use Rattle.yayul.specs.Language.{Label, Language, Location, Minus, Missing, Name
 use Rattle.yayul.specs.Language.{Numeral, Octals, One, Operand, Pair}
 use Rattle.yayul.specs.Language.{Operation, Operator, PassedOver, Plus, Setloc, Shift, Standard, Statement, Takes, Ten, Term, Twelve, Two}
 use Rattle.yayul.specs.Language.{TwoOrThree, Unknown, VerbNoun}
+use Rattle.yayul.specs.declared.role.Role.{Role}
 
 abbrev pub is_flight : Language → Bool
 is_flight Standard = false
@@ -102,50 +103,54 @@ abbrev pub address_in : List (List ℕ) → Option Operand
 address_in rest = option_map (λ operand. with_place operand operand.term operand.shift) (flight_operand_in rest)
 
 -- ## Operators
--- each operator that the standard language lacks, or has with fewer forms
-unfoldable pub flight_operators : List (List ℕ × FlightOperator)
-flight_operators =
-    (codes "EQUALS", FlightOperator.Equals)
-    ∷ (codes "=", FlightOperator.Equals)
-    ∷ (codes "BANK", FlightOperator.Bank All)
-    ∷ (codes "BLOCK", FlightOperator.Bank TwoOrThree)
-    ∷ (codes "COUNT", PassedOver)
-    ∷ (codes "COUNT*", PassedOver)
-    ∷ (codes "BNKSUM", PassedOver)
-    ∷ (codes "SUBRO", PassedOver)
-    ∷ (codes "MEMORY", PassedOver)
-    ∷ (codes "CHECK=", PassedOver)
-    ∷ (codes "OCT", FlightOperator.Octal)
-    ∷ (codes "OCTAL", FlightOperator.Octal)
-    ∷ (codes "2OCT", Octals)
-    ∷ (codes "VN", VerbNoun)
-    ∷ (codes "DEC", FlightOperator.Decimal One)
-    ∷ (codes "2DEC", FlightOperator.Decimal Two)
-    ∷ (codes "DEC*", FlightOperator.Decimal One)
-    ∷ (codes "2DEC*", FlightOperator.Decimal Two)
-    ∷ (codes "BBCON", FlightOperator.BankWord)
-    ∷ (codes "-2CADR", FlightOperator.FarComplement)
-    ∷ (codes "-CADR", FlightOperator.Complemented (code 0 Twelve No FixedPlace))
-    ∷ (codes "-GENADR", FlightOperator.Complemented (code 0 Twelve No Address))
-    ∷ (codes "-CCS", FlightOperator.Complemented (code 0o10000 Ten No Address))
-    ∷ (codes "-1DNADR", FlightOperator.Complemented (code 0 Twelve No ErasablePlace))
-    ∷ (codes "-2DNADR", FlightOperator.Complemented (code 0o4000 Twelve No ErasablePlace))
-    ∷ (codes "-3DNADR", FlightOperator.Complemented (code 0o10000 Twelve No ErasablePlace))
-    ∷ (codes "-4DNADR", FlightOperator.Complemented (code 0o14000 Twelve No ErasablePlace))
-    ∷ (codes "-5DNADR", FlightOperator.Complemented (code 0o20000 Twelve No ErasablePlace))
-    ∷ (codes "-6DNADR", FlightOperator.Complemented (code 0o24000 Twelve No ErasablePlace))
-    ∷ (codes "-DNCHAN", FlightOperator.Complemented (code 0o34000 Nine No Channel))
-    ∷ (codes "CAF", FlightOperator.ReadFixed)
-    ∷ (codes "GENADR", FlightOperator.Standard (addressed 0 Twelve No Address))
-    ∷ (codes "REMADR", FlightOperator.Standard (addressed 0 Twelve No Address))
-    ∷ (codes "1DNADR", FlightOperator.Standard (addressed 0 Twelve No ErasablePlace))
-    ∷ (codes "2DNADR", FlightOperator.Standard (addressed 0o4000 Twelve No ErasablePlace))
-    ∷ (codes "3DNADR", FlightOperator.Standard (addressed 0o10000 Twelve No ErasablePlace))
-    ∷ (codes "4DNADR", FlightOperator.Standard (addressed 0o14000 Twelve No ErasablePlace))
-    ∷ (codes "5DNADR", FlightOperator.Standard (addressed 0o20000 Twelve No ErasablePlace))
-    ∷ (codes "6DNADR", FlightOperator.Standard (addressed 0o24000 Twelve No ErasablePlace))
-    ∷ (codes "DNCHAN", FlightOperator.Standard (addressed 0o34000 Nine No Channel))
+-- each operator that the standard language lacks, or has with fewer forms, with what it says and what it is
+unfoldable pub flight_rows : List (List ℕ × (FlightOperator × Role))
+flight_rows =
+    (codes "EQUALS", (FlightOperator.Equals, Role.Equals))
+    ∷ (codes "=", (FlightOperator.Equals, Role.Equals))
+    ∷ (codes "BANK", (FlightOperator.Bank All, Role.Bank))
+    ∷ (codes "BLOCK", (FlightOperator.Bank TwoOrThree, Role.Block))
+    ∷ (codes "COUNT", (PassedOver, Role.Ignored))
+    ∷ (codes "COUNT*", (PassedOver, Role.Ignored))
+    ∷ (codes "BNKSUM", (PassedOver, Role.Ignored))
+    ∷ (codes "SUBRO", (PassedOver, Role.Ignored))
+    ∷ (codes "MEMORY", (PassedOver, Role.Ignored))
+    ∷ (codes "CHECK=", (PassedOver, Role.Ignored))
+    ∷ (codes "OCT", (FlightOperator.Octal, Role.Octal))
+    ∷ (codes "OCTAL", (FlightOperator.Octal, Role.Octal))
+    ∷ (codes "2OCT", (Octals, Role.OctalPair))
+    ∷ (codes "VN", (VerbNoun, Role.VerbNoun))
+    ∷ (codes "DEC", (FlightOperator.Decimal One, Role.Decimal))
+    ∷ (codes "2DEC", (FlightOperator.Decimal Two, Role.DecimalPair))
+    ∷ (codes "DEC*", (FlightOperator.Decimal One, Role.Decimal))
+    ∷ (codes "2DEC*", (FlightOperator.Decimal Two, Role.DecimalPair))
+    ∷ (codes "BBCON", (FlightOperator.BankWord, Role.BankConstant))
+    ∷ (codes "-2CADR", (FlightOperator.FarComplement, Role.FarComplement))
+    ∷ (codes "-CADR", (FlightOperator.Complemented (code 0 Twelve No FixedPlace), Role.FixedComplement))
+    ∷ (codes "-GENADR", (FlightOperator.Complemented (code 0 Twelve No Address), Role.Address))
+    ∷ (codes "-CCS", (FlightOperator.Complemented (code 0o10000 Ten No Address), Role.CountComplement))
+    ∷ (codes "-1DNADR", (FlightOperator.Complemented (code 0 Twelve No ErasablePlace), Role.Downlist))
+    ∷ (codes "-2DNADR", (FlightOperator.Complemented (code 0o4000 Twelve No ErasablePlace), Role.Downlist))
+    ∷ (codes "-3DNADR", (FlightOperator.Complemented (code 0o10000 Twelve No ErasablePlace), Role.Downlist))
+    ∷ (codes "-4DNADR", (FlightOperator.Complemented (code 0o14000 Twelve No ErasablePlace), Role.Downlist))
+    ∷ (codes "-5DNADR", (FlightOperator.Complemented (code 0o20000 Twelve No ErasablePlace), Role.Downlist))
+    ∷ (codes "-6DNADR", (FlightOperator.Complemented (code 0o24000 Twelve No ErasablePlace), Role.Downlist))
+    ∷ (codes "-DNCHAN", (FlightOperator.Complemented (code 0o34000 Nine No Channel), Role.DownlistChannel))
+    ∷ (codes "CAF", (FlightOperator.ReadFixed, Role.ReadFixed))
+    ∷ (codes "GENADR", (FlightOperator.Standard (addressed 0 Twelve No Address), Role.Address))
+    ∷ (codes "REMADR", (FlightOperator.Standard (addressed 0 Twelve No Address), Role.Address))
+    ∷ (codes "1DNADR", (FlightOperator.Standard (addressed 0 Twelve No ErasablePlace), Role.Downlist))
+    ∷ (codes "2DNADR", (FlightOperator.Standard (addressed 0o4000 Twelve No ErasablePlace), Role.Downlist))
+    ∷ (codes "3DNADR", (FlightOperator.Standard (addressed 0o10000 Twelve No ErasablePlace), Role.Downlist))
+    ∷ (codes "4DNADR", (FlightOperator.Standard (addressed 0o14000 Twelve No ErasablePlace), Role.Downlist))
+    ∷ (codes "5DNADR", (FlightOperator.Standard (addressed 0o20000 Twelve No ErasablePlace), Role.Downlist))
+    ∷ (codes "6DNADR", (FlightOperator.Standard (addressed 0o24000 Twelve No ErasablePlace), Role.Downlist))
+    ∷ (codes "DNCHAN", (FlightOperator.Standard (addressed 0o34000 Nine No Channel), Role.DownlistChannel))
     ∷ []
+
+-- what each says, by its name
+unfoldable pub flight_operators : List (List ℕ × FlightOperator)
+flight_operators = map (λ row. (row.0, row.1.0)) flight_rows
 
 -- the operator of a name: that of its own row, else that of the standard language
 abbrev pub flight_operator : List ℕ → Option FlightOperator

@@ -7,4 +7,5 @@ pub mod Answers
 pub mod Waiting
 pub mod WordLines
 pub mod Surveys
+pub mod LinesRead
 pub mod Names

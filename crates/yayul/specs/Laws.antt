@@ -1,6 +1,6 @@
 -- What the definitions of the source language come to.
 use Rattle.std.specs.Prelude.{◌≡◌, ◌≢◌, ℕ, ◌+◌, ◌-◌, ◌*◌, ◌^◌, ◌<◌, ◌≤◌, ◌==◌, ◌&&◌, ◌||◌, not, Bool, true, false, List, [], ◌∷◌, All}
-use Rattle.std.specs.Prelude.{AllPairs, length, filter, slice_get, take, codes, Option, Some, None, option_and_then, unwrap_or, Result, Ok}
+use Rattle.std.specs.Prelude.{AllPairs, length, filter, slice_get, take, Option, Some, None, option_and_then, unwrap_or, Result, Ok}
 use Rattle.std.specs.Prelude.{Err, IfOk, IfSome}
 use Rattle.std.specs.List.{list_any}
 use Rattle.agc_text.specs.Lines.{lines}
@@ -9,7 +9,7 @@ use Rattle.yayul.specs.Forms.{scaled}
 use Rattle.yayul.specs.Layout.{Layout, Request, start, extends, stands_at, fault_number, is_later, layout_after, layout_faults}
 use Rattle.yayul.specs.Layout.{statement_on}
 use Rattle.yayul.specs.Mended.{lacks_operand}
-use Rattle.yayul.specs.Operators.{operators}
+use Rattle.yayul.specs.Operators.{operators, address_operators}
 use Rattle.yayul.specs.Program.{Program, program}
 use Rattle.yayul.specs.Survey.{Survey, counts_from_here, erases, layout_kinds, looked_at, operand_of, operation_on, passed_lines}
 use Rattle.yayul.specs.Survey.{rests_on_known, told, unmarked}
@@ -20,10 +20,6 @@ use Rattle.yayul.specs.Language.{Undefined, UsedTooEarly, Value, WrongKindOfAddr
 use Rattle.yayul.specs.declared.finding.Finding.{Finding}
 
 -- ## The words of instructions
--- the operators whose words are addresses, and no instructions
-abbrev pub address_operators : List (List ℕ)
-address_operators = codes "ADRES" ∷ codes "ECADR" ∷ codes "CADR" ∷ codes "FCADR" ∷ []
-
 -- the rows of all other operators
 abbrev pub instructions : List (List ℕ × Operator)
 instructions = filter (λ row. not (list_any (same_name row.0) address_operators)) operators

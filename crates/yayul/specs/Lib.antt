@@ -12,6 +12,7 @@ pub mod Program
 pub mod Mended
 pub mod Survey
 pub mod Readings
+pub mod ReadLines
 pub mod Told
 pub mod Listing
 pub mod ListingObjects

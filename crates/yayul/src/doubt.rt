@@ -8,8 +8,8 @@ ghost use Rattle.yayul.specs.Survey.{is_here, counts_from_here, waits_in_vain, e
 ghost use Rattle.yayul.specs.Survey.{follows};
 
 use crate::faults::FaultKind;
-use crate::finding::wrong_byte;
 use crate::language::{Content, Operand, Operation, Term};
+use crate::read_line::ReadLine;
 use symbols::Symbols;
 
 /// What is known before a line in spite of faults before it.
@@ -41,8 +41,8 @@ impl Known {
     }
 
     /// What is known after a line that is done, or is not.
-    pub(crate) fn after(self, text: &[u8], operation: &Operation, done: bool) -> Known
-        ensures { result ≡ known_after self text.now operation.now done }
+    pub(crate) fn after(self, line: &ReadLine<'_>, operation: &Operation, done: bool) -> Known
+        ensures { result ≡ known_after self line.now.text operation.now done }
     {
         Known {
             location: if operation.moves() {
@@ -52,7 +52,7 @@ impl Known {
             },
             banks: self.banks && (done || !operation.may_give()),
             extracode: operation.keeps_extracode_known(self.extracode),
-            wrong: wrong_byte(text).or(self.wrong),
+            wrong: line.wrong_byte().or(self.wrong),
         }
     }
 }

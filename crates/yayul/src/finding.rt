@@ -4,14 +4,10 @@ ghost use Rattle.std.specs.Prelude.{◌≡◌, ◌+◌, ◌<◌, ◌≤◌, ◌^
 ghost use Rattle.std.specs.Option.{option_map};
 ghost use Rattle.agc_text.specs.Bytes.{is_text_byte};
 ghost use Rattle.agc_text.specs.Views.{piece, end_of};
-ghost use Rattle.yayul.specs.Survey.{wrong_place, wrong_byte, span_of, through, first_of, span_at, span_in, later};
-ghost use Rattle.yayul.specs.Flight.{measured, uncounted};
-ghost use Rattle.yayul.specs.declared.faults.FaultKind.TheVariants.{LongLine};
-ghost use Rattle.yayul.specs.declared.language.Language.TheVariants.{Flight};
+ghost use Rattle.yayul.specs.Survey.{wrong_place, span_of, through, first_of, span_at, later};
+ghost use Rattle.yayul.specs.Inside.LinesRead.{IsApart};
 
 use crate::faults::FaultKind;
-use crate::flight::{measured, uncounted};
-use crate::language::Language;
 use agc_text::{Field, LINE_LENGTH, Line, is_text};
 
 /// Some bytes of a line.
@@ -38,7 +34,7 @@ pub struct Finding {
 
 impl Span {
     // The bytes so many later, within so many.
-    fn later(self, most: usize, count: usize) -> Span
+    pub(crate) fn later(self, most: usize, count: usize) -> Span
         ensures { result ≡ later most count self }
     {
         let start = match count.checked_add(self.start) {
@@ -52,42 +48,12 @@ impl Span {
     }
 }
 
-/// The bytes of a line that are to blame for a fault in a language.
-#[tactic(auto, unfolding(crate::specs::Survey::span_in))]
-pub(crate) fn span_in(language: Language, text: &[u8], kind: FaultKind) -> Span
-    ensures { result ≡ span_in language text.now kind }
-{
-    match language {
-        Language::Standard => span_at(text, kind),
-        Language::Flight => flight_span(text, kind),
-    }
-}
-
-// The same in a flight program: on a line with a count the fields after it.
-#[tactic(auto, unfolding(crate::specs::Survey::span_in))]
-fn flight_span(text: &[u8], kind: FaultKind) -> Span
-    ensures { result ≡ span_in Flight text.now kind }
-{
-    match kind {
-        FaultKind::LongLine => Span {
-            start: LINE_LENGTH,
-            width: measured(Language::Flight, text)
-                .len()
-                .saturating_sub(LINE_LENGTH),
-        },
-        _ => {
-            let uncounted = uncounted(text);
-            span_at(uncounted, kind).later(text.len(), text.len() - uncounted.len())
-        }
-    }
-}
-
-// The bytes of a line that are to blame for a fault.
+/// The bytes of a line that are to blame for a fault, where the line is taken apart.
 #[tactic(auto, unfolding(crate::specs::Survey::span_at))]
-fn span_at(text: &[u8], kind: FaultKind) -> Span
+pub(crate) fn span_at(text: &[u8], line: &Line<'_>, kind: FaultKind) -> Span
+    requires { IsApart text.now line.now }
     ensures { result ≡ span_at text.now kind }
 {
-    let line = Line::of(text);
     match kind {
         FaultKind::NotAscii => Span {
             start: wrong_place(text),
@@ -118,21 +84,8 @@ fn span_at(text: &[u8], kind: FaultKind) -> Span
     }
 }
 
-/// The first byte that a line may not hold.
-#[tactic(auto, using(crate::proofs::TextAlone::no_wrong_byte))]
-pub(crate) fn wrong_byte(text: &[u8]) -> Option<u8>
-    ensures { result ≡ wrong_byte text.now }
-{
-    // Nearly all lines hold text alone, and sixteen bytes at a time are tested for that.
-    if is_text(text) {
-        None
-    } else {
-        text.get(wrong_place(text)).copied()
-    }
-}
-
-// The place of the first byte that a line may not hold, or its length.
-fn wrong_place(text: &[u8]) -> usize
+/// The place of the first byte that a line may not hold, or its length.
+pub(crate) fn wrong_place(text: &[u8]) -> usize
     ensures { result ≡ wrong_place text.now }
 {
     for (place, byte) in text.iter().enumerate() {

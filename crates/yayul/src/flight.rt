@@ -15,6 +15,7 @@ ghost use Rattle.yayul.specs.Flight.{uncounted_statement};
 ghost use Rattle.yayul.specs.Forms.{alone};
 ghost use Rattle.yayul.specs.Scales.{decimal_content};
 ghost use Rattle.yayul.specs.Inside.Codes.{greatest_code, greatest_with_field, has_room, flight_has_room};
+ghost use Rattle.yayul.specs.Inside.LinesRead.{IsApart};
 ghost use Rattle.yayul.specs.Inside.Representation.{text_of, arguments_of, flight_operation_by};
 
 use crate::decimal::complemented;
@@ -106,9 +107,28 @@ fn uncounted_statement(here: Location, text: &[u8]) -> Statement
     ensures { result ≡ uncounted_statement here text.now }
 {
     let line = Line::of(text);
+    let operator = match line.operator {
+        Some(operator) => flight_operator_of(operator.text),
+        None => None,
+    };
+    flight_statement_by(here, operator, text, &line)
+}
+
+/// What a line without a count says that is taken apart, where its operator is this.
+pub(crate) fn flight_statement_by(
+    here: Location,
+    operator: Option<FlightOperator>,
+    text: &[u8],
+    line: &Line<'_>,
+) -> Statement
+    requires named { operator ≡ option_and_then (λ f. flight_operator f.text.now) line.now.operator }
+    requires fits { IfSome operator (λ operator. flight_has_room operator ≡ true) }
+    requires apart { IsApart text.now line.now }
+    ensures { result ≡ uncounted_statement here text.now }
+{
     Statement {
         label: flight_label_in(line.label),
-        operation: operation_by(here, text, &line),
+        operation: operation_by(here, operator, text, line),
     }
 }
 
@@ -147,13 +167,20 @@ pub fn is_signed_name(text: &[u8]) -> bool
         && !is_digits(text.get(1..).unwrap_or(&[]))
 }
 
-// What the fields besides the label say.
-fn operation_by(here: Location, text: &[u8], line: &Line<'_>) -> Operation
-    requires { IfSome line.now.operand (IsSliceOf text.now) }
+// What the fields besides the label say, where their operator is this.
+fn operation_by(
+    here: Location,
+    operator: Option<FlightOperator>,
+    text: &[u8],
+    line: &Line<'_>,
+) -> Operation
+    requires named { operator ≡ option_and_then (λ f. flight_operator f.text.now) line.now.operator }
+    requires fits { IfSome operator (λ operator. flight_has_room operator ≡ true) }
+    requires slice { IfSome line.now.operand (IsSliceOf text.now) }
     ensures { result ≡ flight_operation_by here text.now line.now }
 {
     match line.operator {
-        Some(operator) => flight_operation_of(here, flight_operator_of(operator.text), text, line),
+        Some(_) => flight_operation_of(here, operator, text, line),
         None => Operation::Nothing,
     }
 }

@@ -2,6 +2,8 @@
 
 ghost use Rattle.std.specs.Prelude.{◌≡◌, ◌<◌, ◌≤◌, length, ◌∷◌, [], ◌++◌, ℕ, List, false, ◌&&◌, not, is_some, IfOk};
 ghost use Rattle.std.specs.Prelude.{IfErr, OnOk, Some};
+ghost use Rattle.std.specs.List.{list_all};
+ghost use Rattle.agc_text.specs.Bytes.{is_text_byte};
 ghost use Rattle.agc_text.specs.Tables.{value_in};
 ghost use Rattle.symbols.specs.declared.values.Value.{Value as Symbol};
 ghost use Rattle.yayul.specs.declared.language.Label.TheVariants.{Named};
@@ -480,15 +482,22 @@ pub(crate) fn fault_of<T>(outcome: &Result<T, FaultKind>) -> Option<FaultKind>
 fn text_fault(language: Language, line: u32, text: &[u8]) -> Option<FaultKind>
     ensures { result ≡ least_kind (text_faults language line text.now) }
 {
-    least_fault(&text_conditions(language, line, text))
+    least_fault(&conditions_of_text(language, line, text, is_text(text)))
 }
 
-/// The faults of a line's bytes, its length and its number, each where its condition holds.
-pub(crate) fn text_conditions(language: Language, line: u32, text: &[u8]) -> [Option<FaultKind>; 3]
+/// The faults of a line's bytes, its length and its number, each where its condition holds; the line holds text alone,
+/// or does not.
+pub(crate) fn conditions_of_text(
+    language: Language,
+    line: u32,
+    text: &[u8],
+    is_text: bool,
+) -> [Option<FaultKind>; 3]
+    requires { is_text ≡ list_all is_text_byte text.now }
     ensures { standing result ≡ text_faults language line text.now }
 {
     [
-        FaultKind::NotAscii.when(!is_text(text)),
+        FaultKind::NotAscii.when(!is_text),
         FaultKind::LongLine.when(measured(language, text).len() > LINE_LENGTH),
         FaultKind::TooManyLines.when(line == most_lines(language) + 1),
     ]

@@ -1,8 +1,8 @@
 //! What a line says in spite of an operand that has no form.
 
-ghost use Rattle.std.specs.Prelude.{◌≡◌, true};
-ghost use Rattle.yayul.specs.Mended.{counted_out, lacks_operand, any_operand, any_word, any_words, words_of};
-ghost use Rattle.yayul.specs.Mended.{decimal_words, flight_words_of, given_by, lacks_form, mended};
+ghost use Rattle.std.specs.Prelude.{◌≡◌, ◌≤◌, true, length};
+ghost use Rattle.yayul.specs.Mended.{counted_out, any_operand, any_word, any_words, words_of};
+ghost use Rattle.yayul.specs.Mended.{decimal_words, flight_words_of, lacks_form};
 ghost use Rattle.yayul.specs.Inside.Codes.{has_room, flight_has_room};
 
 use crate::flight::{fixed_reading, uncounted};
@@ -11,9 +11,7 @@ use crate::language::{
     Content, DoubleWord, FlightOperator, Language, Operand, Operation, Operator, Precision, Shift,
     Term,
 };
-use crate::operator::{flight_operator_of, operator_of};
 use crate::statement::next_location;
-use agc_text::Line;
 use words::Word;
 
 impl Operation {
@@ -23,44 +21,16 @@ impl Operation {
     {
         matches!(self, Operation::Gives(None))
     }
-
-    /// What a line says that says this, where an operand that has no form, of words, is one of no account.
-    pub(crate) fn mended(self, language: Language, text: &[u8]) -> Operation
-        ensures { result ≡ mended language text.now self }
-    {
-        match self {
-            Operation::Gives(None) => Operation::Gives(given_by(language, text)),
-            operation => operation,
-        }
-    }
-}
-
-/// Whether no operand stands on a line.
-pub(crate) fn lacks_operand(language: Language, text: &[u8]) -> bool
-    ensures { result ≡ lacks_operand language text.now }
-{
-    Line::of(counted_out(language, text)).operand.is_none()
 }
 
 // A line without a count that its language passes over.
-fn counted_out(language: Language, text: &[u8]) -> &[u8]
-    ensures { result.now ≡ counted_out language text.now }
+pub(crate) fn counted_out(language: Language, text: &[u8]) -> &[u8]
+    ensures value { result.now ≡ counted_out language text.now }
+    ensures within { length result.now ≤ length text.now }
 {
     match language {
         Language::Standard => text,
         Language::Flight => uncounted(text),
-    }
-}
-
-// The words that the operator of a line gives, whatever its operand.
-#[tactic(auto, unfolding(crate::specs::Mended::given_by))]
-fn given_by(language: Language, text: &[u8]) -> Option<Content>
-    ensures { result ≡ given_by language text.now }
-{
-    let operator = Line::of(counted_out(language, text)).operator?;
-    match language {
-        Language::Standard => words_of(operator_of(operator.text)?),
-        Language::Flight => flight_words_of(flight_operator_of(operator.text)?),
     }
 }
 
@@ -88,7 +58,8 @@ fn words_of(operator: Operator) -> Option<Content>
     }
 }
 
-fn flight_words_of(operator: FlightOperator) -> Option<Content>
+/// The words that an operator gives, whatever its operand.
+pub(crate) fn flight_words_of(operator: FlightOperator) -> Option<Content>
     requires { flight_has_room operator ≡ true }
     ensures { result ≡ flight_words_of operator }
 {

@@ -3,12 +3,13 @@
 ghost use Rattle.std.specs.Prelude.{◌≡◌, ◌==◌, ◌≤◌, true, IfSome, filter, length, map};
 ghost use Rattle.std.specs.Option.{SomeIff};
 ghost use Rattle.agc_text.specs.Tables.{named, value_in};
-ghost use Rattle.yayul.specs.Operators.{operators, is_bank, field_size, bits_under};
-ghost use Rattle.yayul.specs.Flight.{flight_operator, flight_operators};
-ghost use Rattle.yayul.specs.Roles.{flight_roles, flight_rows, is_operator_of, names_of_length, operator_rows, role_of};
-ghost use Rattle.yayul.specs.Roles.{roles};
+ghost use Rattle.yayul.specs.Operators.{operators, operator_rows, is_bank, field_size, bits_under};
+ghost use Rattle.yayul.specs.Flight.{flight_operator, flight_operators, flight_rows};
+ghost use Rattle.yayul.specs.Roles.{is_operator_of, names_of_length, role_in, role_of};
+ghost use Rattle.yayul.specs.Language.{Standard};
 ghost use Rattle.yayul.specs.Words.{extracode_fault};
 ghost use Rattle.yayul.specs.Inside.Codes.{has_room, flight_has_room};
+ghost use Rattle.yayul.specs.Inside.LinesRead.{operator_named};
 
 use crate::faults::FaultKind;
 use crate::language::{
@@ -402,6 +403,33 @@ pub(crate) fn operator_of(name: &[u8]) -> Option<Operator>
     }
 }
 
+/// What an operator of a language says, and what it is, by its name.
+pub(crate) fn operator_and_role(
+    language: Language,
+    name: &[u8],
+) -> (Option<FlightOperator>, Option<Role>)
+    ensures operator { result.0 ≡ operator_named language name.now }
+    ensures role { result.1 ≡ role_of language name.now }
+    ensures fits { IfSome result.0 (λ operator. flight_has_room operator ≡ true) }
+{
+    match language {
+        Language::Standard => standard_operator_and_role(name),
+        Language::Flight => (flight_operator_of(name), role_of(language, name)),
+    }
+}
+
+// The same in the standard language.
+fn standard_operator_and_role(name: &[u8]) -> (Option<FlightOperator>, Option<Role>)
+    ensures operator { result.0 ≡ operator_named Standard name.now }
+    ensures role { result.1 ≡ role_of Standard name.now }
+    ensures fits { IfSome result.0 (λ operator. flight_has_room operator ≡ true) }
+{
+    match row_of(name) {
+        Some((operator, role)) => (Some(FlightOperator::Standard(operator)), Some(role)),
+        None => (None, None),
+    }
+}
+
 /// An operator's name in a language.
 pub fn is_operator(language: Language, name: &[u8]) -> bool
     ensures { result ≡ is_operator_of language name.now }
@@ -434,7 +462,7 @@ pub fn operator_names(count: usize) -> ArrayVec<&'static str, MOST_NAMES>
 
 // What an operator of the standard language is.
 fn standard_role_of(name: &[u8]) -> Option<Role>
-    ensures { result ≡ value_in roles name.now }
+    ensures { result ≡ role_in operator_rows name.now }
 {
     match row_of(name) {
         Some((_, role)) => Some(role),
@@ -444,7 +472,7 @@ fn standard_role_of(name: &[u8]) -> Option<Role>
 
 // What an operator is that the standard language lacks, or has with fewer forms.
 fn own_role_of(name: &[u8]) -> Option<Role>
-    ensures { result ≡ value_in flight_roles name.now }
+    ensures { result ≡ role_in flight_rows name.now }
 {
     match own_row_of(name) {
         Some((_, role)) => Some(role),
@@ -460,7 +488,7 @@ fn own_row_of(name: &[u8]) -> Option<(FlightOperator, Role)>
 }
 
 // The rows of the operators that the standard language lacks, or has with fewer forms.
-#[tactic(auto, unfolding(crate::specs::Flight::flight_operators, crate::specs::Roles::flight_roles))]
+#[tactic(auto, unfolding(crate::specs::Flight::flight_rows))]
 fn flight_rows() -> &'static [(&'static str, (FlightOperator, Role))]
     ensures { named result.now ≡ flight_rows }
 {
@@ -475,7 +503,7 @@ fn row_of(name: &[u8]) -> Option<(Operator, Role)>
 }
 
 // The rows of the operators whose names have so many characters.
-#[tactic(auto, unfolding(crate::specs::Operators::operators, crate::specs::Roles::roles))]
+#[tactic(auto, unfolding(crate::specs::Operators::operator_rows))]
 fn rows_of_length(count: usize) -> &'static [(&'static str, (Operator, Role))]
     ensures rows { named result.now ≡ filter (λ row. length row.0 == count) operator_rows }
     ensures few { length result.now ≤ MOST_NAMES }

@@ -35,7 +35,25 @@ pub struct Reading<'a> {
     pub role: Option<Role>,
 }
 
-impl Reading<'_> {
+impl<'a> Reading<'a> {
+    /// The same with fields so many bytes later.
+    pub(crate) fn later(self, count: usize) -> Reading<'a>
+        requires label { IfSome self.label (λ f. end_of f + count < 2 ^ 64) }
+        requires operator { IfSome self.operator (λ f. end_of f + count < 2 ^ 64) }
+        requires operand { IfSome self.operand (λ f. end_of f + count < 2 ^ 64) }
+        requires offset { IfSome self.offset (λ f. end_of f + count < 2 ^ 64) }
+        ensures { parts_in result ≡ later_parts count (parts_in self.entry) }
+    {
+        Reading {
+            label: later(count, self.label),
+            operator: later(count, self.operator),
+            operand: later(count, self.operand),
+            offset: later(count, self.offset),
+            more: self.more,
+            role: self.role,
+        }
+    }
+
     /// What the operand stands for by the symbols of a source. It has no value where its symbol has none, where it
     /// leads past its bounds, and where it counts from its line.
     pub fn operand_value(&self, language: Language, symbols: &Symbols) -> Option<Value>

@@ -1,11 +1,14 @@
 //! What a line of the source says, whatever stands before it.
 
-ghost use Rattle.std.specs.Prelude.{◌≡◌, ◌≤◌, true, IfSome};
+ghost use Rattle.std.specs.Prelude.{◌≡◌, ◌≤◌, ℕ, List, true, IfSome, option_and_then};
+ghost use Rattle.agc_text.specs.Tables.{value_in};
 ghost use Rattle.yayul.specs.Forms.{with_form, label_in, operand_in, alone, number_in, octal_in, decimal_in, count_in};
 ghost use Rattle.yayul.specs.Forms.{erased_in, next_location, operation_of, statement_of};
+ghost use Rattle.yayul.specs.Operators.{operators};
 ghost use Rattle.yayul.specs.Layout.{is_malformed, is_missing, width, extends};
 ghost use Rattle.yayul.specs.Words.{extracode_of};
 ghost use Rattle.yayul.specs.Inside.Codes.{has_room};
+ghost use Rattle.yayul.specs.Inside.LinesRead.{IsApart};
 ghost use Rattle.yayul.specs.Inside.Representation.{text_of, arguments_of, operation_by};
 ghost use Rattle.yayul.specs.declared.language.Content.TheVariants as content;
 
@@ -96,9 +99,22 @@ pub(crate) fn statement_of(line: &[u8]) -> Statement
     ensures { result ≡ statement_of line.now }
 {
     let line = Line::of(line);
+    let operator = match line.operator {
+        Some(operator) => operator_of(operator.text),
+        None => None,
+    };
+    statement_by(operator, &line)
+}
+
+/// What a line says that is taken apart, where its operator is this.
+pub(crate) fn statement_by(operator: Option<Operator>, line: &Line<'_>) -> Statement
+    requires named { operator ≡ option_and_then (λ f. value_in operators f.text.now) line.now.operator }
+    requires fits { IfSome operator (λ operator. has_room operator ≡ true) }
+    ensures { (text : List ℕ) → IsApart text line.now → result ≡ statement_of text }
+{
     Statement {
         label: label_in(line.label),
-        operation: operation_by(&line),
+        operation: operation_by(operator, line),
     }
 }
 
@@ -115,12 +131,14 @@ pub(crate) fn label_in(field: Option<Field<'_>>) -> Label
     }
 }
 
-// What the fields besides the label say.
-fn operation_by(line: &Line<'_>) -> Operation
+// What the fields besides the label say, where their operator is this.
+fn operation_by(operator: Option<Operator>, line: &Line<'_>) -> Operation
+    requires named { operator ≡ option_and_then (λ f. value_in operators f.text.now) line.now.operator }
+    requires fits { IfSome operator (λ operator. has_room operator ≡ true) }
     ensures { result ≡ operation_by line.now }
 {
     match line.operator {
-        Some(operator) => operation_of(operator_of(operator.text), line),
+        Some(_) => operation_of(operator, line),
         None => Operation::Nothing,
     }
 }

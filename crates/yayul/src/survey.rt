@@ -1,7 +1,8 @@
 //! All faults of a source at once.
 
-ghost use Rattle.std.specs.Prelude.{◌≡◌, ◌<◌, ◌≤◌, ◌+◌, ◌++◌, ◌&&◌, ◌||◌, not, ℕ, false, true, length, map, filter};
-ghost use Rattle.std.specs.Prelude.{flat_map, IfErr, IfOk, OnOk};
+ghost use Rattle.std.specs.Prelude.{◌≡◌, ◌<◌, ◌≤◌, ◌+◌, ◌++◌, ◌&&◌, ◌||◌, [], not, ℕ, false, true, length, map, filter};
+ghost use Rattle.std.specs.Prelude.{flat_map, nat_lt, IfErr, IfOk, OnOk, if◌then◌else◌};
+ghost use Rattle.agc_text.specs.Bytes.{line_length};
 ghost use Rattle.arrayvec.specs.ArrayVec.{array_vec_len};
 ghost use Rattle.std.specs.List.{list_any, list_all};
 ghost use Rattle.std.specs.Option.{option_map_or};
@@ -9,27 +10,28 @@ ghost use Rattle.yayul.specs.Layout.{standing, fault_number, statement_on};
 ghost use Rattle.yayul.specs.Inside.Answers.{layout_of};
 ghost use Rattle.yayul.specs.Program.{no_memory};
 ghost use Rattle.yayul.specs.Mended.{lacks_form};
+ghost use Rattle.yayul.specs.Language.{Missing};
 ghost use Rattle.yayul.specs.Survey.{Survey as Surveyed, unmarked, noted, operation_on, is_of_label, is_done, is_kept};
-ghost use Rattle.yayul.specs.Survey.{names_one, waits_in_vain, label_lost, label_passed, kept_label, laid, passed_over};
+ghost use Rattle.yayul.specs.Survey.{names_one, waits_in_vain, label_lost, laid, passed_over};
 ghost use Rattle.yayul.specs.Survey.{done_line, with_known, some_stands, passed_line, passed_lines, settled_survey};
 ghost use Rattle.yayul.specs.Survey.{follows, named_line, finding, taken_by, told_of, told_line, told_lines, looked_at};
-ghost use Rattle.yayul.specs.Survey.{known_symbols, told};
+ghost use Rattle.yayul.specs.Survey.{kinds_in_order, known_symbols, layout_kinds, told};
+ghost use Rattle.yayul.specs.ReadLines.{passed};
 ghost use Rattle.yayul.specs.Inside.Surveys.{Surveys, has_number, number_in, kinds_of, stands_beyond, doubt_of};
-ghost use Rattle.yayul.specs.Inside.Surveys.{vain_of};
+ghost use Rattle.yayul.specs.Inside.Surveys.{are_absent, is_absent, vain_of};
 
 use crate::assembly::NO_MEMORY;
 use crate::conditions::Conditions;
 use crate::doubt::{Doubt, Known, is_same_byte};
 use crate::faults::{Fault, FaultKind, least_fault};
-use crate::finding::{Finding, span_in, wrong_byte};
-use crate::flight::most_lines;
+use crate::finding::{Finding, Span};
 use crate::language::{Label, Language, Location, Operation, Statement};
 use crate::later::settle;
 use crate::layout::{Layout, Placing};
-use crate::line::text_conditions;
-use crate::mended::lacks_operand;
+use crate::read_line::ReadLine;
+use crate::source_lines::SourceLines;
 use crate::word_lines::WordLines;
-use agc_text::{LINE_LENGTH, is_text, next_line};
+use agc_text::LINE_LENGTH;
 use arrayvec::ArrayVec;
 use std::alloc::{AllocError, Global};
 use symbols::{FixedBank, Symbols, Value};
@@ -43,6 +45,8 @@ struct Said {
     operation: Operation,
     /// Whether it is such an operand.
     formless: bool,
+    /// The layout faults of the fields.
+    conditions: Conditions,
 }
 
 /// What stands before a line. Of a line with a fault what is sure is done.
@@ -83,114 +87,127 @@ impl Survey {
     }
 
     // What a line says.
-    fn said_on(&self, text: &[u8]) -> Said
-        ensures label { result.label ≡ (statement_on (layout_of self.now.layout) text.now).label }
-        ensures operation { result.operation ≡ operation_on (layout_of self.now.layout) text.now }
-        ensures formless { result.formless ≡ lacks_form (statement_on (layout_of self.now.layout) text.now).operation }
+    fn said_on(&self, text: &ReadLine<'_>) -> Said
+        requires { text.now.language ≡ self.now.layout.language }
+        ensures label { result.label ≡ (statement_on (layout_of self.now.layout) text.now.text).label }
+        ensures operation { result.operation ≡ operation_on (layout_of self.now.layout) text.now.text }
+        ensures formless { result.formless
+            ≡ lacks_form (statement_on (layout_of self.now.layout) text.now.text).operation }
+        ensures conditions { (line : ℕ) (s : Surveyed) → Surveys line s self.now
+            → standing result.conditions ≡ layout_kinds line s.layout result.label result.operation }
     {
-        let Statement { label, operation } = self.layout.statement_on(text);
+        let Statement { label, operation } = text.statement(self.layout.location);
+        let formless = operation.lacks_form();
+        let operation = text.mended(operation);
         Said {
+            conditions: self.layout.conditions(&self.placing, &label, &operation),
             label,
-            formless: operation.lacks_form(),
-            operation: operation.mended(self.layout.language, text),
+            formless,
+            operation,
         }
     }
 
     // Passes a line that says this.
-    fn pass(&mut self, line: u32, text: &[u8], said: Said) -> Result<(), Fault>
-        requires label { said.label ≡ (statement_on (layout_of self.old.layout) text.now).label }
-        requires operation { said.operation ≡ operation_on (layout_of self.old.layout) text.now }
+    fn pass(&mut self, line: u32, text: &ReadLine<'_>, said: Said) -> Result<(), Fault>
+        requires language { text.now.language ≡ self.old.layout.language }
+        requires label { said.label ≡ (statement_on (layout_of self.old.layout) text.now.text).label }
+        requires operation { said.operation ≡ operation_on (layout_of self.old.layout) text.now.text }
+        requires conditions { (line : ℕ) (s : Surveyed) → Surveys line s self.old
+            → standing said.conditions ≡ layout_kinds line s.layout said.label said.operation }
         ensures leads { (s : Surveyed) → Surveys line s self.old
-            → OnOk result (Surveys (line + 1) (passed_line line s text.now) self.new) }
+            → OnOk result (Surveys (line + 1) (passed_line line s text.now.text) self.new) }
         ensures err { IfErr result (λ fault. fault ≡ no_memory) }
     {
         let Said {
             label,
             operation,
+            conditions,
             ..
         } = said;
-        let kinds = self.layout.conditions(&self.placing, &label, &operation);
-        let alone = lacks_operand(self.layout.language, text);
-        let done = is_done(&kinds, self.known, alone, &operation);
-        let kept = is_kept(&kinds, done);
+        let alone = text.lacks_operand();
+        let done = is_done(&conditions, self.known, alone, &operation);
+        let kept = is_kept(&conditions, done);
         let known = self.known.after(text, &operation, done);
         self.pass_said(line, text, label, operation, done, kept)?;
         self.know(known);
         Ok(())
     }
 
-    // Passes a line that is done, or is not, and whose label is kept or not.
+    // Passes a line that is done, or is not, and whose label is kept or not: as that of a line without a fault.
     fn pass_said(
         &mut self,
         line: u32,
-        text: &[u8],
+        text: &ReadLine<'_>,
         label: Label,
         operation: Operation,
         done: bool,
         kept: bool,
     ) -> Result<(), Fault>
-        requires { label ≡ (statement_on (layout_of self.old.layout) text.now).label }
+        requires language { text.now.language ≡ self.old.layout.language }
+        requires label { label ≡ (statement_on (layout_of self.old.layout) text.now.text).label }
+        requires done { kept ≡ true → done ≡ true }
+        requires faultless { kept ≡ true → (line : ℕ) (s : Surveyed) → Surveys line s self.old
+            → layout_kinds line s.layout label operation ≡ [] }
         ensures leads { (s : Surveyed) → Surveys line s self.old
             → OnOk result (Surveys (line + 1) (done_line line s label operation done kept) self.new) }
         ensures known { self.new.known ≡ self.old.known }
         ensures err { IfErr result (λ fault. fault ≡ no_memory) }
     {
-        let label = self.pass_label(text, label, &operation, kept)?;
+        if kept {
+            return self.lay(line, label, operation);
+        }
+        self.lose(text, label, &operation)?;
         if done {
-            self.lay(line, label, operation)
+            self.lay_unlabelled(line, operation)
         } else {
             self.pass_over(&operation);
             Ok(())
         }
     }
 
-    // The label of a line, where it is kept; another has no value.
-    fn pass_label(
+    // The label of a line has no value; where its operator takes one, it may not stand again.
+    fn lose(
         &mut self,
-        text: &[u8],
+        text: &ReadLine<'_>,
         label: Label,
         operation: &Operation,
-        kept: bool,
-    ) -> Result<Label, Fault>
-        requires { label ≡ (statement_on (layout_of self.old.layout) text.now).label }
-        ensures leads { (line : ℕ) (s : Surveyed) → Surveys line s self.old
-            → OnOk result (Surveys line (label_passed kept s label operation.now) self.new) }
-        ensures label { IfOk result (λ passed. passed ≡ kept_label kept label) }
-        ensures known { self.new.known ≡ self.old.known }
-        ensures err { IfErr result (λ fault. fault ≡ no_memory) }
-    {
-        if kept {
-            return Ok(label);
-        }
-        self.lose(text, label, operation)?;
-        Ok(Label::Missing)
-    }
-
-    // The label of a line has no value; where its operator takes one, it may not stand again.
-    fn lose(&mut self, text: &[u8], label: Label, operation: &Operation) -> Result<(), Fault>
-        requires { label ≡ (statement_on (layout_of self.old.layout) text.now).label }
+    ) -> Result<(), Fault>
+        requires language { text.now.language ≡ self.old.layout.language }
+        requires label { label ≡ (statement_on (layout_of self.old.layout) text.now.text).label }
         ensures leads { (line : ℕ) (s : Surveyed) → Surveys line s self.old
             → OnOk result (Surveys line (label_lost s label operation.now) self.new) }
         ensures known { self.new.known ≡ self.old.known }
         ensures err { IfErr result (λ fault. fault ≡ no_memory) }
     {
         if !operation.is_bare() {
-            let copy = self.layout.statement_on(text).label;
+            let copy = text.statement(self.layout.location).label;
             note(&mut self.layout.promised, copy)?;
         }
         note(&mut self.lost, label)
     }
 
-    // Does what a line says, where it has no fault.
+    // Does what a line without a label says, where it has no fault.
+    fn lay_unlabelled(&mut self, line: u32, operation: Operation) -> Result<(), Fault>
+        ensures leads { (s : Surveyed) → Surveys line s self.old
+            → OnOk result (Surveys (line + 1) (laid line s Missing operation) self.new) }
+        ensures known { self.new.known ≡ self.old.known }
+        ensures err { IfErr result (λ fault. fault ≡ no_memory) }
+    {
+        let label = Label::Missing;
+        if is_any(&self.layout.conditions(&self.placing, &label, &operation)) {
+            return Ok(());
+        }
+        self.lay(line, label, operation)
+    }
+
+    // Does what a line without a fault says.
     fn lay(&mut self, line: u32, label: Label, operation: Operation) -> Result<(), Fault>
+        requires { (line : ℕ) (s : Surveyed) → Surveys line s self.old → layout_kinds line s.layout label operation ≡ [] }
         ensures leads { (s : Surveyed) → Surveys line s self.old
             → OnOk result (Surveys (line + 1) (laid line s label operation) self.new) }
         ensures known { self.new.known ≡ self.old.known }
         ensures err { IfErr result (λ fault. fault ≡ no_memory) }
     {
-        if is_any(&self.layout.conditions(&self.placing, &label, &operation)) {
-            return Ok(());
-        }
         self.lines.hold(line, &self.layout, operation.width());
         match self
             .layout
@@ -311,14 +328,14 @@ pub struct SourceFindings {
 
 /// All faults of a source that do not follow from others, and the values of its symbols.
 #[tactic(auto, unfolding(crate::specs::Survey::told, crate::specs::Survey::known_symbols))]
-pub fn findings(alloc: Global, language: Language, source: &[u8]) -> Result<SourceFindings, Fault>
-    ensures told { IfOk result (λ found. found.faults.items ≡ told language source.now) }
-    ensures symbols { IfOk result (λ found. found.symbols ≡ known_symbols language source.now) }
+pub fn findings(alloc: Global, source: &SourceLines<'_>) -> Result<SourceFindings, Fault>
+    ensures told { IfOk result (λ found. found.faults.items ≡ told source.now.language source.now.text) }
+    ensures symbols { IfOk result (λ found. found.symbols ≡ known_symbols source.now.language source.now.text) }
     ensures err { IfErr result (λ fault. fault ≡ no_memory) }
 {
-    let mut whole = passed_lines(alloc, language, source)?;
+    let mut whole = passed_lines(alloc, source)?;
     whole.settle()?;
-    let faults = told_lines(alloc, language, source, &whole)?;
+    let faults = told_lines(alloc, source, &whole)?;
     Ok(SourceFindings {
         faults,
         symbols: whole.layout.symbols,
@@ -326,21 +343,17 @@ pub fn findings(alloc: Global, language: Language, source: &[u8]) -> Result<Sour
 }
 
 // What stands after the lines of a source.
-fn passed_lines(alloc: Global, language: Language, source: &[u8]) -> Result<Survey, Fault>
+fn passed_lines(alloc: Global, source: &SourceLines<'_>) -> Result<Survey, Fault>
     ensures passed { IfOk result (λ survey. (line : ℕ)
-        × Surveys line (passed_lines 1 (unmarked language) (looked_at language source.now)) survey) }
+        × Surveys line (passed source.now) survey) }
     ensures err { IfErr result (λ fault. fault ≡ no_memory) }
 {
-    let mut survey = Survey::start(alloc, language)?;
-    let mut rest = source;
+    let mut survey = Survey::start(alloc, source.language())?;
+    let lines = source.lines();
     let mut line = 1;
-    while let Some((text, after)) = next_line(rest) {
-        if line > most_lines(language) + 1 {
-            return Ok(survey);
-        }
+    for text in lines {
         let said = survey.said_on(text);
         survey.pass(line, text, said)?;
-        rest = after;
         line += 1;
     }
     Ok(survey)
@@ -349,31 +362,25 @@ fn passed_lines(alloc: Global, language: Language, source: &[u8]) -> Result<Surv
 // What is told of the lines of a source, where this stands after all of them.
 fn told_lines(
     alloc: Global,
-    language: Language,
-    source: &[u8],
+    source: &SourceLines<'_>,
     whole: &Survey,
 ) -> Result<Vec<Finding>, Fault>
-    requires { (line : ℕ) × Surveys line (settled_survey
-        (passed_lines 1 (unmarked language) (looked_at language source.now))) whole.now }
+    requires { (line : ℕ) × Surveys line (settled_survey (passed source.now)) whole.now }
     ensures told { IfOk result (λ findings. findings.items
-        ≡ told_lines (settled_survey (passed_lines 1 (unmarked language) (looked_at language source.now))) 1
-        (unmarked language) (looked_at language source.now)) }
+        ≡ told_lines (settled_survey (passed source.now)) 1 (unmarked source.now.language)
+        (looked_at source.now.language source.now.text)) }
     ensures err { IfErr result (λ fault. fault ≡ no_memory) }
 {
-    let mut survey = Survey::start(alloc, language)?;
+    let mut survey = Survey::start(alloc, source.language())?;
     let mut told = Vec::new(alloc);
-    let mut rest = source;
+    let lines = source.lines();
     let mut line = 1;
-    while let Some((text, after)) = next_line(rest) {
-        if line > most_lines(language) + 1 {
-            return Ok(told);
-        }
+    for text in lines {
         let said = survey.said_on(text);
         match survey.tell(whole, line, text, &said, &mut told) {
             Ok(()) => survey.pass(line, text, said)?,
             Err(_) => return Err(NO_MEMORY),
         }
-        rest = after;
         line += 1;
     }
     Ok(told)
@@ -418,9 +425,8 @@ struct LineFaults {
 // A line of which faults are told.
 #[derive(Clone, Copy, Drop)]
 struct Telling<'a> {
-    language: Language,
     line: u32,
-    text: &'a [u8],
+    text: &'a ReadLine<'a>,
     doubt: Doubt,
     taken_by: Option<u32>,
 }
@@ -447,13 +453,13 @@ impl Survey {
     }
 
     // What follows on a line from other faults, where `whole` stands after the last line.
-    fn doubt(&self, whole: &Survey, text: &[u8], operation: &Operation) -> Doubt
-        ensures { result ≡ doubt_of whole.now self.now text.now operation.now }
+    fn doubt(&self, whole: &Survey, text: &ReadLine<'_>, operation: &Operation) -> Doubt
+        ensures { result ≡ doubt_of whole.now self.now text.now.text operation.now }
     {
         let elsewhere = !self.known.location;
         Doubt {
-            bytes: !is_text(text),
-            repeated: is_same_byte(wrong_byte(text), self.known.wrong),
+            bytes: !text.is_text(),
+            repeated: is_same_byte(text.wrong_byte(), self.known.wrong),
             location: elsewhere,
             erased: operation.erases() && elsewhere,
             counted: operation.counts_from_here() && elsewhere,
@@ -473,12 +479,13 @@ impl Survey {
         ensures { result ≡ vain_of whole.now self.now label.now operation.now }
     {
         let symbols = &whole.layout.symbols;
+        let kind = self.layout.waiting_condition(symbols, label, operation)?;
         if operation.names_one(&whole.lost)
             || operation.waits_in_vain(&self.layout.promised, symbols)
         {
             return None;
         }
-        self.layout.waiting_condition(symbols, label, operation)
+        Some(kind)
     }
 
     // Appends what is told of a line that says this, where `whole` stands after the last line.
@@ -486,37 +493,43 @@ impl Survey {
         &self,
         whole: &Survey,
         line: u32,
-        text: &[u8],
+        text: &ReadLine<'_>,
         said: &Said,
         told: &mut Vec<Finding>,
     ) -> Result<(), AllocError>
-        requires label { said.now.label ≡ (statement_on (layout_of self.now.layout) text.now).label }
-        requires operation { said.now.operation ≡ operation_on (layout_of self.now.layout) text.now }
+        requires language { text.now.language ≡ self.now.layout.language }
+        requires label { said.now.label ≡ (statement_on (layout_of self.now.layout) text.now.text).label }
+        requires operation { said.now.operation ≡ operation_on (layout_of self.now.layout) text.now.text }
         requires formless { said.now.formless
-            ≡ lacks_form (statement_on (layout_of self.now.layout) text.now).operation }
+            ≡ lacks_form (statement_on (layout_of self.now.layout) text.now.text).operation }
+        requires conditions { (line : ℕ) (s : Surveyed) → Surveys line s self.now
+            → standing said.now.conditions ≡ layout_kinds line s.layout said.now.label said.now.operation }
         ensures { (s w : Surveyed) (last : ℕ) → Surveys line s self.now → Surveys last w whole.now
-            → OnOk result (told.new.items ≡ told.old.items ++ told_line w line s text.now) }
+            → OnOk result (told.new.items ≡ told.old.items ++ told_line w line s text.now.text) }
     {
         let Said {
             label,
             operation,
             formless,
+            conditions,
         } = said;
-        let telling = Telling {
-            language: self.layout.language,
-            line,
-            text,
-            doubt: self.doubt(whole, text, operation),
-            taken_by: self.taken_by(operation),
-        };
         let faults = LineFaults {
-            of_text: text_conditions(self.layout.language, line, text),
+            of_text: text.text_conditions(line),
             of_form: FaultKind::BadOperand.when(*formless),
-            of_layout: self.layout.conditions(&self.placing, label, operation),
+            of_layout: *conditions,
             of_promise: self.vain_condition(whole, label, operation),
             of_words: self
                 .layout
                 .word_conditions(&whole.layout.symbols, *formless, operation),
+        };
+        if faults.are_none() {
+            return Ok(());
+        }
+        let telling = Telling {
+            line,
+            text,
+            doubt: self.doubt(whole, text, operation),
+            taken_by: self.taken_by(operation),
         };
         telling.tell(&faults, told)
     }
@@ -526,8 +539,8 @@ impl Telling<'_> {
     // Appends what is told of the faults of the line.
     fn tell(self, faults: &LineFaults, told: &mut Vec<Finding>) -> Result<(), AllocError>
         ensures { OnOk result (told.new.items
-            ≡ told.old.items ++ told_of self.entry.language self.entry.doubt self.entry.line self.entry.text.now
-            self.entry.taken_by (kinds_of faults.now)) }
+            ≡ told.old.items ++ told_of self.entry.text.now.language self.entry.doubt self.entry.line
+            self.entry.text.now.text self.entry.taken_by (kinds_of faults.now)) }
     {
         let numbers = faults.numbers();
         let numbers = numbers.as_slice();
@@ -545,36 +558,29 @@ impl Telling<'_> {
         told: &mut Vec<Finding>,
     ) -> Result<(), AllocError>
         ensures { OnOk result (told.new.items
-            ≡ told.old.items ++ map (finding self.entry.language self.entry.line self.entry.text.now
+            ≡ told.old.items ++ map (finding self.entry.text.now.language self.entry.line self.entry.text.now.text
             self.entry.taken_by) (filter (λ kind. (has_number numbers.now kind && not (follows self.entry.doubt kind))
-            && stands_beyond self.entry.language self.entry.text.now beyond kind) kinds.now)) }
+            && stands_beyond self.entry.text.now.language self.entry.text.now.text beyond kind) kinds.now)) }
     {
         for kind in kinds {
-            if has_number(numbers, *kind)
-                && !self.doubt.follows(*kind)
-                && self.stands_beyond(beyond, *kind)
-            {
-                told.push(self.finding(*kind))?;
+            if has_number(numbers, *kind) && !self.doubt.follows(*kind) {
+                let finding = self.finding(*kind);
+                if stands_beyond(finding.span, beyond) {
+                    told.push(finding)?;
+                }
             }
         }
         Ok(())
     }
 
-    // Whether a fault stands past the longest line, or does not.
-    fn stands_beyond(self, beyond: bool, kind: FaultKind) -> bool
-        ensures { result ≡ stands_beyond self.entry.language self.entry.text.now beyond kind }
-    {
-        let is_beyond = span_in(self.language, self.text, kind).start > LINE_LENGTH;
-        if beyond { is_beyond } else { !is_beyond }
-    }
-
     fn finding(self, kind: FaultKind) -> Finding
-        ensures { result ≡ finding self.entry.language self.entry.line self.entry.text.now self.entry.taken_by kind }
+        ensures { result ≡ finding self.entry.text.now.language self.entry.line self.entry.text.now.text
+            self.entry.taken_by kind }
     {
         Finding {
             line: self.line,
             kind,
-            span: span_in(self.language, self.text, kind),
+            span: self.text.span(kind),
             taken_by: self.named_line(kind),
         }
     }
@@ -590,7 +596,26 @@ impl Telling<'_> {
     }
 }
 
+// Whether some bytes of a line stand past the longest line, or do not.
+fn stands_beyond(span: Span, beyond: bool) -> bool
+    ensures { result ≡ (if beyond then nat_lt line_length span.start else not (nat_lt line_length span.start)) }
+{
+    let is_beyond = span.start > LINE_LENGTH;
+    if beyond { is_beyond } else { !is_beyond }
+}
+
 impl LineFaults {
+    // Whether no fault stands on the line.
+    fn are_none(&self) -> bool
+        ensures { result ≡ are_absent self.now }
+    {
+        are_none(&self.of_text)
+            && is_none(self.of_form)
+            && are_none(&self.of_layout)
+            && is_none(self.of_promise)
+            && are_none(&self.of_words)
+    }
+
     // The numbers of the faults that stand on the line.
     fn numbers(&self) -> ArrayVec<u8, MOST_KINDS>
         ensures { result.items ≡ map fault_number (kinds_of self.now) }
@@ -603,6 +628,19 @@ impl LineFaults {
         push_numbers(&mut numbers, &self.of_words);
         numbers
     }
+}
+
+// Whether no fault stands.
+fn are_none(conditions: &[Option<FaultKind>]) -> bool
+    ensures { result ≡ list_all is_absent conditions.now }
+{
+    conditions.iter().all(|condition| is_none(*condition))
+}
+
+fn is_none(condition: Option<FaultKind>) -> bool
+    ensures { result ≡ is_absent condition }
+{
+    condition.is_none()
 }
 
 // Appends the numbers of the faults that stand.

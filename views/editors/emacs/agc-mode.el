@@ -5,31 +5,27 @@
 
 ;;; Code:
 
-(defconst agc-directives
-  '("EQUALS" "=" "SETLOC" "BANK" "BLOCK" "ERASE" "EBANK="))
+(defconst agc-operators
+  (ignore-errors
+    (json-parse-string
+     (shell-command-to-string
+      (concat "python3 " (shell-quote-argument
+                          (expand-file-name "../../manual.py" (file-name-directory (or load-file-name buffer-file-name))))))
+     :array-type 'list))
+  "The operators of each group, by the tables of the manual; nil where python3 or the manual is not there.")
 
-(defconst agc-constants
-  '("OCT" "DEC" "ADRES" "ECADR" "CADR" "FCADR" "2CADR"))
-
-(defconst agc-instructions
-  '("TCR" "NDX" "MSK" "CAE" "CAF" "RELINT" "INHINT" "EXTEND" "RESUME" "XXALQ" "XLQ" "RETURN" "DDOUBL" "ZL" "COM" "DTCF" "DTCB"
-    "OVSK" "TCAA" "DOUBLE" "NOOP" "TC" "CCS" "TCF" "DAS" "LXCH" "INCR" "ADS" "CA" "CS" "INDEX" "DXCH" "TS" "XCH" "AD" "MASK"))
-
-(defconst agc-extracodes
-  '("ZQ" "DCOM" "SQUARE" "READ" "WRITE" "RAND" "WAND" "ROR" "WOR" "RXOR" "DV" "BZF" "MSU" "QXCH" "AUG" "DIM" "DCA" "DCS" "SU"
-    "BZMF" "MP"))
-
-(defun agc-operator (names)
-  "Return a pattern of a line whose operator is one of NAMES."
-  (concat "^[^ \t#\n]*[ \t]+\\(" (regexp-opt names) "\\)\\(?:[ \t#]\\|$\\)"))
+(defun agc-operator (group)
+  "Return a pattern of a line whose operator is one of GROUP."
+  (concat "^[^ \t#\n]*[ \t]+\\(" (regexp-opt (gethash group agc-operators)) "\\)\\(?:[ \t#]\\|$\\)"))
 
 (defconst agc-font-lock-keywords
   `(("^[^ \t#\n]+" . font-lock-function-name-face)
-    (,(agc-operator agc-directives) 1 font-lock-preprocessor-face)
-    (,(agc-operator agc-constants) 1 font-lock-type-face)
-    (,(agc-operator agc-instructions) 1 font-lock-keyword-face)
-    (,(agc-operator agc-extracodes) 1 font-lock-builtin-face)
-    ("^[^ \t#\n]*[ \t]+\\([^ \t#\n]+\\)" 1 font-lock-warning-face)
+    ,@(when agc-operators
+        `((,(agc-operator "directive") 1 font-lock-preprocessor-face)
+          (,(agc-operator "constant") 1 font-lock-type-face)
+          (,(agc-operator "instruction") 1 font-lock-keyword-face)
+          (,(agc-operator "extracode") 1 font-lock-builtin-face)
+          ("^[^ \t#\n]*[ \t]+\\([^ \t#\n]+\\)" 1 font-lock-warning-face)))
     ("[ \t]\\([+-]?[0-9]*\\.?[0-9]+D?\\)\\(?:[ \t#]\\|$\\)" 1 font-lock-constant-face)))
 
 ;;;###autoload

@@ -1,5 +1,5 @@
 -- What the code holds of a survey.
-use Rattle.std.specs.Prelude.{◌≡◌, ◌==◌, ◌++◌, ◌∷◌, [], ℕ, Bool, not, ◌&&◌, ◌||◌, List, Option, None, if◌then◌else◌}
+use Rattle.std.specs.Prelude.{◌≡◌, ◌==◌, ◌++◌, ◌∷◌, [], ℕ, Bool, not, ◌&&◌, ◌||◌, List, Option, None, is_some, if◌then◌else◌}
 use Rattle.std.specs.List.{list_all, list_any}
 use Rattle.agc_text.specs.Bytes.{is_text_byte}
 use Rattle.std.specs.Option.{option_map_or}
@@ -16,6 +16,16 @@ use Rattle.yayul.specs.declared.survey.Survey.{Survey as Held}
 -- the faults of a line
 abbrev pub kinds_of : LineFaults → List FaultKind
 kinds_of f = standing f.of_text ++ standing (f.of_form ∷ []) ++ standing f.of_layout ++ standing (f.of_promise ∷ []) ++ standing f.of_words
+
+-- no fault stands
+abbrev pub is_absent : Option FaultKind → Bool
+is_absent condition = not (is_some condition)
+
+-- none stands on a line
+abbrev pub are_absent : LineFaults → Bool
+are_absent f =
+    list_all is_absent f.of_text && is_absent f.of_form && list_all is_absent f.of_layout && is_absent f.of_promise
+    && list_all is_absent f.of_words
 
 -- the number of a fault, where it stands
 abbrev pub number_in : Option FaultKind → List ℕ

@@ -3,15 +3,23 @@ if exists("b:current_syntax")
     finish
 endif
 
+" The operators of each group, by the tables of the manual; none where python3 or the manual is not there, and then no word is marked as unknown.
+if !exists("g:agc_operators")
+    try
+        let g:agc_operators = json_decode(system("python3 " . shellescape(expand("<sfile>:p:h:h:h:h") . "/manual.py")))
+    catch
+        let g:agc_operators = {}
+    endtry
+endif
+
 syntax case match
 syntax match agcLabel /^[^ \t#]\+/ nextgroup=agcBlank,agcComment
 syntax match agcBlank /[ \t]\+/ contained nextgroup=agcDirective,agcConstant,agcInstruction,agcExtracode,agcUnknown,agcComment
 syntax match agcFirst /^\ze[ \t]/ nextgroup=agcBlank
 syntax match agcUnknown /[^ \t#]\+/ contained nextgroup=agcOperands
-syntax match agcDirective /\%(EQUALS\|=\|SETLOC\|BANK\|BLOCK\|ERASE\|EBANK=\)\ze\%([ \t#]\|$\)/ contained nextgroup=agcOperands
-syntax match agcConstant /\%(OCT\|DEC\|ADRES\|ECADR\|CADR\|FCADR\|2CADR\)\ze\%([ \t#]\|$\)/ contained nextgroup=agcOperands
-syntax match agcInstruction /\%(TCR\|NDX\|MSK\|CAE\|CAF\|RELINT\|INHINT\|EXTEND\|RESUME\|XXALQ\|XLQ\|RETURN\|DDOUBL\|ZL\|COM\|DTCF\|DTCB\|OVSK\|TCAA\|DOUBLE\|NOOP\|TC\|CCS\|TCF\|DAS\|LXCH\|INCR\|ADS\|CA\|CS\|INDEX\|DXCH\|TS\|XCH\|AD\|MASK\)\ze\%([ \t#]\|$\)/ contained nextgroup=agcOperands
-syntax match agcExtracode /\%(ZQ\|DCOM\|SQUARE\|READ\|WRITE\|RAND\|WAND\|ROR\|WOR\|RXOR\|DV\|BZF\|MSU\|QXCH\|AUG\|DIM\|DCA\|DCS\|SU\|BZMF\|MP\)\ze\%([ \t#]\|$\)/ contained nextgroup=agcOperands
+for s:group in keys(g:agc_operators)
+    execute 'syntax match agc' . toupper(s:group[0]) . s:group[1:] . ' /\%(' . join(g:agc_operators[s:group], '\|') . '\)\ze\%([ \t#]\|$\)/ contained nextgroup=agcOperands'
+endfor
 syntax match agcOperands /[^#]\+/ contained contains=agcNumber nextgroup=agcComment
 syntax match agcNumber /[ \t]\@1<=[+-]\?\d*\.\?\d\+D\?\ze\%([ \t#]\|$\)/ contained
 syntax match agcComment /#.*/
@@ -21,7 +29,9 @@ highlight default link agcDirective PreProc
 highlight default link agcConstant Type
 highlight default link agcInstruction Statement
 highlight default link agcExtracode Keyword
-highlight default link agcUnknown Error
+if !empty(g:agc_operators)
+    highlight default link agcUnknown Error
+endif
 highlight default link agcNumber Number
 highlight default link agcComment Comment
 

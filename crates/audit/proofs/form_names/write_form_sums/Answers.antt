@@ -1,7 +1,7 @@
 use Rattle.std.proofs.Common.{◌∙◌}
 use Rattle.std.proofs.lemmas.Result.{err_from_is_err_and}
 use Rattle.rope.specs.Places.{banks}
-use Rattle.audit.specs.FormNames.{complements_of, form_line}
+use Rattle.audit.specs.FormNames.{form_line}
 use Rattle.audit.proofs.PartTexts.{begins_parts, writes_more}
 use Rattle.audit.proofs.form_names.write_form_sums.Goals as goal
 

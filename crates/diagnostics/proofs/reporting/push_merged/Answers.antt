@@ -1,10 +1,11 @@
-use Rattle.std.proofs.Common.{◌∙◌, ◌+◌, ◌++◌, List, None, ap, arith, drop, get_or, map, take}
+use Rattle.std.proofs.Common.{◌∙◌, ◌+◌, ◌++◌, List, None, ap, arith, drop, get_or, take}
 use Rattle.std.specs.Prelude.{flat_map}
 use Rattle.std.proofs.lemmas.List.{drop_more}
 use Rattle.yayul.specs.declared.faults.FaultKind.TheVariants.{NoMemory}
 use Rattle.yayul.specs.declared.finding.Finding.{Finding}
-use Rattle.diagnostics.specs.declared.told.Warning.{Warning}
+use Rattle.warnings.specs.declared.told.Warning.{Warning}
 use Rattle.diagnostics.specs.Report.{merged, shown_error, shown_warning}
+use Rattle.diagnostics.specs.ReadSources.{all_lines, language_in}
 use Rattle.diagnostics.proofs.Merging.{merged_step}
 use Rattle.diagnostics.proofs.reporting.push_merged.Goals as goal
 
@@ -13,9 +14,9 @@ nothing = record { line = 0; kind = NoMemory; span = record { start = 0; width =
 
 pub loop-fault-preserved : goal.loop-fault-preserved
 loop-fault-preserved c =
-    let texts = map (λ t. t.now) c.args.source.now.texts.now in
-    let error = shown_error c.args.source.now.notation c.args.source.now.language c.args.source.now.name.now c.args.labels.now texts in
-    let warning = shown_warning c.args.source.now.notation c.args.source.now.language c.args.source.now.name.now texts in
+    let texts = all_lines c.args.source.now in
+    let error = shown_error c.args.source.now.notation (language_in c.args.source.now) c.args.source.now.name.now c.args.labels.now texts in
+    let warning = shown_warning c.args.source.now.notation (language_in c.args.source.now) c.args.source.now.name.now texts in
     let faults = c.args.faults.now in
     let i = c.loop-fault.fault-index in
     let rest = c.loop-fault.rest.now in

@@ -19,7 +19,7 @@ returns-in_err-write_state-clause-written g c = λ told.
     let third = step_part one other c.args.steps c.args.why (mains.first_step one.scenario other.scenario c.args.steps) in
     rw p.1
     (beginning-after _ _ _ first (second ++ third) (e.written told)
-    (beginning-longer _ _ second third (rw (e.names, e.other_names, e.scenario, e.other_scenario) at
+    (beginning-longer _ _ second third (rw (e.one.names, e.other.names, e.one.scenario, e.other.scenario) at
     (c.in_err-write_state.ensures.written told))))
 
 pub returns-clause-written : goal.returns-clause-written
@@ -33,6 +33,6 @@ returns-clause-written g c = λ told.
     let second = state_part one other c.args.steps c.args.why (states.first_state one.scenario other.scenario c.args.steps) in
     let third = step_part one other c.args.steps c.args.why (mains.first_step one.scenario other.scenario c.args.steps) in
     Writes-after _ _ _ first (second ++ third) _ (e.written told)
-    (Writes-after _ _ _ second third _ (rw (e.names, e.other_names, e.scenario, e.other_scenario) at (f.written told))
-    (rw (f.names, f.other_names, f.scenario, f.other_scenario, e.names, e.other_names, e.scenario, e.other_scenario) at
+    (Writes-after _ _ _ second third _ (rw (e.one.names, e.other.names, e.one.scenario, e.other.scenario) at (f.written told))
+    (rw (f.one.names, f.other.names, f.one.scenario, f.other.scenario, e.one.names, e.other.names, e.one.scenario, e.other.scenario) at
     (c.write_parting.ensures.written told)))

@@ -29,10 +29,10 @@ returns-in_ok-write_lines-in-Some-clause-written g c = λ told.
       c.first_state.ensures.scenario,
       c.first_state.ensures.other_scenario,
     ) at (lines.written told)) (rw (
-      lines.names,
-      lines.other_names,
-      lines.scenario,
-      lines.other_scenario,
+      lines.one.names,
+      lines.other.names,
+      lines.one.scenario,
+      lines.other.scenario,
       c.first_state.ensures.scenario,
       c.first_state.ensures.other_scenario,
     ) at (c.write_asked.ensures.written told)))

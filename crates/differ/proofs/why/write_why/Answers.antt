@@ -42,10 +42,10 @@ loop-left-preserved g c =
     record {
       few = rw c.in-Some.is at link.few;
       other_few = rw c.in-Some.is at link.other_few;
-      names = link.names ∙ far.names;
-      other_names = link.other_names ∙ far.other_names;
-      scenario = link.scenario ∙ far.scenario;
-      other_scenario = link.other_scenario ∙ far.other_scenario;
+      names = link.one.names ∙ far.names;
+      other_names = link.other.names ∙ far.other_names;
+      scenario = link.one.scenario ∙ far.scenario;
+      other_scenario = link.other.scenario ∙ far.other_scenario;
       failures = link.failures ∙ far.failures;
       told = λ told. told_more _ _ _ _ _ _ _ (far.told told) _ c.in-Some.next (omega (arith, c.loop-left-test.true))
           (rw (far.names, far.other_names, far.scenario, far.other_scenario) at (sym c.in-Some.is ∙ link.next))

@@ -1,4 +1,4 @@
-use Rattle.std.proofs.Common.{◌≡◌, ◌∙◌, suc, refl, sym, ap, arith, rules}
+use Rattle.std.proofs.Common.{◌∙◌, refl, sym, ap, arith}
 use Rattle.cpu.specs.State.{Processing}
 use Rattle.cpu.proofs.RunLaws.{run-zero}
 use Rattle.cpu.proofs.TakenLaws.{run-fits}

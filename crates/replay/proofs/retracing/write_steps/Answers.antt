@@ -1,8 +1,7 @@
-use Rattle.std.proofs.Common.{◌≡◌, ◌+◌, ◌-◌, ◌≤◌, ◌∙◌, refl, sym, ap, arith}
+use Rattle.std.proofs.Common.{◌∙◌, refl, ap, arith}
 use Rattle.std.proofs.lemmas.Result.{err_from_is_err_and}
 use Rattle.words.specs.Devices.{one_more}
-use Rattle.cpu.specs.Next.{next}
-use Rattle.cpu.specs.State.{State, Scenario, Processing}
+use Rattle.cpu.specs.State.{Processing}
 use Rattle.cpu.proofs.Turns.{few_cycles, fits_after, state_more}
 use Rattle.replay.proofs.RetracedLemmas.{texts_none, texts_more, texts_part}
 use Rattle.replay.proofs.retracing.write_steps.Goals as goal

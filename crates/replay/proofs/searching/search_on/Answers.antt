@@ -1,6 +1,5 @@
-use Rattle.std.proofs.Common.{◌-◌, ◌∙◌, Some, None, refl, sym, ap, arith}
-use Rattle.cpu.specs.Next.{next}
-use Rattle.cpu.specs.State.{State, Scenario, Processing}
+use Rattle.std.proofs.Common.{◌∙◌, Some, None, refl, sym, ap, arith}
+use Rattle.cpu.specs.State.{Processing}
 use Rattle.cpu.proofs.Turns.{few_cycles, fits_after, state_more}
 use Rattle.replay.proofs.FoundLemmas.{first_here, first_later, first_none}
 use Rattle.replay.proofs.searching.search_on.Goals as goal

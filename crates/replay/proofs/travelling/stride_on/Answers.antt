@@ -14,15 +14,15 @@ use Rattle.replay.specs.Walked.{Walked}
 pub loop-at-init : goal.loop-at-init
 loop-at-init g c = record {
   from = omega arith;
-  most_steps = omega (arith, c.requires.order);
-  some = λ either. absurd (elim either [ inl none ↦ omega (arith, c.requires.order) | inr bad ↦ (let e : false ≡ true = bad in cc) ]);
+  most_steps = omega (arith, c.requires.ready.order);
+  some = λ either. absurd (elim either [ inl none ↦ omega (arith, c.requires.ready.order) | inr bad ↦ (let e : false ≡ true = bad in cc) ]);
   grid = λ _ _. c.requires.grid;
-  machine = c.requires.stands;
-  kept = grid_starts c.args.low (steps (g.K.Keeper.images c.args.keeper.now)) c.requires.staying;
-  of_run = c.requires.of_run;
+  machine = c.requires.ready.stands;
+  kept = grid_starts c.args.low (steps (g.K.Keeper.images c.args.keeper.now)) c.requires.ready.staying;
+  of_run = c.requires.ready.of_run;
   walked = walked_none g.S.Stepper.sees c.args.processor.now.scenario c.args.low c.args.stepper.now;
   scenario = refl;
-  metered = c.requires.metered;
+  metered = c.requires.ready.metered;
   least = omega arith;
   most = omega arith;
 }
@@ -34,14 +34,15 @@ keep_sure-requires-clause-above g c =
 pub keep_sure-requires-clause-room : goal.keep_sure-requires-clause-room
 keep_sure-requires-clause-room g c =
     room_on_grid c.args.low c.loop-at.at (g.K.Keeper.images c.loop-at.keeper)
-    (omega (arith, c.loop-at.invariant.most_steps, c.requires.within)) (g.met.K.Keeper.rising c.loop-at.keeper) c.loop-at.invariant.kept
+    (omega (arith, c.loop-at.invariant.most_steps, c.requires.ready.within)) (g.met.K.Keeper.rising c.loop-at.keeper)
+    c.loop-at.invariant.kept
 
 pub thin_up_to-requires-clause-first : goal.thin_up_to-requires-clause-first
 thin_up_to-requires-clause-first g c =
     let images = g.K.Keeper.images in
     let at = c.loop-at.at in
     first_with c.args.low at (steps (images c.loop-at.keeper)) (steps (images c.keep_sure.new.keeper))
-    (omega (arith, c.loop-at.invariant.most_steps, c.requires.within)) c.loop-at.invariant.kept
+    (omega (arith, c.loop-at.invariant.most_steps, c.requires.ready.within)) c.loop-at.invariant.kept
     (steps_with (images c.loop-at.keeper) (images c.keep_sure.new.keeper) at c.loop-at.machine c.keep_sure.ensures)
 
 pub thin_up_to-requires-clause-before : goal.thin_up_to-requires-clause-before
@@ -103,12 +104,12 @@ settle-requires g c =
     in
     let is : IsBase low at c.max-base.result = is_base low at c.max-base.result c.requires.grid some base_is in
     record {
-      sure = c.requires.sure;
+      sure = c.requires.ready.sure;
       order = is.before;
-      within = omega (arith, kept.most_steps, c.requires.within);
+      within = omega (arith, kept.most_steps, c.requires.ready.within);
       metered = kept.metered;
       of_run = rw kept.scenario kept.of_run;
-      first = first_on_grid low at (steps (images c.loop-at.keeper)) (omega (arith, kept.most_steps, c.requires.within))
+      first = first_on_grid low at (steps (images c.loop-at.keeper)) (omega (arith, kept.most_steps, c.requires.ready.within))
           (omega (arith, some)) kept.kept;
       base = base_kept low at c.max-base.result (steps (images c.loop-at.keeper)) is kept.kept;
       before = kept.kept.below;

@@ -1,7 +1,5 @@
-use Rattle.std.proofs.Common.{◌≡◌, ◌∙◌, false, true, refl, sym, ap, arith}
-use Rattle.cpu.specs.Next.{next}
-use Rattle.cpu.specs.Run.{run}
-use Rattle.cpu.specs.State.{State, Scenario, Processing}
+use Rattle.std.proofs.Common.{◌≡◌, ◌∙◌, false, true, refl, ap, arith}
+use Rattle.cpu.specs.State.{Processing}
 use Rattle.cpu.proofs.Turns.{few_cycles, fits_after, state_more}
 use Rattle.replay.proofs.WalkedLemmas.{walked_none, walked_more}
 use Rattle.replay.proofs.watching.walk.Goals as goal

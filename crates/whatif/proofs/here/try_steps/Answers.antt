@@ -11,7 +11,7 @@ use Rattle.whatif.proofs.here.try_steps.Goals as goal
 
 pub write_each-requires-clause-seen : goal.write_each-requires-clause-seen
 write_each-requires-clause-seen c =
-    looked_begins begun (see c.in_ok-without.without.seen.others) c.run_alone.new.processor.scenario _ _ _ c.after-trunk.ensures.seen
+    looked_begins begun (see c.in_ok-without.without.seen.others) c.run_without.new.processor.scenario _ _ _ c.after-trunk.ensures.seen
     (c.after-trunk.ensures.from ∙ sym c.after-trunk.ensures.done)
 
 pub returns-clause-text : goal.returns-clause-text
@@ -20,7 +20,7 @@ returns-clause-text c =
     let scenario = c.args.processor.now.scenario in
     let without = c.in_ok-without.without in
     let machine : without.machine ≡ run scenario c.args.steps = rw c.in-Ok.ensures at c.in_ok-without.ensures.machine in
-    let seen : without.seen ≡ outcome [] c.args.first scenario c.args.steps = rw (c.in-Ok.ensures, c.after-trunk.ensures.from) at
+    let seen : without.seen ≡ outcome [] c.args.first scenario c.args.steps = rw (c.none-alone.ensures, c.in-Ok.ensures, c.after-trunk.ensures.from) at
     c.in_ok-without.ensures.seen in
     let trials = trials_after scenario c.args.input c.args.first (c.args.more + 1) in
     let spans = spans_text (telling First without.machine) None

@@ -23,13 +23,13 @@ returns-in_err-write_without-clause-written g c = λ told.
     let p = err_from_is_err_and c.from_residual-in_err-write_without.result c.from_residual-in_err-write_without.ensures.1 in
     let without = c.in_ok-without.without in
     rw (trials_parts c.args.others c.args.start.now.from c.args.processor.now.scenario c.args.trials.now c.args.steps without.machine
-    without.seen c.in_ok-without.ensures.machine c.in_ok-without.ensures.seen)
+    without.seen c.in_ok-without.ensures.machine (rw c.none-alone.ensures at c.in_ok-without.ensures.seen))
     (rw p.1 (beginning-longer _ _ (without_text without.machine without.seen) _ (c.in_err-write_without.ensures.written told)))
 
 pub returns-clause-written : goal.returns-clause-written
 returns-clause-written g c = λ told.
     let without = c.in_ok-without.without in
     rw (trials_parts c.args.others c.args.start.now.from c.args.processor.now.scenario c.args.trials.now c.args.steps without.machine
-    without.seen c.in_ok-without.ensures.machine c.in_ok-without.ensures.seen)
+    without.seen c.in_ok-without.ensures.machine (rw c.none-alone.ensures at c.in_ok-without.ensures.seen))
     (Writes-after _ _ _ (without_text without.machine without.seen) _ _ (c.in_ok-write_without.ensures.written told)
     (rw (c.in_ok-without.ensures.scenario, c.telling-told.ensures) at (c.write_trials.ensures.written told)))

@@ -12,9 +12,9 @@ pub returns-clause-count : goal.returns-clause-count
 returns-clause-count c =
     c.executed_of.ensures
     ∙ ap (λ f. executed_before f c.in-Some.instructions fixed_places)
-    (profile_is c.args.processor.now.scenario c.args.steps c.make_steps_apart.new.self c.make_steps_apart.ensures.counts)
+    (profile_is c.args.processor.now.scenario c.args.steps c.make_steps.new.self c.make_steps.ensures.counts)
     ∙ ap (λ w. executed_before (profile_of c.args.processor.now.scenario c.args.steps) w fixed_places)
     (c.in-Some.ensures ∙ ap (λ w. instructions Standard c.args.rows.now w) c.rope.ensures)
 
-pub make_steps_apart-requires-clause-state : goal.make_steps_apart-requires-clause-state
-make_steps_apart-requires-clause-state c = c.start-machine.ensures.start ∙ sym (run-zero c.args.processor.now.scenario)
+pub make_steps-requires-clause-state : goal.make_steps-requires-clause-state
+make_steps-requires-clause-state c = c.start-machine.ensures.start ∙ sym (run-zero c.args.processor.now.scenario)

@@ -1,6 +1,6 @@
 use Rattle.std.proofs.Common.{◌∙◌, ap}
 use Rattle.agc_text.specs.Tables.{value_in}
-use Rattle.yayul.specs.Roles.{operator_rows}
+use Rattle.yayul.specs.Operators.{operator_rows}
 use Rattle.yayul.proofs.ByLength.{value_in-of_length}
 use Rattle.yayul.proofs.operator.row_of.Goals as goal
 

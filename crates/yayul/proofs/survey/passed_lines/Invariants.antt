@@ -1,7 +1,6 @@
-use Rattle.std.proofs.Common.{◌≡◌, ◌≤◌, ◌+◌, ◌-◌, length, take}
-use Rattle.agc_text.specs.Lines.{lines}
-use Rattle.yayul.specs.Flight.{most_lines}
-use Rattle.yayul.specs.Survey.{Survey, unmarked, passed_lines, looked_at}
+use Rattle.std.proofs.Common.{◌≡◌, ◌+◌, drop, map}
+use Rattle.yayul.specs.ReadLines.{passed, text_of}
+use Rattle.yayul.specs.Survey.{Survey, passed_lines}
 use Rattle.yayul.specs.Inside.Surveys.{Surveys}
 use Rattle.yayul.proofs.survey.passed_lines.Given as goal
 
@@ -9,10 +8,7 @@ abbrev pub invariant-loop-text : goal.invariant-loop-text
 invariant-loop-text l = record {
   state : Survey;
   stands : Surveys l.line state l.survey;
-  same : passed_lines 1 (unmarked l.fn.language) (looked_at l.fn.language l.source)
-      ≡ passed_lines l.line state (take (most_lines l.fn.language + 2 - l.line) (lines l.rest));
-  few : l.line ≤ most_lines l.fn.language + 2;
+  language : state.layout.language ≡ l.source.language;
+  same : passed_lines l.line state (map text_of (drop l.text-index l.lines)) ≡ passed l.source;
+  count : l.line ≡ l.text-index + 1;
 }
-
-abbrev pub decreases-loop-text : goal.decreases-loop-text
-decreases-loop-text l = length l.rest

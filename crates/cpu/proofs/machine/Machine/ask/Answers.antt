@@ -1,4 +1,4 @@
-use Rattle.std.proofs.Common.{◌≤◌, set, true, ap, ◌∙◌, arith}
+use Rattle.std.proofs.Common.{set, true, ap, ◌∙◌, arith}
 use Rattle.std.specs.FinSet.{insert}
 use Rattle.cpu.specs.Representation.{requests_of}
 use Rattle.cpu.proofs.RequestLemmas.{changed_requests, requests-set}

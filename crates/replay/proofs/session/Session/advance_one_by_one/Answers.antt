@@ -1,8 +1,6 @@
-use Rattle.std.proofs.Common.{◌≡◌, ◌+◌, ◌∙◌, false, true, refl, ap, arith}
-use Rattle.cpu.specs.State.{Scenario}
-use Rattle.replay.specs.View.{SessionView}
+use Rattle.std.proofs.Common.{◌≡◌, ◌+◌, false, true, refl, arith}
 use Rattle.replay.specs.Walked.{Walked}
-use Rattle.replay.proofs.SessionLemmas.{images_of}
+use Rattle.replay.proofs.SessionLemmas.{images_of, view_of}
 use Rattle.replay.proofs.WalkedLemmas.{walked_none, walked_joined}
 use Rattle.replay.proofs.AdvanceLemmas.{advanced_none, advanced_on}
 use Rattle.replay.proofs.session.Session.advance_one_by_one.Goals as goal
@@ -10,14 +8,7 @@ use Rattle.replay.proofs.session.Session.advance_one_by_one.Goals as goal
 pub loop-made-init : goal.loop-made-init
 loop-made-init g c =
     let s = c.self.inside in
-    let view : SessionView = record {
-      scenario = s.processor.scenario;
-      meter = s.processor.meter;
-      images = g.K.Keeper.images s.keeper;
-      present = s.present;
-      shown = (s.shown.step, s.shown.machine);
-      n = s.n;
-    } in
+    let view = view_of s.processor (g.K.Keeper.images s.keeper) s.present s.shown.step s.shown.machine s.n in
     record {
       n = omega arith;
       none = λ _. (refl, refl);

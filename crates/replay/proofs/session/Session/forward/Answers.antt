@@ -1,8 +1,7 @@
 use Rattle.std.proofs.Common.{◌+◌, ◌<◌, length, ap, arith}
 use Rattle.cpu.specs.State.{Processing}
-use Rattle.replay.specs.View.{SessionView}
 use Rattle.replay.proofs.ImageLemmas.{All-from_steps}
-use Rattle.replay.proofs.SessionLemmas.{goes_sound, images_of, puts_out, staying_after}
+use Rattle.replay.proofs.SessionLemmas.{goes_sound, images_of, puts_out, staying_after, view_of}
 use Rattle.replay.proofs.FewImages.{Fits-room}
 use Rattle.replay.proofs.session.Session.forward.Goals as goal
 
@@ -23,14 +22,7 @@ thin-requires-clause-stayed g c = staying_after c.self.inside.n (g.K.Keeper.imag
 pub invariant_of-self-2 : goal.invariant_of-self-2
 invariant_of-self-2 g c =
     let s = c.self.inside in
-    let view : SessionView = record {
-      scenario = s.processor.scenario;
-      meter = s.processor.meter;
-      images = g.K.Keeper.images s.keeper;
-      present = s.present;
-      shown = (s.shown.step, s.shown.machine);
-      n = s.n;
-    } in
+    let view = view_of s.processor (g.K.Keeper.images s.keeper) s.present s.shown.step s.shown.machine s.n in
     let same = ap (λ (p : Processing). p.scenario) c.make_step-output.ensures.meter in
     let meter = ap (λ (p : Processing). p.meter) c.make_step-output.ensures.meter in
     goes_sound view c.make_step-output.new.machine c.make_step-output.result c.make_step-output.new.processor.scenario
@@ -50,46 +42,18 @@ returns-clause-stands g c = (invariant_of-self-2 g c).stands
 pub returns-then-self-eq-STEP_LIMIT-clause-images : goal.returns-then-self-eq-STEP_LIMIT-clause-images
 returns-then-self-eq-STEP_LIMIT-clause-images g c =
     let s = c.self.inside in
-    let view : SessionView = record {
-      scenario = s.processor.scenario;
-      meter = s.processor.meter;
-      images = g.K.Keeper.images s.keeper;
-      present = s.present;
-      shown = (s.shown.step, s.shown.machine);
-      n = s.n;
-    } in
+    let view = view_of s.processor (g.K.Keeper.images s.keeper) s.present s.shown.step s.shown.machine s.n in
     rw (← c.self.view_is) (images_of view c.self.invariant (g.met.K.Keeper.rising s.keeper))
 
 pub returns-in_err-keep-clause-images : goal.returns-in_err-keep-clause-images
 returns-in_err-keep-clause-images g c =
     let s = c.self.inside in
-    let view : SessionView = record {
-      scenario = s.processor.scenario;
-      meter = s.processor.meter;
-      images = g.K.Keeper.images s.keeper;
-      present = s.present;
-      shown = (s.shown.step, s.shown.machine);
-      n = s.n;
-    } in
+    let view = view_of s.processor (g.K.Keeper.images s.keeper) s.present s.shown.step s.shown.machine s.n in
     rw c.in_err-keep.ensures.err.0 (images_of view c.self.invariant (g.met.K.Keeper.rising s.keeper))
 
 pub returns-clause-images : goal.returns-clause-images
 returns-clause-images g c =
     let s = c.self.inside in
-    let view : SessionView = record {
-      scenario = s.processor.scenario;
-      meter = s.processor.meter;
-      images = g.K.Keeper.images s.keeper;
-      present = s.present;
-      shown = (s.shown.step, s.shown.machine);
-      n = s.n;
-    } in
-    images_of (record view {
-      scenario = c.make_step-output.new.processor.scenario;
-      meter = c.make_step-output.new.processor.meter;
-      images
-          = g.K.Keeper.images c.thin.new.keeper;
-      present = c.make_step-output.new.machine;
-      n = s.n + 1;
-    }) (invariant_of-self-2 g c)
-    (g.met.K.Keeper.rising c.thin.new.keeper)
+    let made = c.make_step-output.new in
+    images_of (view_of made.processor (g.K.Keeper.images c.thin.new.keeper) made.machine s.shown.step s.shown.machine (s.n + 1))
+    (invariant_of-self-2 g c) (g.met.K.Keeper.rising c.thin.new.keeper)

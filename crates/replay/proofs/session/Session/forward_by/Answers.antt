@@ -1,7 +1,6 @@
 use Rattle.std.proofs.Common.{◌≡◌, ◌+◌, ◌<◌, length, arith}
-use Rattle.replay.specs.View.{SessionView}
 use Rattle.replay.proofs.ImageLemmas.{All-from_steps}
-use Rattle.replay.proofs.SessionLemmas.{images_of, staying_after, of_run_after}
+use Rattle.replay.proofs.SessionLemmas.{images_of, of_run_after, staying_after, view_of}
 use Rattle.replay.proofs.AdvanceLemmas.{travelled_sound}
 use Rattle.replay.proofs.FewImages.{Fits-room}
 use Rattle.replay.proofs.session.Session.forward_by.Goals as goal
@@ -26,14 +25,7 @@ thin-requires-clause-stayed g c =
 pub invariant_of-self-then-n-lt-STEP_LIMIT : goal.invariant_of-self-then-n-lt-STEP_LIMIT
 invariant_of-self-then-n-lt-STEP_LIMIT g c =
     let s = c.self.inside in
-    let view : SessionView = record {
-      scenario = s.processor.scenario;
-      meter = s.processor.meter;
-      images = g.K.Keeper.images s.keeper;
-      present = s.present;
-      shown = (s.shown.step, s.shown.machine);
-      n = s.n;
-    } in
+    let view = view_of s.processor (g.K.Keeper.images s.keeper) s.present s.shown.step s.shown.machine s.n in
     let w = c.walk-last in
     let e : w.result.0 ≡ s.n + 1 = omega (arith, w.ensures.past, w.ensures.within) in
     let of_run = of_run_after s.processor.scenario s.n (g.K.Keeper.images s.keeper) (g.K.Keeper.images c.keep.new.self)
@@ -50,38 +42,18 @@ pub returns-then-n-lt-STEP_LIMIT-clause-images : goal.returns-then-n-lt-STEP_LIM
 returns-then-n-lt-STEP_LIMIT-clause-images g c =
     let s = c.self.inside in
     let w = c.walk-last in
-    images_of (record {
-      scenario = w.new.processor.scenario;
-      meter = w.new.processor.meter;
-      images = g.K.Keeper.images c.thin.new.keeper;
-      present = w.new.machine;
-      shown = (s.shown.step, s.shown.machine);
-      n = w.result.0;
-    }) (invariant_of-self-then-n-lt-STEP_LIMIT g c)
-    (g.met.K.Keeper.rising c.thin.new.keeper)
+    images_of
+    (view_of w.new.processor (g.K.Keeper.images c.thin.new.keeper) w.new.machine s.shown.step s.shown.machine w.result.0)
+    (invariant_of-self-then-n-lt-STEP_LIMIT g c) (g.met.K.Keeper.rising c.thin.new.keeper)
 
 pub returns-in_err-keep-clause-images : goal.returns-in_err-keep-clause-images
 returns-in_err-keep-clause-images g c =
     let s = c.self.inside in
-    let view : SessionView = record {
-      scenario = s.processor.scenario;
-      meter = s.processor.meter;
-      images = g.K.Keeper.images s.keeper;
-      present = s.present;
-      shown = (s.shown.step, s.shown.machine);
-      n = s.n;
-    } in
+    let view = view_of s.processor (g.K.Keeper.images s.keeper) s.present s.shown.step s.shown.machine s.n in
     rw c.in_err-keep.ensures.err.0 (images_of view c.self.invariant (g.met.K.Keeper.rising s.keeper))
 
 pub returns-clause-images : goal.returns-clause-images
 returns-clause-images g c =
     let s = c.self.inside in
-    let view : SessionView = record {
-      scenario = s.processor.scenario;
-      meter = s.processor.meter;
-      images = g.K.Keeper.images s.keeper;
-      present = s.present;
-      shown = (s.shown.step, s.shown.machine);
-      n = s.n;
-    } in
+    let view = view_of s.processor (g.K.Keeper.images s.keeper) s.present s.shown.step s.shown.machine s.n in
     rw (← c.self.view_is) (images_of view c.self.invariant (g.met.K.Keeper.rising s.keeper))

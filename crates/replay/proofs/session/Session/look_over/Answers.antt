@@ -1,4 +1,4 @@
-use Rattle.std.proofs.Common.{◌≡◌, ◌+◌, ◌∙◌, refl, sym, ap, arith}
+use Rattle.std.proofs.Common.{◌∙◌, refl, ap, arith}
 use Rattle.cpu.proofs.RunLaws.{run-zero}
 use Rattle.cpu.specs.State.{Scenario}
 use Rattle.cpu.specs.Run.{run}

@@ -1,10 +1,8 @@
-use Rattle.std.proofs.Common.{◌≡◌, ◌+◌, ◌-◌, ◌∙◌, ◌++◌, refl, sym, ap, arith, append-nil}
-use Rattle.words.specs.Devices.{Writes}
+use Rattle.std.proofs.Common.{◌≡◌, ◌+◌, ◌-◌, ◌∙◌, refl, ap, arith}
 use Rattle.cpu.specs.State.{Scenario}
 use Rattle.cpu.specs.Run.{run}
 use Rattle.replay.specs.View.{SessionView}
 use Rattle.replay.specs.Images.{steps}
-use Rattle.replay.specs.Retraced.{texts_after}
 use Rattle.replay.proofs.StayingLemmas.{first_is_kept}
 use Rattle.replay.proofs.RetracedLemmas.{has_retraced}
 use Rattle.replay.proofs.SessionLemmas.{has_shown, shown_sound}

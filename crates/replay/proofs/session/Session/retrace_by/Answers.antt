@@ -1,4 +1,4 @@
-use Rattle.std.proofs.Common.{◌≡◌, ◌+◌, ◌-◌, ◌≤◌, ◌∙◌, false, refl, sym, ap, arith}
+use Rattle.std.proofs.Common.{◌∙◌, refl, ap, arith}
 use Rattle.cpu.specs.State.{Scenario}
 use Rattle.cpu.specs.Run.{run}
 use Rattle.replay.specs.View.{SessionView}

@@ -8,11 +8,11 @@ pub returns : goal.returns
 returns c =
     let self = c.args.self in
     let numbers = c.as_slice-numbers.result.now in
-    let within = told_part self.language self.line self.text.now self.taken_by self.doubt numbers false in
-    let past = told_part self.language self.line self.text.now self.taken_by self.doubt numbers true in
+    let within = told_part self.text.now.language self.line self.text.now.text self.taken_by self.doubt numbers false in
+    let past = told_part self.text.now.language self.line self.text.now.text self.taken_by self.doubt numbers true in
     on_ok c.tell_each-2.result
     (λ second. second ∙ ap (λ items. items ++ past) c.in_ok-tell_each.ensures ∙ append_assoc c.args.told.now.items within past
     ∙ ap (λ items. c.args.told.now.items ++ items)
-    (told_parts self.language self.line self.text.now self.taken_by self.doubt (kinds_of c.args.faults.now) numbers
+    (told_parts self.text.now.language self.line self.text.now.text self.taken_by self.doubt (kinds_of c.args.faults.now) numbers
     (c.as_slice-numbers.ensures.value ∙ c.numbers-numbers.ensures)))
     c.tell_each-2.ensures

@@ -7,6 +7,6 @@ use Rattle.yayul.proofs.survey.Telling.tell_each.Given as goal
 abbrev pub invariant-loop-kind : goal.invariant-loop-kind
 invariant-loop-kind l =
     l.told.items ≡ l.initial.told.items
-    ++ map (finding l.self.language l.self.line l.self.text.now l.self.taken_by)
+    ++ map (finding l.self.text.now.language l.self.line l.self.text.now.text l.self.taken_by)
     (filter (λ kind. (has_number l.numbers kind && not (follows l.self.doubt kind))
-    && stands_beyond l.self.language l.self.text.now l.beyond kind) (take l.kind-index l.kinds))
+    && stands_beyond l.self.text.now.language l.self.text.now.text l.beyond kind) (take l.kind-index l.kinds))

@@ -1,7 +1,0 @@
-use Rattle.std.proofs.Common.{◌≡◌, ◌==◌}
-use Rattle.rope.specs.Dumps.{word_of}
-use Rattle.audit.specs.BankFacts.{all_before}
-use Rattle.audit.proofs.bank_facts.is_copy.Given as goal
-
-abbrev pub invariant-loop-number : goal.invariant-loop-number
-invariant-loop-number l = l.all ≡ all_before (λ offset. word_of l.image l.bank offset == word_of l.image l.other offset) l.number

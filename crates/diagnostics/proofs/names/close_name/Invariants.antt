@@ -1,7 +1,0 @@
-use Rattle.std.proofs.Common.{◌≡◌, drop, find, map}
-use Rattle.diagnostics.specs.Causes.{is_close}
-use Rattle.diagnostics.proofs.names.close_name.Given as goal
-
-abbrev pub invariant-loop-index : goal.invariant-loop-index
-invariant-loop-index l = find (is_close l.closeness l.text) (map (λ e. e.0) l.symbols)
-    ≡ find (is_close l.closeness l.text) (drop l.index (map (λ e. e.0) l.symbols))

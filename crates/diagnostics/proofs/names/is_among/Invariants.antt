@@ -1,7 +1,0 @@
-use Rattle.std.proofs.Common.{◌≡◌, drop, map}
-use Rattle.diagnostics.specs.Warnings.{is_among}
-use Rattle.diagnostics.proofs.names.is_among.Given as goal
-
-abbrev pub invariant-loop-name : goal.invariant-loop-name
-invariant-loop-name l = is_among (map (λ name. name.now) l.names) l.text
-    ≡ is_among (map (λ name. name.now) (drop l.name-index l.names)) l.text

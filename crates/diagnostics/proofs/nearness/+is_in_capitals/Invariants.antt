@@ -1,5 +1,0 @@
-use Rattle.std.proofs.Common.{length}
-use Rattle.diagnostics.proofs.nearness.+is_in_capitals.Given as goal
-
-abbrev pub decreases-is_in_capitals : goal.decreases-is_in_capitals
-decreases-is_in_capitals l = length l.text.now

@@ -1,7 +1,0 @@
-use Rattle.std.specs.Prelude.{codes, decimal}
-use Rattle.expect.proofs.Steps.{pushed_three}
-use Rattle.expect.proofs.verdict.push_errors.Goals as goal
-
-pub returns-clause-items : goal.returns-clause-items
-returns-clause-items c = pushed_three c.args.text.now.items (codes "check: errors ") (decimal c.args.errors) (codes ", warnings ") _ _ _
-    c.push_all.ensures.items c.push_decimal.ensures.items c.push_all-2.ensures.items

@@ -1,0 +1,3 @@
+mod Merging
+mod WarningRows
+mod BankRows

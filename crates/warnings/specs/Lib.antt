@@ -1,0 +1,4 @@
+pub mod Roles
+pub mod Fields
+pub mod Warnings
+pub mod Joined
