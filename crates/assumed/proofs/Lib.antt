@@ -1,1 +1,2 @@
 pub mod WordingRows
+pub mod NoRows

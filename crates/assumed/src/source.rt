@@ -46,7 +46,24 @@ fn lines_assumed(alloc: Global, wordings: &[Wording], source: &[u8]) -> Result<V
 }
 
 /// A row for each line of a source that stands by an assumption, with the source's name: `my.agc:12: assumed MM=DEC`.
+#[tactic(auto, using(crate::proofs::NoRows::no_rows))]
 pub fn assumed_rows(
+    alloc: Global,
+    name: &[u8],
+    wordings: &[Wording],
+    source: &[u8],
+) -> Result<Vec<u8>, AllocError>
+    ensures { IfOk result (λ rows. rows.items ≡ assumed_rows name.now wordings.now 1 (lines source.now)) }
+{
+    if wordings.len() == 0 {
+        Ok(Vec::new(alloc))
+    } else {
+        rows_of_lines(alloc, name, wordings, source)
+    }
+}
+
+// The rows of the lines of a source, each of which is read.
+fn rows_of_lines(
     alloc: Global,
     name: &[u8],
     wordings: &[Wording],

@@ -2,7 +2,7 @@
 
 ghost use Rattle.std.specs.Prelude.{◌≡◌};
 ghost use Rattle.std.specs.Option.{option_map};
-ghost use Rattle.agc_text.specs.Tables.{value_in};
+ghost use Rattle.agc_text.specs.Tables.{same_name, value_in};
 ghost use Rattle.symbols.specs.Registers.{entries, registers};
 
 const REGISTERS: [(&str, &str); 36] = [
@@ -62,9 +62,19 @@ fn place_in(table: &'static [(&'static str, &'static str)], name: &[u8]) -> Opti
     ensures { option_map (λ place. place.now) result ≡ value_in (entries table.now) name.now }
 {
     for (register, place) in table {
-        if name == register.as_bytes() {
+        if is_same(name, register.as_bytes()) {
             return Some(place.as_bytes());
         }
     }
     None
+}
+
+// Whether two names are the same. Most differ in their first bytes.
+fn is_same(one: &[u8], other: &[u8]) -> bool
+    ensures { result ≡ same_name one.now other.now }
+{
+    match (one.split_first(), other.split_first()) {
+        (Some((first, one)), Some((second, other))) => first == second && one == other,
+        (first, second) => first.is_none() && second.is_none(),
+    }
 }

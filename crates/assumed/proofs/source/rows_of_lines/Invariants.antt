@@ -1,7 +1,7 @@
 use Rattle.std.proofs.Common.{◌≡◌, ◌≤◌, ◌+◌, ◌++◌, length}
 use Rattle.agc_text.specs.Lines.{lines}
 use Rattle.assumed.specs.Sources.{assumed_rows}
-use Rattle.assumed.proofs.source.assumed_rows.Given as goal
+use Rattle.assumed.proofs.source.rows_of_lines.Given as goal
 
 abbrev pub invariant-loop-text : goal.invariant-loop-text
 invariant-loop-text l = record {
