@@ -1,6 +1,6 @@
 //! The registers and the counters by their names.
 
-ghost use Rattle.std.specs.Prelude.{◌≡◌};
+ghost use Rattle.std.specs.Prelude.{◌≡◌, ◌∷◌};
 ghost use Rattle.std.specs.Option.{option_map};
 ghost use Rattle.agc_text.specs.Tables.{same_name, value_in};
 ghost use Rattle.symbols.specs.Registers.{entries, registers};
@@ -48,7 +48,10 @@ const REGISTERS: [(&str, &str); 36] = [
 pub fn register_place(name: &[u8]) -> Option<&'static [u8]>
     ensures { option_map (λ place. place.now) result ≡ value_in registers name.now }
 {
-    place_in(registers(), name)
+    match name.split_first() {
+        Some((first, rest)) => place_in(registers(), *first, rest),
+        None => None,
+    }
 }
 
 fn registers() -> &'static [(&'static str, &'static str)]
@@ -57,24 +60,28 @@ fn registers() -> &'static [(&'static str, &'static str)]
     &REGISTERS
 }
 
-// The place that stands beside a name.
-fn place_in(table: &'static [(&'static str, &'static str)], name: &[u8]) -> Option<&'static [u8]>
-    ensures { option_map (λ place. place.now) result ≡ value_in (entries table.now) name.now }
+// The place that stands beside the name of a first byte and the rest. Most names differ in their first bytes.
+fn place_in(
+    table: &'static [(&'static str, &'static str)],
+    first: u8,
+    rest: &[u8],
+) -> Option<&'static [u8]>
+    ensures { option_map (λ place. place.now) result ≡ value_in (entries table.now) (first ∷ rest.now) }
 {
     for (register, place) in table {
-        if is_same(name, register.as_bytes()) {
+        if has_parts(register.as_bytes(), first, rest) {
             return Some(place.as_bytes());
         }
     }
     None
 }
 
-// Whether two names are the same. Most differ in their first bytes.
-fn is_same(one: &[u8], other: &[u8]) -> bool
-    ensures { result ≡ same_name one.now other.now }
+// Whether a name is of a first byte and the rest.
+fn has_parts(name: &[u8], first: u8, rest: &[u8]) -> bool
+    ensures { result ≡ same_name (first ∷ rest.now) name.now }
 {
-    match (one.split_first(), other.split_first()) {
-        (Some((first, one)), Some((second, other))) => first == second && one == other,
-        (first, second) => first.is_none() && second.is_none(),
+    match name.split_first() {
+        Some((begin, more)) => first == *begin && rest == more,
+        None => false,
     }
 }
