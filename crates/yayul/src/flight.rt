@@ -130,7 +130,7 @@ pub(crate) fn flight_statement_by(
 }
 
 // The label in a field, where it has a name's form.
-fn flight_label_in(field: Option<Field<'_>>) -> Label
+pub(crate) fn flight_label_in(field: Option<Field<'_>>) -> Label
     ensures { result ≡ flight_label_in (text_of field.entry) }
 {
     match field {

@@ -180,8 +180,7 @@ impl Survey {
         ensures err { IfErr result (λ fault. fault ≡ no_memory) }
     {
         if !operation.is_bare() {
-            let copy = text.statement(self.layout.location).label;
-            note(&mut self.layout.promised, copy)?;
+            note(&mut self.layout.promised, text.label())?;
         }
         note(&mut self.lost, label)
     }
