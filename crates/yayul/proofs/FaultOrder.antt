@@ -113,6 +113,19 @@ told_parts language line text taken d standing numbers same =
     ∙ ap tell (sym (filter_both tells within past))
     ∙ told_by_numbers language line text taken d (kinds_on language text) standing numbers same
 
+twice_not : (b : Bool) → b ≡ not (not b)
+twice_not true = refl
+twice_not false = refl
+
+-- nothing is told past the longest line, where all that is told stands within it
+pub none_past : (language : Language) (line : ℕ) (text : List ℕ) (taken : Option ℕ) (d : Doubt) (numbers : List ℕ)
+    → filter (λ kind. (has_number numbers kind && not (follows d kind)) && not (stands_beyond language text false kind)) kinds_in_order ≡ []
+    → told_part language line text taken d numbers true ≡ []
+none_past language line text taken d numbers none =
+    ap (map (finding language line text taken))
+    ((λ i. filter (λ kind. (has_number numbers kind && not (follows d kind)) && twice_not (is_beyond language text kind) i)
+    kinds_in_order) ∙ none)
+
 -- the numbers of the faults that stand on a line
 numbers_of : (conditions : List (Option FaultKind)) → flat_map number_in conditions ≡ map fault_number (standing conditions)
 numbers_of [] = refl

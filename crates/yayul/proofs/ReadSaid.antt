@@ -1,18 +1,21 @@
 -- What a line says that is read.
 use Rattle.std.proofs.Common.{◌≡◌, ℕ, ◌-◌, List, length, Bool, Option, None, Some, refl, ap, sym, subst, ◌∙◌}
 use Rattle.std.specs.Option.{option_map, option_and_then}
+use Rattle.agc_text.specs.Fields.{fields, label_of}
 use Rattle.agc_text.specs.Tables.{value_in}
 use Rattle.agc_text.specs.Views.{piece}
 use Rattle.agc_text.specs.declared.fields.Field.{Field}
 use Rattle.agc_text.specs.declared.fields.Line.{Line}
-use Rattle.yayul.specs.Flight.{flight_operator, statement_in, uncounted_statement}
-use Rattle.yayul.specs.Forms.{statement_of}
-use Rattle.yayul.specs.Language.{Flight, FlightOperator, Language, Location, Operator, Standard, Statement}
+use Rattle.yayul.specs.Flight.{flight_label_in, flight_operator, statement_in, uncounted_statement}
+use Rattle.yayul.specs.Forms.{label_in, statement_of}
+use Rattle.yayul.specs.Language.{Flight, FlightOperator, Label, Language, Location, Operator, Standard, Statement}
 use Rattle.yayul.specs.Mended.{counted_out, field_after, flight_words_of, given_by, words_named, words_of}
 use Rattle.yayul.specs.Operators.{operators}
 use Rattle.yayul.specs.Readings.{Parts, later_parts, parts_for, parts_of, role_in}
 use Rattle.yayul.specs.declared.role.Role.{Role}
-use Rattle.yayul.specs.Inside.LinesRead.{IsRead, as_standard, operator_named}
+use Rattle.yayul.specs.Inside.LinesRead.{IsApart, IsRead, as_standard, operator_named}
+use Rattle.yayul.specs.Inside.Representation.{text_of}
+use Rattle.yayul.proofs.Fields.{text_of_piece}
 
 -- an operator of the standard language, as it is kept
 pub standard_kept : (operator : Option Operator) → as_standard (option_map FlightOperator.Standard operator) ≡ operator
@@ -46,6 +49,22 @@ pub flight_said : (language : Language) (here : Location) (text rest : List ℕ)
     → rest ≡ counted_out language text → said ≡ uncounted_statement here rest → said ≡ statement_in language here text
 flight_said language here text rest said is counted says = says ∙ ap (uncounted_statement here) counted
     ∙ subst (λ g. uncounted_statement here (counted_out g text) ≡ statement_in g here text) (sym is) refl
+
+-- so is its label
+pub standard_label : (language : Language) (here : Location) (text rest : List ℕ) (l : Line) (label : Label) → language ≡ Standard
+    → rest ≡ counted_out language text → IsApart rest l → label ≡ label_in (text_of l.label) → label ≡ (statement_in language here text).label
+unfolding statement_of
+standard_label language here text rest l label is counted apart stands =
+    stands ∙ ap label_in (text_of_piece l.label (label_of (fields rest)) apart.label)
+    ∙ ap (λ (said : Statement). said.label) (standard_said language here text rest (statement_of rest) is counted refl)
+
+pub flight_label : (language : Language) (here : Location) (text rest : List ℕ) (l : Line) (label : Label) → language ≡ Flight
+    → rest ≡ counted_out language text → IsApart rest l → label ≡ flight_label_in (text_of l.label)
+    → label ≡ (statement_in language here text).label
+unfolding uncounted_statement
+flight_label language here text rest l label is counted apart stands =
+    stands ∙ ap flight_label_in (text_of_piece l.label (label_of (fields rest)) apart.label)
+    ∙ ap (λ (said : Statement). said.label) (flight_said language here text rest (uncounted_statement here rest) is counted refl)
 
 -- the words that the operator of a line gives
 words_kept : (operator : Option Operator) → option_and_then flight_words_of (option_map FlightOperator.Standard operator)

@@ -64,34 +64,43 @@ pub(crate) fn measured(language: Language, text: &[u8]) -> &[u8]
 pub(crate) fn flight_statement(here: Location, text: &[u8]) -> Statement
     ensures { result ≡ uncounted_statement here (uncounted text.now) }
 {
-    uncounted_statement(here, uncounted(text))
+    let (rest, line) = uncounted(text);
+    let operator = match line.operator {
+        Some(operator) => flight_operator_of(operator.text),
+        None => None,
+    };
+    flight_statement_by(here, operator, rest, &line)
 }
 
-// A line without a count that stands first.
-pub(crate) fn uncounted(text: &[u8]) -> &[u8]
-    ensures value { result.now ≡ uncounted text.now }
-    ensures within { length result.now ≤ length text.now }
+/// A line without a count that stands first, and its fields.
+pub(crate) fn uncounted(text: &[u8]) -> (&[u8], Line<'_>)
+    ensures value { result.0.now ≡ uncounted text.now }
+    ensures within { length result.0.now ≤ length text.now }
+    ensures apart { IsApart result.0.now result.1 }
 {
     let line = Line::of(text);
     match line.label {
-        Some(label) => without_count(text, label),
+        Some(label) => without_count(text, label, line),
         None => match line.operator {
-            Some(operator) => without_count(text, operator),
-            None => text,
+            Some(operator) => without_count(text, operator, line),
+            None => (text, line),
         },
     }
 }
 
-// A line without its first field, where that is a count.
-fn without_count<'a>(text: &'a [u8], first: Field<'a>) -> &'a [u8]
-    requires { IsSliceOf text.now first }
-    ensures value { result.now ≡ without_count text.now (Some (piece first.entry)) }
-    ensures within { length result.now ≤ length text.now }
+// A line of these fields without its first, where that is a count, and the fields that are left.
+fn without_count<'a>(text: &'a [u8], first: Field<'a>, line: Line<'a>) -> (&'a [u8], Line<'a>)
+    requires first { IsSliceOf text.now first }
+    requires apart { IsApart text.now line }
+    ensures value { result.0.now ≡ without_count text.now (Some (piece first.entry)) }
+    ensures within { length result.0.now ≤ length text.now }
+    ensures apart { IsApart result.0.now result.1 }
 {
     if is_count(first.text) {
-        &text[first.start + first.text.len()..]
+        let rest = &text[first.start + first.text.len()..];
+        (rest, Line::of(rest))
     } else {
-        text
+        (text, line)
     }
 }
 
@@ -100,18 +109,6 @@ pub fn is_count(text: &[u8]) -> bool
     ensures { result ≡ is_count text.now }
 {
     begins_with_sign(text) && is_digits(text.get(1..).unwrap_or(&[]))
-}
-
-// What a line says that has no count.
-fn uncounted_statement(here: Location, text: &[u8]) -> Statement
-    ensures { result ≡ uncounted_statement here text.now }
-{
-    let line = Line::of(text);
-    let operator = match line.operator {
-        Some(operator) => flight_operator_of(operator.text),
-        None => None,
-    };
-    flight_statement_by(here, operator, text, &line)
 }
 
 /// What a line without a count says that is taken apart, where its operator is this.
@@ -133,7 +130,7 @@ pub(crate) fn flight_statement_by(
 }
 
 // The label in a field, where it has a name's form.
-fn flight_label_in(field: Option<Field<'_>>) -> Label
+pub(crate) fn flight_label_in(field: Option<Field<'_>>) -> Label
     ensures { result ≡ flight_label_in (text_of field.entry) }
 {
     match field {

@@ -2,7 +2,7 @@
 
 ghost use Rattle.std.specs.Prelude.{◌≡◌, ◌==◌, ◌≤◌, true, IfSome, filter, length, map};
 ghost use Rattle.std.specs.Option.{SomeIff};
-ghost use Rattle.agc_text.specs.Tables.{named, value_in};
+ghost use Rattle.agc_text.specs.Tables.{named, same_name, value_in};
 ghost use Rattle.yayul.specs.Operators.{operators, operator_rows, is_bank, field_size, bits_under};
 ghost use Rattle.yayul.specs.Flight.{flight_operator, flight_operators, flight_rows};
 ghost use Rattle.yayul.specs.Roles.{is_operator_of, names_of_length, role_in, role_of};
@@ -524,9 +524,21 @@ fn find_row<T: Copy>(table: &[(&str, T)], name: &[u8]) -> Option<T>
     ensures { result ≡ value_in (named table.now) name.now }
 {
     for (text, row) in table {
-        if name == text.as_bytes() {
+        if is_same_name(name, text.as_bytes()) {
             return Some(*row);
         }
     }
     None
+}
+
+// Whether two names have the same bytes: most differ in the first, and no further one is looked at.
+fn is_same_name(name: &[u8], other: &[u8]) -> bool
+    ensures { result ≡ same_name name.now other.now }
+{
+    match (name, other) {
+        ([first, rest @ ..], [first_of_other, rest_of_other @ ..]) => {
+            first == first_of_other && rest == rest_of_other
+        }
+        _ => name.is_empty() && other.is_empty(),
+    }
 }

@@ -16,16 +16,16 @@ ghost use Rattle.yayul.specs.Inside.Codes.{flight_has_room, has_room};
 
 use crate::faults::FaultKind;
 use crate::finding::{Span, span_at, wrong_place};
-use crate::flight::{flight_statement_by, measured};
+use crate::flight::{flight_label_in, flight_statement_by, measured};
 use crate::language::{
-    Content, FlightOperator, Language, Location, Operation, Operator, Statement,
+    Content, FlightOperator, Label, Language, Location, Operation, Operator, Statement,
 };
 use crate::line::conditions_of_text;
 use crate::mended::{counted_out, flight_words_of};
 use crate::operator::operator_and_role;
 use crate::reading::Reading;
 use crate::role::Role;
-use crate::statement::statement_by;
+use crate::statement::{label_in, statement_by};
 use agc_text::{LINE_LENGTH, Line, is_text};
 use std::marker::Model;
 
@@ -63,8 +63,7 @@ impl<'a> ReadLine<'a> {
     pub(crate) fn of(language: Language, text: &'a [u8]) -> ReadLine<'a>
         ensures { result ≡ line_of language text.now }
     {
-        let rest = counted_out(language, text);
-        let line = Line::of(rest);
+        let (rest, line) = counted_out(language, text);
         let (operator, role) = match line.operator {
             Some(field) => operator_and_role(language, field.text),
             None => (None, None),
@@ -112,6 +111,16 @@ impl<'a> ReadLine<'a> {
         match self.language {
             Language::Standard => statement_by(standard_of(self.operator), &self.line),
             Language::Flight => flight_statement_by(here, self.operator, self.rest, &self.line),
+        }
+    }
+
+    /// Its label, wherever it stands.
+    pub(crate) fn label(&self) -> Label
+        ensures { (here : Location) → result ≡ (statement_in self.now.language here self.now.text).label }
+    {
+        match self.language {
+            Language::Standard => label_in(self.line.label),
+            Language::Flight => flight_label_in(self.line.label),
         }
     }
 

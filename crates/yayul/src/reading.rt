@@ -122,9 +122,8 @@ fn reading_after_count(text: &[u8]) -> Reading<'_>
     ensures { parts_in result ≡ later_parts (length text.now - length (uncounted text.now))
         (parts_of Flight (uncounted text.now)) }
 {
-    let rest = uncounted(text);
+    let (rest, line) = uncounted(text);
     let count = text.len() - rest.len();
-    let line = Line::of(rest);
     Reading {
         label: later(count, line.label),
         operator: later(count, line.operator),

@@ -180,8 +180,7 @@ impl Survey {
         ensures err { IfErr result (λ fault. fault ≡ no_memory) }
     {
         if !operation.is_bare() {
-            let copy = text.statement(self.layout.location).label;
-            note(&mut self.layout.promised, copy)?;
+            note(&mut self.layout.promised, text.label())?;
         }
         note(&mut self.lost, label)
     }
@@ -544,33 +543,42 @@ impl Telling<'_> {
     {
         let numbers = faults.numbers();
         let numbers = numbers.as_slice();
-        self.tell_each(numbers, &KINDS_IN_ORDER, false, told)?;
-        self.tell_each(numbers, &KINDS_IN_ORDER, true, told)
+        let past_end = self.tell_each(numbers, &KINDS_IN_ORDER, false, told)?;
+        if past_end {
+            self.tell_each(numbers, &KINDS_IN_ORDER, true, told)?;
+        }
+        Ok(())
     }
 
     // Appends those of some kinds of faults that have one of some numbers, do not follow from others, and stand past
-    // the longest line or do not.
+    // the longest line or do not. Answers whether others do not follow and are left out.
     fn tell_each(
         self,
         numbers: &[u8],
         kinds: &[FaultKind],
         beyond: bool,
         told: &mut Vec<Finding>,
-    ) -> Result<(), AllocError>
-        ensures { OnOk result (told.new.items
+    ) -> Result<bool, AllocError>
+        ensures told { OnOk result (told.new.items
             ≡ told.old.items ++ map (finding self.entry.text.now.language self.entry.line self.entry.text.now.text
             self.entry.taken_by) (filter (λ kind. (has_number numbers.now kind && not (follows self.entry.doubt kind))
             && stands_beyond self.entry.text.now.language self.entry.text.now.text beyond kind) kinds.now)) }
+        ensures others { IfOk result (λ others. others ≡ false
+            → filter (λ kind. (has_number numbers.now kind && not (follows self.entry.doubt kind))
+            && not (stands_beyond self.entry.text.now.language self.entry.text.now.text beyond kind)) kinds.now ≡ []) }
     {
+        let mut others = false;
         for kind in kinds {
             if has_number(numbers, *kind) && !self.doubt.follows(*kind) {
                 let finding = self.finding(*kind);
                 if stands_beyond(finding.span, beyond) {
                     told.push(finding)?;
+                } else {
+                    others = true;
                 }
             }
         }
-        Ok(())
+        Ok(others)
     }
 
     fn finding(self, kind: FaultKind) -> Finding
