@@ -20,22 +20,23 @@ value_in-of_length (row ∷ rows) name =
       ])
     ]
 
--- a name has 1 to 6 characters
-abbrev fits_a_field : List ℕ → Bool
-fits_a_field name = nat_lt 0 (length name) && nat_lt (length name) 7
+-- a name has a character, and fewer than so many
+abbrev fits_a_field : ℕ → List ℕ → Bool
+fits_a_field most name = nat_lt 0 (length name) && nat_lt (length name) most
 
--- no name of 1 to 6 characters has another length
-pub none_of_length : {V : Type 0} (count : ℕ) (table : List (List ℕ × V)) → list_all (λ row. fits_a_field row.0) table ≡ true
-    → (0 < count → count < 7 → ⊥) → filter (λ row. length row.0 == count) table ≡ []
-none_of_length count [] fit outside = refl
-none_of_length count (row ∷ rows) fit outside =
-    let parts = and_parts (fits_a_field row.0) (list_all (λ row. fits_a_field row.0) rows) fit in
+-- no name of so few characters has another length
+pub none_of_length :
+    {V : Type 0} (most count : ℕ) (table : List (List ℕ × V)) → list_all (λ row. fits_a_field most row.0) table ≡ true
+    → (0 < count → count < most → ⊥) → filter (λ row. length row.0 == count) table ≡ []
+none_of_length most count [] fit outside = refl
+none_of_length most count (row ∷ rows) fit outside =
+    let parts = and_parts (fits_a_field most row.0) (list_all (λ row. fits_a_field most row.0) rows) fit in
     elim (cases_Bool (length row.0 == count)) [
       | inl same ↦ absurd (
           let equal = eqb-true (length row.0) count same in
-          let ends = and_parts (nat_lt 0 (length row.0)) (nat_lt (length row.0) 7) parts.0 in
+          let ends = and_parts (nat_lt 0 (length row.0)) (nat_lt (length row.0) most) parts.0 in
           let low = ltb-true 0 (length row.0) ends.0 in
-          let high = ltb-true (length row.0) 7 ends.1 in
+          let high = ltb-true (length row.0) most ends.1 in
           outside (omega arith) (omega arith))
-      | inr differs ↦ rw differs (none_of_length count rows parts.1 outside)
+      | inr differs ↦ rw differs (none_of_length most count rows parts.1 outside)
     ]

@@ -39,4 +39,9 @@ role_beside rows name row e = ap (option_map (λ r. r.1)) e
 -- no operator's row has another length of name than 1 to 6
 pub no_row_of_length : (count : ℕ) → (0 < count → count < 7 → ⊥) → filter (λ row. length row.0 == count) operator_rows ≡ []
 unfolding operator_rows
-no_row_of_length count outside = none_of_length count operator_rows refl outside
+no_row_of_length count outside = none_of_length 7 count operator_rows refl outside
+
+-- none that the language of flight programs has of its own has another than 1 to 7
+pub no_own_row_of_length : (count : ℕ) → (0 < count → count < 8 → ⊥) → filter (λ row. length row.0 == count) flight_rows ≡ []
+unfolding flight_rows
+no_own_row_of_length count outside = none_of_length 8 count flight_rows refl outside

@@ -7,10 +7,12 @@ use Rattle.std.specs.Prelude.{flat_map}
 use Rattle.std.specs.List.{list_all, list_any, filter}
 use Rattle.std.specs.Option.{option_map_or}
 use Rattle.yayul.specs.Layout.{standing, fault_number}
-use Rattle.yayul.specs.Language.{FaultKind, Language}
+use Rattle.yayul.specs.Language.{BadBank, BadLabel, BadOperand, BankFull, CodeInErasable, FaultKind, Language, LongLine, NeedsExtend}
+use Rattle.yayul.specs.Language.{NoMemory, NotAscii, NotExtracode, OutOfRange, PlaceTaken, TooManyLines, TwiceDefined, Undefined}
+use Rattle.yayul.specs.Language.{UnknownOperator, UsedTooEarly, WrongKindOfAddress}
 use Rattle.yayul.specs.declared.doubt.Doubt.{Doubt}
 use Rattle.yayul.specs.declared.finding.Finding.{Finding}
-use Rattle.yayul.specs.Survey.{is_of_label, some_stands, is_one_of, is_beyond, kinds_in_order, kinds_on, follows, finding}
+use Rattle.yayul.specs.Survey.{is_of_label, some_stands, is_one_of, is_beyond, kinds_in_order, kinds_on, follows, finding, told_of}
 use Rattle.yayul.specs.Inside.Answers.{least_kind}
 use Rattle.yayul.specs.Inside.Surveys.{has_number, number_in, stands_beyond}
 
@@ -98,11 +100,10 @@ told_part language line text taken d numbers beyond =
     map (finding language line text taken) (filter
     (λ kind. (has_number numbers kind && not (follows d kind)) && stands_beyond language text beyond kind) kinds_in_order)
 
-pub told_parts : (language : Language) (line : ℕ) (text : List ℕ) (taken : Option ℕ) (d : Doubt) (standing : List FaultKind)
-    (numbers : List ℕ) → numbers ≡ map fault_number standing
+pub told_parts : (language : Language) (line : ℕ) (text : List ℕ) (taken : Option ℕ) (d : Doubt) (numbers : List ℕ)
     → told_part language line text taken d numbers false ++ told_part language line text taken d numbers true
-    ≡ map (finding language line text taken) (filter (λ kind. is_one_of standing kind && not (follows d kind)) (kinds_on language text))
-told_parts language line text taken d standing numbers same =
+    ≡ told_by language line text taken d (kinds_on language text) (has_number numbers)
+told_parts language line text taken d numbers =
     let tells : FaultKind → Bool = λ kind. has_number numbers kind && not (follows d kind) in
     let tell : List FaultKind → List Finding = map (finding language line text taken) in
     let within : List FaultKind = filter (λ kind. not (is_beyond language text kind)) kinds_in_order in
@@ -111,7 +112,66 @@ told_parts language line text taken d standing numbers same =
     ++ tell (filter_twice tells (is_beyond language text) kinds_in_order i))
     ∙ sym (map-append (finding language line text taken) (filter tells within) (filter tells past))
     ∙ ap tell (sym (filter_both tells within past))
-    ∙ told_by_numbers language line text taken d (kinds_on language text) standing numbers same
+
+-- what is told of the kinds with these numbers is told of the faults that have them
+pub told_numbered : (language : Language) (line : ℕ) (text : List ℕ) (taken : Option ℕ) (d : Doubt) (standing : List FaultKind)
+    (numbers : List ℕ) → numbers ≡ map fault_number standing
+    → told_by language line text taken d (kinds_on language text) (has_number numbers) ≡ told_of language d line text taken standing
+told_numbered language line text taken d standing numbers same =
+    told_by_numbers language line text taken d (kinds_on language text) standing numbers same
+
+-- a fault is told by its number alone
+pub told_same : (language : Language) (line : ℕ) (text : List ℕ) (taken : Option ℕ) (d : Doubt) (kind : FaultKind)
+    (standing : List FaultKind) → fault_number kind ∷ [] ≡ map fault_number standing
+    → told_of language d line text taken (kind ∷ []) ≡ told_of language d line text taken standing
+told_same language line text taken d kind standing same =
+    sym (told_numbered language line text taken d (kind ∷ []) (fault_number kind ∷ []) refl)
+    ∙ told_numbered language line text taken d standing (fault_number kind ∷ []) same
+
+-- each kind stands once in the order
+one_in_order : (kind : FaultKind) (p q : FaultKind → Bool)
+    → filter (λ k. (is_one_of (kind ∷ []) k && p k) && q k) kinds_in_order ≡ cond (p kind && q kind) (kind ∷ []) []
+one_in_order BadLabel p q = refl
+one_in_order TwiceDefined p q = refl
+one_in_order NotAscii p q = refl
+one_in_order TooManyLines p q = refl
+one_in_order UnknownOperator p q = refl
+one_in_order BankFull p q = refl
+one_in_order PlaceTaken p q = refl
+one_in_order CodeInErasable p q = refl
+one_in_order NeedsExtend p q = refl
+one_in_order NotExtracode p q = refl
+one_in_order BadOperand p q = refl
+one_in_order Undefined p q = refl
+one_in_order UsedTooEarly p q = refl
+one_in_order BadBank p q = refl
+one_in_order WrongKindOfAddress p q = refl
+one_in_order OutOfRange p q = refl
+one_in_order LongLine p q = refl
+one_in_order NoMemory p q = refl
+
+-- what is told of a fault that stands alone: the fault, unless it follows from another
+pub told_alone : (language : Language) (line : ℕ) (text : List ℕ) (taken : Option ℕ) (d : Doubt) (kind : FaultKind)
+    → told_of language d line text taken (kind ∷ []) ≡ cond (follows d kind) [] (finding language line text taken kind ∷ [])
+told_alone language line text taken d kind =
+    let tells : FaultKind → Bool = λ k. is_one_of (kind ∷ []) k && not (follows d k) in
+    let tell : List FaultKind → List Finding = map (finding language line text taken) in
+    let within : List FaultKind = filter (λ k. not (is_beyond language text k)) kinds_in_order in
+    let past : List FaultKind = filter (is_beyond language text) kinds_in_order in
+    ap tell (filter_both tells within past)
+    ∙ (λ i. tell (sym (filter_twice tells (λ k. not (is_beyond language text k)) kinds_in_order) i
+    ++ sym (filter_twice tells (is_beyond language text) kinds_in_order) i))
+    ∙ (λ i. tell (one_in_order kind (λ k. not (follows d k)) (λ k. not (is_beyond language text k)) i
+    ++ one_in_order kind (λ k. not (follows d k)) (is_beyond language text) i))
+    ∙ by_tests (follows d kind) (is_beyond language text kind)
+  where
+    by_tests : (other beyond : Bool)
+        → map (finding language line text taken) (cond (not other && not beyond) (kind ∷ []) [] ++ cond (not other && beyond) (kind ∷ []) [])
+        ≡ cond other [] (finding language line text taken kind ∷ [])
+    by_tests true true = refl
+    by_tests true false = refl
+    by_tests false true = refl
+    by_tests false false = refl
 
 twice_not : (b : Bool) → b ≡ not (not b)
 twice_not true = refl

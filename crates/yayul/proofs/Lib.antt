@@ -1,6 +1,7 @@
 mod ByLength
 mod Codes
 mod Columns
+mod Counts
 pub mod NumberColumn
 mod Fields
 mod Rows

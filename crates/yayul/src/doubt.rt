@@ -180,7 +180,7 @@ impl Operand {
         ensures { result ≡ is_among symbols.now self.now.term }
     {
         match &self.term {
-            Term::Named(name) => symbols.named(name).is_some(),
+            Term::Named(name) => symbols.len() > 0 && symbols.named(name).is_some(),
             Term::Number(_) | Term::Place(..) | Term::Here => false,
         }
     }

@@ -61,46 +61,64 @@ pub(crate) fn measured(language: Language, text: &[u8]) -> &[u8]
 }
 
 /// What a line says, where it stands at a location.
+#[tactic(auto, using(crate::proofs::Counts::uncounted_same))]
 pub(crate) fn flight_statement(here: Location, text: &[u8]) -> Statement
     ensures { result ≡ uncounted_statement here (uncounted text.now) }
 {
-    let (rest, line) = uncounted(text);
+    let line = Line::of(text);
+    let rest = uncounted_by(text, &line);
+    if rest.len() == text.len() {
+        uncounted_statement(here, text, &line)
+    } else {
+        uncounted_statement(here, rest, &Line::of(rest))
+    }
+}
+
+// What a line says that has no count, where these are its fields.
+fn uncounted_statement(here: Location, text: &[u8], line: &Line<'_>) -> Statement
+    requires { IsApart text.now line.now }
+    ensures { result ≡ uncounted_statement here text.now }
+{
     let operator = match line.operator {
         Some(operator) => flight_operator_of(operator.text),
         None => None,
     };
-    flight_statement_by(here, operator, rest, &line)
+    flight_statement_by(here, operator, text, line)
 }
 
-/// A line without a count that stands first, and its fields.
-pub(crate) fn uncounted(text: &[u8]) -> (&[u8], Line<'_>)
-    ensures value { result.0.now ≡ uncounted text.now }
-    ensures within { length result.0.now ≤ length text.now }
-    ensures apart { IsApart result.0.now result.1 }
+/// A line without a count that stands first.
+pub(crate) fn uncounted(text: &[u8]) -> &[u8]
+    ensures value { result.now ≡ uncounted text.now }
+    ensures within { length result.now ≤ length text.now }
 {
-    let line = Line::of(text);
+    uncounted_by(text, &Line::of(text))
+}
+
+/// A line of these fields without a count that stands first.
+pub(crate) fn uncounted_by<'a>(text: &'a [u8], line: &Line<'a>) -> &'a [u8]
+    requires { IsApart text.now line.now }
+    ensures value { result.now ≡ uncounted text.now }
+    ensures within { length result.now ≤ length text.now }
+{
     match line.label {
-        Some(label) => without_count(text, label, line),
+        Some(label) => without_count(text, label),
         None => match line.operator {
-            Some(operator) => without_count(text, operator, line),
-            None => (text, line),
+            Some(operator) => without_count(text, operator),
+            None => text,
         },
     }
 }
 
-// A line of these fields without its first, where that is a count, and the fields that are left.
-fn without_count<'a>(text: &'a [u8], first: Field<'a>, line: Line<'a>) -> (&'a [u8], Line<'a>)
-    requires first { IsSliceOf text.now first }
-    requires apart { IsApart text.now line }
-    ensures value { result.0.now ≡ without_count text.now (Some (piece first.entry)) }
-    ensures within { length result.0.now ≤ length text.now }
-    ensures apart { IsApart result.0.now result.1 }
+// A line without its first field, where that is a count.
+fn without_count<'a>(text: &'a [u8], first: Field<'a>) -> &'a [u8]
+    requires { IsSliceOf text.now first }
+    ensures value { result.now ≡ without_count text.now (Some (piece first.entry)) }
+    ensures within { length result.now ≤ length text.now }
 {
     if is_count(first.text) {
-        let rest = &text[first.start + first.text.len()..];
-        (rest, Line::of(rest))
+        &text[first.start + first.text.len()..]
     } else {
-        (text, line)
+        text
     }
 }
 

@@ -4,7 +4,6 @@ ghost use Rattle.std.specs.Prelude.{◌≡◌, ◌≤◌, true, length};
 ghost use Rattle.yayul.specs.Mended.{counted_out, any_operand, any_word, any_words, words_of};
 ghost use Rattle.yayul.specs.Mended.{decimal_words, flight_words_of, lacks_form};
 ghost use Rattle.yayul.specs.Inside.Codes.{has_room, flight_has_room};
-ghost use Rattle.yayul.specs.Inside.LinesRead.{IsApart};
 
 use crate::flight::{fixed_reading, uncounted};
 use crate::instruction::{AddressedInstruction, PlainInstruction};
@@ -13,7 +12,6 @@ use crate::language::{
     Term,
 };
 use crate::statement::next_location;
-use agc_text::Line;
 use words::Word;
 
 impl Operation {
@@ -25,14 +23,13 @@ impl Operation {
     }
 }
 
-// A line without a count that its language passes over, and its fields.
-pub(crate) fn counted_out(language: Language, text: &[u8]) -> (&[u8], Line<'_>)
-    ensures value { result.0.now ≡ counted_out language text.now }
-    ensures within { length result.0.now ≤ length text.now }
-    ensures apart { IsApart result.0.now result.1 }
+// A line without a count that its language passes over.
+pub(crate) fn counted_out(language: Language, text: &[u8]) -> &[u8]
+    ensures value { result.now ≡ counted_out language text.now }
+    ensures within { length result.now ≤ length text.now }
 {
     match language {
-        Language::Standard => (text, Line::of(text)),
+        Language::Standard => text,
         Language::Flight => uncounted(text),
     }
 }

@@ -254,71 +254,58 @@ const ROWS_OF_SIX: [(&str, (Operator, Role)); 11] = [
     row!("SQUARE", plain!(0o70000, Yes), ChangeBoth),
 ];
 
-// Each operator that the standard language lacks, or has with fewer forms.
-const FLIGHT_ROWS: [(&str, (FlightOperator, Role)); 40] = [
-    row!("EQUALS", FlightOperator::Equals, Equals),
-    row!("=", FlightOperator::Equals, Equals),
-    row!("BANK", FlightOperator::Bank(BankRange::All), Bank),
-    row!("BLOCK", FlightOperator::Bank(BankRange::TwoOrThree), Block),
-    row!("COUNT", FlightOperator::PassedOver, Ignored),
-    row!("COUNT*", FlightOperator::PassedOver, Ignored),
-    row!("BNKSUM", FlightOperator::PassedOver, Ignored),
-    row!("SUBRO", FlightOperator::PassedOver, Ignored),
-    row!("MEMORY", FlightOperator::PassedOver, Ignored),
-    row!("CHECK=", FlightOperator::PassedOver, Ignored),
+// Each operator that the standard language lacks, or has with fewer forms, in a table for each length of names.
+const FLIGHT_ROWS_OF_ONE: [(&str, (FlightOperator, Role)); 1] = [row!(
+    "=",
+    FlightOperator::Equals,
+    Equals
+)];
+
+const FLIGHT_ROWS_OF_TWO: [(&str, (FlightOperator, Role)); 1] = [row!(
+    "VN",
+    FlightOperator::VerbNoun,
+    VerbNoun
+)];
+
+const FLIGHT_ROWS_OF_THREE: [(&str, (FlightOperator, Role)); 3] = [
     row!("OCT", FlightOperator::Octal, Octal),
-    row!("OCTAL", FlightOperator::Octal, Octal),
-    row!("2OCT", FlightOperator::Octals, OctalPair),
-    row!("VN", FlightOperator::VerbNoun, VerbNoun),
     row!("DEC", FlightOperator::Decimal(Precision::One), Decimal),
+    row!("CAF", FlightOperator::ReadFixed, ReadFixed),
+];
+
+const FLIGHT_ROWS_OF_FOUR: [(&str, (FlightOperator, Role)); 5] = [
+    row!("BANK", FlightOperator::Bank(BankRange::All), Bank),
+    row!("2OCT", FlightOperator::Octals, OctalPair),
     row!("2DEC", FlightOperator::Decimal(Precision::Two), DecimalPair),
     row!("DEC*", FlightOperator::Decimal(Precision::One), Decimal),
+    row!("-CCS", complement!(0o10000, Ten, Address), CountComplement),
+];
+
+const FLIGHT_ROWS_OF_FIVE: [(&str, (FlightOperator, Role)); 7] = [
+    row!("BLOCK", FlightOperator::Bank(BankRange::TwoOrThree), Block),
+    row!("COUNT", FlightOperator::PassedOver, Ignored),
+    row!("SUBRO", FlightOperator::PassedOver, Ignored),
+    row!("OCTAL", FlightOperator::Octal, Octal),
     row!(
         "2DEC*",
         FlightOperator::Decimal(Precision::Two),
         DecimalPair
     ),
     row!("BBCON", FlightOperator::BankWord, BankConstant),
-    row!("-2CADR", FlightOperator::FarComplement, FarComplement),
     row!(
         "-CADR",
         complement!(0o0, Twelve, FixedPlace),
         FixedComplement
     ),
-    row!("-GENADR", complement!(0o0, Twelve, Address), Address),
-    row!("-CCS", complement!(0o10000, Ten, Address), CountComplement),
-    row!("-1DNADR", complement!(0o0, Twelve, ErasablePlace), Downlist),
-    row!(
-        "-2DNADR",
-        complement!(0o4000, Twelve, ErasablePlace),
-        Downlist
-    ),
-    row!(
-        "-3DNADR",
-        complement!(0o10000, Twelve, ErasablePlace),
-        Downlist
-    ),
-    row!(
-        "-4DNADR",
-        complement!(0o14000, Twelve, ErasablePlace),
-        Downlist
-    ),
-    row!(
-        "-5DNADR",
-        complement!(0o20000, Twelve, ErasablePlace),
-        Downlist
-    ),
-    row!(
-        "-6DNADR",
-        complement!(0o24000, Twelve, ErasablePlace),
-        Downlist
-    ),
-    row!(
-        "-DNCHAN",
-        complement!(0o34000, Nine, Channel),
-        DownlistChannel
-    ),
-    row!("CAF", FlightOperator::ReadFixed, ReadFixed),
+];
+
+const FLIGHT_ROWS_OF_SIX: [(&str, (FlightOperator, Role)); 15] = [
+    row!("EQUALS", FlightOperator::Equals, Equals),
+    row!("COUNT*", FlightOperator::PassedOver, Ignored),
+    row!("BNKSUM", FlightOperator::PassedOver, Ignored),
+    row!("MEMORY", FlightOperator::PassedOver, Ignored),
+    row!("CHECK=", FlightOperator::PassedOver, Ignored),
+    row!("-2CADR", FlightOperator::FarComplement, FarComplement),
     row!(
         "GENADR",
         FlightOperator::Standard(constant!(Address)),
@@ -362,6 +349,41 @@ const FLIGHT_ROWS: [(&str, (FlightOperator, Role)); 40] = [
     row!(
         "DNCHAN",
         FlightOperator::Standard(addressed!(0o34000, Nine, No, Channel)),
+        DownlistChannel
+    ),
+];
+
+const FLIGHT_ROWS_OF_SEVEN: [(&str, (FlightOperator, Role)); 8] = [
+    row!("-GENADR", complement!(0o0, Twelve, Address), Address),
+    row!("-1DNADR", complement!(0o0, Twelve, ErasablePlace), Downlist),
+    row!(
+        "-2DNADR",
+        complement!(0o4000, Twelve, ErasablePlace),
+        Downlist
+    ),
+    row!(
+        "-3DNADR",
+        complement!(0o10000, Twelve, ErasablePlace),
+        Downlist
+    ),
+    row!(
+        "-4DNADR",
+        complement!(0o14000, Twelve, ErasablePlace),
+        Downlist
+    ),
+    row!(
+        "-5DNADR",
+        complement!(0o20000, Twelve, ErasablePlace),
+        Downlist
+    ),
+    row!(
+        "-6DNADR",
+        complement!(0o24000, Twelve, ErasablePlace),
+        Downlist
+    ),
+    row!(
+        "-DNCHAN",
+        complement!(0o34000, Nine, Channel),
         DownlistChannel
     ),
 ];
@@ -484,15 +506,24 @@ fn own_role_of(name: &[u8]) -> Option<Role>
 fn own_row_of(name: &[u8]) -> Option<(FlightOperator, Role)>
     ensures { result ≡ value_in flight_rows name.now }
 {
-    find_row(flight_rows(), name)
+    find_row(flight_rows_of_length(name.len()), name)
 }
 
-// The rows of the operators that the standard language lacks, or has with fewer forms.
+// The rows of those whose names have so many characters.
 #[tactic(auto, unfolding(crate::specs::Flight::flight_rows))]
-fn flight_rows() -> &'static [(&'static str, (FlightOperator, Role))]
-    ensures { named result.now ≡ flight_rows }
+fn flight_rows_of_length(count: usize) -> &'static [(&'static str, (FlightOperator, Role))]
+    ensures { named result.now ≡ filter (λ row. length row.0 == count) flight_rows }
 {
-    &FLIGHT_ROWS
+    match count {
+        1 => &FLIGHT_ROWS_OF_ONE,
+        2 => &FLIGHT_ROWS_OF_TWO,
+        3 => &FLIGHT_ROWS_OF_THREE,
+        4 => &FLIGHT_ROWS_OF_FOUR,
+        5 => &FLIGHT_ROWS_OF_FIVE,
+        6 => &FLIGHT_ROWS_OF_SIX,
+        7 => &FLIGHT_ROWS_OF_SEVEN,
+        _ => &[],
+    }
 }
 
 // The row of a name.
@@ -535,10 +566,18 @@ fn find_row<T: Copy>(table: &[(&str, T)], name: &[u8]) -> Option<T>
 fn is_same_name(name: &[u8], other: &[u8]) -> bool
     ensures { result ≡ same_name name.now other.now }
 {
-    match (name, other) {
-        ([first, rest @ ..], [first_of_other, rest_of_other @ ..]) => {
-            first == first_of_other && rest == rest_of_other
-        }
-        _ => name.is_empty() && other.is_empty(),
+    match name {
+        [first, ..] => match other {
+            [first_of_other, ..] => *first == *first_of_other && has_same_bytes(name, other),
+            [] => false,
+        },
+        [] => other.is_empty(),
     }
+}
+
+// Whether two names have the same bytes, all of which are looked at.
+fn has_same_bytes(name: &[u8], other: &[u8]) -> bool
+    ensures { result ≡ same_name name.now other.now }
+{
+    name == other
 }

@@ -63,7 +63,8 @@ impl<'a> ReadLine<'a> {
     pub(crate) fn of(language: Language, text: &'a [u8]) -> ReadLine<'a>
         ensures { result ≡ line_of language text.now }
     {
-        let (rest, line) = counted_out(language, text);
+        let rest = counted_out(language, text);
+        let line = Line::of(rest);
         let (operator, role) = match line.operator {
             Some(field) => operator_and_role(language, field.text),
             None => (None, None),

@@ -1,15 +1,16 @@
 //! A line of a source, read once.
 
-ghost use Rattle.std.specs.Prelude.{◌≡◌, ◌≤◌, ◌+◌, ◌-◌, ◌<◌, ◌^◌, IfSome, length};
+ghost use Rattle.std.specs.Prelude.{◌≡◌, ◌≤◌, ◌+◌, ◌-◌, ◌<◌, ◌^◌, ℕ, IfSome, List, length};
 ghost use Rattle.std.specs.Option.{option_map};
 ghost use Rattle.agc_text.specs.Views.{piece, end_of};
 ghost use Rattle.yayul.specs.Flight.{uncounted};
 ghost use Rattle.yayul.specs.Language.{Flight, Standard};
 ghost use Rattle.yayul.specs.Readings.{later_field, later_parts, parts_for, parts_in, parts_of, role_in};
 ghost use Rattle.yayul.specs.Readings.{operand_for, operand_value, value_by};
+ghost use Rattle.yayul.specs.Inside.LinesRead.{IsApart};
 
 use crate::faults::FaultKind;
-use crate::flight::{address_in, uncounted};
+use crate::flight::{address_in, uncounted_by};
 use crate::language::{Language, Location, Operand};
 use crate::operator::role_of;
 use crate::role::Role;
@@ -118,12 +119,29 @@ fn standard_reading(text: &[u8]) -> Reading<'_>
 }
 
 // The fields of a line of a flight program after a count that stands first.
+#[tactic(auto, using(crate::proofs::Counts::uncounted_same))]
 fn reading_after_count(text: &[u8]) -> Reading<'_>
     ensures { parts_in result ≡ later_parts (length text.now - length (uncounted text.now))
         (parts_of Flight (uncounted text.now)) }
 {
-    let (rest, line) = uncounted(text);
-    let count = text.len() - rest.len();
+    let line = Line::of(text);
+    let rest = uncounted_by(text, &line);
+    if rest.len() == text.len() {
+        reading_by(0, &line)
+    } else {
+        reading_by(text.len() - rest.len(), &Line::of(rest))
+    }
+}
+
+// These fields so many bytes later, where they are those of a line of a flight program.
+fn reading_by<'a>(count: usize, line: &Line<'a>) -> Reading<'a>
+    requires label { IfSome line.now.label (λ f. end_of f + count < 2 ^ 64) }
+    requires operator { IfSome line.now.operator (λ f. end_of f + count < 2 ^ 64) }
+    requires operand { IfSome line.now.operand (λ f. end_of f + count < 2 ^ 64) }
+    requires offset { IfSome line.now.offset (λ f. end_of f + count < 2 ^ 64) }
+    ensures { (text : List ℕ) → IsApart text line.now
+        → parts_in result ≡ later_parts count (parts_of Flight text) }
+{
     Reading {
         label: later(count, line.label),
         operator: later(count, line.operator),

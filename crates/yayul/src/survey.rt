@@ -1,7 +1,7 @@
 //! All faults of a source at once.
 
 ghost use Rattle.std.specs.Prelude.{◌≡◌, ◌<◌, ◌≤◌, ◌+◌, ◌++◌, ◌&&◌, ◌||◌, [], not, ℕ, false, true, length, map, filter};
-ghost use Rattle.std.specs.Prelude.{flat_map, nat_lt, IfErr, IfOk, OnOk, if◌then◌else◌};
+ghost use Rattle.std.specs.Prelude.{flat_map, nat_lt, IfErr, IfOk, IfSome, OnOk, ◌∷◌, if◌then◌else◌};
 ghost use Rattle.agc_text.specs.Bytes.{line_length};
 ghost use Rattle.arrayvec.specs.ArrayVec.{array_vec_len};
 ghost use Rattle.std.specs.List.{list_any, list_all};
@@ -15,7 +15,7 @@ ghost use Rattle.yayul.specs.Survey.{Survey as Surveyed, unmarked, noted, operat
 ghost use Rattle.yayul.specs.Survey.{names_one, waits_in_vain, label_lost, laid, passed_over};
 ghost use Rattle.yayul.specs.Survey.{done_line, with_known, some_stands, passed_line, passed_lines, settled_survey};
 ghost use Rattle.yayul.specs.Survey.{follows, named_line, finding, taken_by, told_of, told_line, told_lines, looked_at};
-ghost use Rattle.yayul.specs.Survey.{kinds_in_order, known_symbols, layout_kinds, told};
+ghost use Rattle.yayul.specs.Survey.{kinds_in_order, kinds_on, known_symbols, layout_kinds, told};
 ghost use Rattle.yayul.specs.ReadLines.{passed};
 ghost use Rattle.yayul.specs.Inside.Surveys.{Surveys, has_number, number_in, kinds_of, stands_beyond, doubt_of};
 ghost use Rattle.yayul.specs.Inside.Surveys.{are_absent, is_absent, vain_of};
@@ -543,6 +543,32 @@ impl Telling<'_> {
     {
         let numbers = faults.numbers();
         let numbers = numbers.as_slice();
+        match alone_in(numbers) {
+            Some(kind) => self.tell_alone(kind, told),
+            None => self.tell_all(numbers, told),
+        }
+    }
+
+    // Appends what is told of a fault that stands alone.
+    fn tell_alone(self, kind: FaultKind, told: &mut Vec<Finding>) -> Result<(), AllocError>
+        ensures { OnOk result (told.new.items
+            ≡ told.old.items ++ told_of self.entry.text.now.language self.entry.doubt self.entry.line
+            self.entry.text.now.text self.entry.taken_by (kind ∷ [])) }
+    {
+        if self.doubt.follows(kind) {
+            return Ok(());
+        }
+        told.push(self.finding(kind))?;
+        Ok(())
+    }
+
+    // Appends what is told of the faults that have these numbers.
+    fn tell_all(self, numbers: &[u8], told: &mut Vec<Finding>) -> Result<(), AllocError>
+        ensures { OnOk result (told.new.items
+            ≡ told.old.items ++ map (finding self.entry.text.now.language self.entry.line self.entry.text.now.text
+            self.entry.taken_by) (filter (λ kind. has_number numbers.now kind && not (follows self.entry.doubt kind))
+            (kinds_on self.entry.text.now.language self.entry.text.now.text))) }
+    {
         let past_end = self.tell_each(numbers, &KINDS_IN_ORDER, false, told)?;
         if past_end {
             self.tell_each(numbers, &KINDS_IN_ORDER, true, told)?;
@@ -602,6 +628,28 @@ impl Telling<'_> {
             _ => None,
         }
     }
+}
+
+// The kind of fault that has the number that stands alone.
+fn alone_in(numbers: &[u8]) -> Option<FaultKind>
+    ensures { IfSome result (λ kind. numbers.now ≡ fault_number kind ∷ []) }
+{
+    match numbers {
+        [number] => kind_of(*number),
+        _ => None,
+    }
+}
+
+// The kind of fault that has this number.
+fn kind_of(number: u8) -> Option<FaultKind>
+    ensures { IfSome result (λ kind. fault_number kind ≡ number) }
+{
+    for kind in &KINDS_IN_ORDER {
+        if kind.number() == number {
+            return Some(*kind);
+        }
+    }
+    None
 }
 
 // Whether some bytes of a line stand past the longest line, or do not.

@@ -1,28 +1,23 @@
-use Rattle.std.proofs.Common.{◌∙◌, ◌++◌, ap, append_assoc, append-nil, sym, true, false}
+use Rattle.std.proofs.Common.{◌∙◌, ◌++◌, ap, sym}
 use Rattle.yayul.specs.Inside.Surveys.{kinds_of}
-use Rattle.yayul.proofs.FaultOrder.{none_past, told_part, told_parts}
+use Rattle.yayul.proofs.FaultOrder.{told_numbered, told_same}
+use Rattle.yayul.proofs.SurveyByLine.{on_ok}
 use Rattle.yayul.proofs.survey.Telling.tell.Goals as goal
 
-pub returns-in_ok-tell_each : goal.returns-in_ok-tell_each
-returns-in_ok-tell_each c =
+pub returns-in-Some : goal.returns-in-Some
+returns-in-Some c =
     let self = c.args.self in
-    let numbers = c.as_slice-numbers.result.now in
-    let within = told_part self.text.now.language self.line self.text.now.text self.taken_by self.doubt numbers false in
-    let past = told_part self.text.now.language self.line self.text.now.text self.taken_by self.doubt numbers true in
-    c.in_ok-tell_each.ensures.told ∙ ap (λ items. items ++ past) c.in_ok-past_end.ensures.told
-    ∙ append_assoc c.args.told.now.items within past
-    ∙ ap (λ items. c.args.told.now.items ++ items)
-    (told_parts self.text.now.language self.line self.text.now.text self.taken_by self.doubt (kinds_of c.args.faults.now) numbers
-    (c.as_slice-numbers.ensures.value ∙ c.numbers-numbers.ensures))
+    on_ok c.tell_alone.result
+    (λ told. told ∙ ap (λ found. c.args.told.now.items ++ found)
+    (told_same self.text.now.language self.line self.text.now.text self.taken_by self.doubt c.in-Some.kind (kinds_of c.args.faults.now)
+    (sym c.in-Some.ensures ∙ c.as_slice-numbers.ensures.value ∙ c.numbers-numbers.ensures)))
+    c.tell_alone.ensures
 
-pub returns-else-past_end : goal.returns-else-past_end
-returns-else-past_end c =
+pub returns-in-None : goal.returns-in-None
+returns-in-None c =
     let self = c.args.self in
-    let numbers = c.as_slice-numbers.result.now in
-    let within = told_part self.text.now.language self.line self.text.now.text self.taken_by self.doubt numbers false in
-    c.in_ok-past_end.ensures.told
-    ∙ ap (λ items. c.args.told.now.items ++ items)
-    (sym (ap (λ items. within ++ items) (none_past self.text.now.language self.line self.text.now.text self.taken_by self.doubt numbers
-    (c.in_ok-past_end.ensures.others c.if-past_end.false)) ∙ append-nil within)
-    ∙ told_parts self.text.now.language self.line self.text.now.text self.taken_by self.doubt (kinds_of c.args.faults.now) numbers
-    (c.as_slice-numbers.ensures.value ∙ c.numbers-numbers.ensures))
+    on_ok c.tell_all.result
+    (λ told. told ∙ ap (λ found. c.args.told.now.items ++ found)
+    (told_numbered self.text.now.language self.line self.text.now.text self.taken_by self.doubt (kinds_of c.args.faults.now)
+    c.as_slice-numbers.result.now (c.as_slice-numbers.ensures.value ∙ c.numbers-numbers.ensures)))
+    c.tell_all.ensures
