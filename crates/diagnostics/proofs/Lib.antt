@@ -1,6 +1,7 @@
 mod Merging
 mod Around
 mod Filling
+mod Room
 mod GrowingTexts
 mod CauseRows
 mod Walked

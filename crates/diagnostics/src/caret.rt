@@ -1,6 +1,7 @@
 //! The lines of one finding as text.
 
-ghost use Rattle.std.specs.Prelude.{◌≡◌, ◌≤◌, ◌++◌, map, take, length, replicate, unwrap_or, [], OnOk};
+ghost use Rattle.std.specs.Prelude.{◌≡◌, ◌≤◌, ◌++◌, map, take, length, replicate, unwrap_or, [], codes, decimal};
+ghost use Rattle.std.specs.Prelude.{IfSome, OnOk};
 ghost use Rattle.std.specs.List.{position_or_len};
 ghost use Rattle.std.specs.Option.{option_map};
 ghost use Rattle.yayul.specs.Readings.{parts_in};
@@ -15,12 +16,11 @@ use crate::flight_causes::told_cause;
 use crate::objects::{Note, Place, push_object};
 use crate::told::{Severity, SourceRead, Told};
 use agc_text::is_text;
-use arrayvec::ArrayVec;
-use explain::{DIGITS, push_number};
+use explain::push_number;
 use json_text::Notation;
 use std::alloc::AllocError;
 use warnings::text_of;
-use words::push_decimal;
+use words::BackwardText;
 use yayul::{Finding, Reading, Span};
 
 /// How many bytes of a line are shown at most.
@@ -35,11 +35,22 @@ fn push_place(out: &mut Vec<u8>, note: &Note<'_, '_, '_>) -> Result<(), AllocErr
         ++ place_text note.now.name.now note.now.text.now note.now.told) }
 {
     let column = note.told.span.start.min(note.text.len()) + 1;
+    let place = place_in_file(note.told.line, column as u64);
     out.extend_from_slice(note.name)?;
-    out.push(b':')?;
-    push_number(out, u64::from(note.told.line))?;
-    out.push(b':')?;
-    push_number(out, column as u64)
+    out.extend_from_slice(place.as_slice())?;
+    Ok(())
+}
+
+// A line and a column, as they stand behind the name of a file.
+fn place_in_file(line: u32, column: u64) -> BackwardText
+    ensures { result ≡ codes ":" ++ decimal line ++ codes ":" ++ decimal column }
+{
+    let mut place = BackwardText::new();
+    place.prepend_decimal(column);
+    place.prepend(b':');
+    place.prepend_decimal(u64::from(line));
+    place.prepend(b':');
+    place
 }
 
 // What a finding is.
@@ -52,14 +63,53 @@ fn kind_text(severity: Severity) -> &'static [u8]
     }
 }
 
+// Appends what a finding is.
+fn push_heading(out: &mut Vec<u8>, told: &Told) -> Result<(), AllocError>
+    ensures { OnOk result (out.new.items
+        ≡ out.old.items ++ kind_text told.now.severity ++ decimal told.now.number ++ codes ": ") }
+{
+    match (told.severity, error_heading(told.number)) {
+        (Severity::Error, Some(heading)) => out.extend_from_slice(heading)?,
+        _ => {
+            out.extend_from_slice(kind_text(told.severity))?;
+            push_number(out, u64::from(told.number))?;
+            out.extend_from_slice(b": ")?;
+        }
+    }
+    Ok(())
+}
+
+// What a fault of a number is, where it is one of a source's lines.
+fn error_heading(number: u8) -> Option<&'static [u8]>
+    ensures { IfSome result (λ heading. heading.now ≡ codes ": error E" ++ decimal number ++ codes ": ") }
+{
+    match number {
+        10 => Some(b": error E10: "),
+        11 => Some(b": error E11: "),
+        13 => Some(b": error E13: "),
+        14 => Some(b": error E14: "),
+        15 => Some(b": error E15: "),
+        16 => Some(b": error E16: "),
+        17 => Some(b": error E17: "),
+        18 => Some(b": error E18: "),
+        19 => Some(b": error E19: "),
+        20 => Some(b": error E20: "),
+        21 => Some(b": error E21: "),
+        22 => Some(b": error E22: "),
+        23 => Some(b": error E23: "),
+        24 => Some(b": error E24: "),
+        25 => Some(b": error E25: "),
+        26 => Some(b": error E26: "),
+        _ => None,
+    }
+}
+
 // Appends what a finding is, and why.
 fn push_message(out: &mut Vec<u8>, note: &Note<'_, '_, '_>) -> Result<(), AllocError>
     ensures { OnOk result (out.new.items ≡ out.old.items
         ++ message_text (parts_in note.now.parts) note.now.beside.now note.now.told (cause_in note.now.cause)) }
 {
-    out.extend_from_slice(kind_text(note.told.severity))?;
-    push_number(out, u64::from(note.told.number))?;
-    out.extend_from_slice(b": ")?;
+    push_heading(out, &note.told)?;
     push_filled(out, note, note.cause.words)?;
     out.push(b'\n')?;
     Ok(())
@@ -73,7 +123,7 @@ fn push_cure(out: &mut Vec<u8>, note: &Note<'_, '_, '_>) -> Result<(), AllocErro
     if !note.cause.cure.is_empty() || note.cause.flight {
         out.extend_from_slice(b"      = ")?;
         push_filled(out, note, note.cause.cure)?;
-        out.extend_from_slice(note.cause.flight_clause())?;
+        push_plain(out, note.cause.flight_clause())?;
         out.push(b'\n')?;
     }
     Ok(())
@@ -91,12 +141,22 @@ pub(crate) fn push_filled(
     let mut rest = text;
     while !rest.is_empty() {
         let (plain, marked) = rest.split_at(length_before_mark(rest));
-        out.extend_from_slice(plain)?;
+        push_plain(out, plain)?;
         let Some((mark, after)) = marked.split_first() else {
             return Ok(());
         };
         push_filled_byte(out, note, *mark)?;
         rest = after;
+    }
+    Ok(())
+}
+
+// Appends a text, of which there is often none.
+fn push_plain(out: &mut Vec<u8>, text: &[u8]) -> Result<(), AllocError>
+    ensures { OnOk result (out.new.items ≡ out.old.items ++ text.now) }
+{
+    if !text.is_empty() {
+        out.extend_from_slice(text)?;
     }
     Ok(())
 }
@@ -117,12 +177,11 @@ fn length_before_mark(text: &[u8]) -> usize
 fn is_mark(byte: u8) -> bool
     ensures { result ≡ is_mark byte }
 {
-    match byte {
-        // Most bytes are small letters and blanks.
-        b'a'..=b'z' | b' ' => false,
-        b'&' | b'%' | b'@' | b'!' | b'~' | b'^' => true,
-        _ => false,
+    // Most bytes are small letters: a test of its own, so that they cost no other.
+    if byte.is_ascii_lowercase() {
+        return false;
     }
+    matches!(byte, b'&' | b'%' | b'@' | b'!' | b'~' | b'^')
 }
 
 // Appends what a byte of a text stands for.
@@ -172,8 +231,8 @@ pub(crate) fn front(text: &[u8], most: usize) -> &[u8]
 fn push_row(out: &mut Vec<u8>, text: &[u8], told: &Told) -> Result<(), AllocError>
     ensures { OnOk result (out.new.items ≡ out.old.items ++ row_text text.now told.now) }
 {
-    push_numbered(out, told.line)?;
-    out.extend_from_slice(b" | ")?;
+    let start = row_start(told.line);
+    out.extend_from_slice(start.as_slice())?;
     push_shown(out, text)?;
     out.push(b'\n')?;
     Ok(())
@@ -260,16 +319,21 @@ fn push_caused(out: &mut Vec<u8>, note: &Note<'_, '_, '_>) -> Result<(), AllocEr
     push_cure(out, note)
 }
 
-// Appends the number of a line, in five columns.
-#[tactic(auto, using(words::proofs::Digits::short_decimal))]
-fn push_numbered(out: &mut Vec<u8>, line: u32) -> Result<(), AllocError>
-    ensures { OnOk result (out.new.items ≡ out.old.items ++ numbered line) }
+// The number of a line in five columns, and what stands between it and the line.
+#[tactic(auto, using(crate::proofs::Room::short_line))]
+fn row_start(line: u32) -> BackwardText
+    ensures { result ≡ numbered line ++ codes " | " }
 {
-    let mut digits = ArrayVec::<u8, DIGITS>::new();
-    push_decimal(&mut digits, u64::from(line));
-    push_repeated(out, NUMBER_WIDTH.saturating_sub(digits.len()), b' ')?;
-    out.extend_from_slice(digits.as_slice())?;
-    Ok(())
+    let mut row = BackwardText::new();
+    row.prepend(b' ');
+    row.prepend(b'|');
+    row.prepend(b' ');
+    row.prepend_decimal(u64::from(line));
+    let digits = row.as_slice().len() - 3;
+    for _blank in 0..NUMBER_WIDTH.saturating_sub(digits) {
+        row.prepend(b' ');
+    }
+    row
 }
 
 // Appends a text, with a question mark for each byte that a line may not hold.

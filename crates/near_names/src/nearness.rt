@@ -67,20 +67,37 @@ fn found_first(
     }
 }
 
-// Whether a name may be close to a text, by their lengths and their first two bytes.
+// Whether a name may be close to a text, by their lengths and their first three bytes.
 #[inline(always)]
 fn may_be_close(text: &[u8], name: &[u8]) -> bool
     ensures in_capitals { result ≡ false → is_close InCapitals text.now name.now ≡ false }
     ensures as_long { result ≡ false → is_close AsLong text.now name.now ≡ false }
     ensures near { result ≡ false → is_close Near text.now name.now ≡ false }
 {
-    if text.len().abs_diff(name.len()) > 1 {
-        return false;
-    }
+    text.len().abs_diff(name.len()) <= 1
+        && (may_be_near(text, name) || may_be_in_capitals(text, name))
+}
+
+// Whether a name may be near to a text, by their first three bytes or their first two.
+#[inline(always)]
+fn may_be_near(text: &[u8], name: &[u8]) -> bool
+    ensures { result ≡ false → is_near text.now name.now ≡ false }
+{
     match (text, name) {
-        ([a, b, ..], [c, d, ..]) => {
-            *a == *c || *b == *d || *b == *c || *a == *d || capital(*a) == *c
-        }
+        ([a, b, ..], [d, e, ..]) if a != d && b != e && b != d && a != e => false,
+        ([a, b, c, ..], [d, e, f, ..]) if a != d && c != f && c != e && b != f => false,
+        ([_, b, c, ..], [_, e, f, ..]) if b != e && c != f && c != e && b != f => false,
+        _ => true,
+    }
+}
+
+// Whether a text may be a name in capitals, by their first two bytes.
+#[inline(always)]
+fn may_be_in_capitals(text: &[u8], name: &[u8]) -> bool
+    ensures { result ≡ false → is_in_capitals text.now name.now ≡ false }
+{
+    match (text, name) {
+        ([a, b, ..], [d, e, ..]) => capital(*a) == *d && capital(*b) == *e,
         _ => true,
     }
 }
@@ -96,14 +113,11 @@ pub(crate) fn is_close(closeness: Closeness, text: &[u8], name: &[u8]) -> bool
     }
 }
 
-// Whether a name is near to a text: most are not by their first two bytes alone.
+// Whether a name is near to a text: most are not by their first three bytes alone.
 fn is_near_where_it_begins(text: &[u8], name: &[u8]) -> bool
     ensures { result ≡ is_near text.now name.now }
 {
-    match (text, name) {
-        ([a, b, ..], [c, d, ..]) if a != c && b != d && b != c && a != d => false,
-        _ => is_near(text, name),
-    }
+    may_be_near(text, name) && is_near(text, name)
 }
 
 // Whether a text has one byte more than a name at most, and one less at least.

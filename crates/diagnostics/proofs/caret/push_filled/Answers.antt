@@ -11,7 +11,7 @@ returns-in_default c =
     filled_out (parts_in c.args.note.now.parts) c.args.note.now.cause.other.now c.args.note.now.beside.now rest c.loop-rest.out.items _ _ _
     (c.split_at.ensures.front ∙ ap (λ n. take n rest) before)
     (c.split_at.ensures.back ∙ ap (λ n. drop n rest) before) (nil_from_length c.split_at.result.1.now c.in_default.ensures.cases)
-    c.in_ok-extend_from_slice.ensures.items
+    c.in_ok-push_plain.ensures
     ∙ c.loop-rest.invariant
 
 pub loop-rest-preserved : goal.loop-rest-preserved
@@ -21,6 +21,6 @@ loop-rest-preserved c =
     filled_on (parts_in c.args.note.now.parts) c.args.note.now.cause.other.now c.args.note.now.beside.now
     rest c.loop-rest.out.items _ _ _ _ _ _
     (c.split_at.ensures.front ∙ ap (λ n. take n rest) before)
-    (c.split_at.ensures.back ∙ ap (λ n. drop n rest) before) c.in-Some.ensures.cases.0 c.in_ok-extend_from_slice.ensures.items
+    (c.split_at.ensures.back ∙ ap (λ n. drop n rest) before) c.in-Some.ensures.cases.0 c.in_ok-push_plain.ensures
     c.in_ok-push_filled_byte.ensures
     ∙ c.loop-rest.invariant
