@@ -2,7 +2,7 @@
 
 ghost use Rattle.std.specs.Prelude.{◌≡◌, ◌+◌, ◌*◌, ◌%◌, ◌^◌, ◌≤◌, Some, None, true, false, if◌then◌else◌};
 ghost use Rattle.cpu.specs.Codes.{operand_of};
-ghost use Rattle.cpu.specs.Effects.{after};
+ghost use Rattle.cpu.specs.Effects.{after, next_address, place_in};
 ghost use Rattle.cpu.specs.Next.{following_address, word_at_z, instruction_word, fetched, extra_by, written_by};
 ghost use Rattle.cpu.specs.Next.{output_on, jumps_by, jump_cycles, entry, entered, execute, most_cycles};
 
@@ -13,7 +13,7 @@ use crate::machine::{FIRST_ADDRESS, FIRST_SWITCHED, Machine};
 use crate::output::Output;
 use feed::Interrupt;
 use rope::Rope;
-use space::{Chan, Eras, FIRST_FIXED, resolve_fixed};
+use space::{Chan, Eras, FIRST_FIXED, Linear, resolve_fixed};
 use words::{Overflow, Wide, Word};
 
 /// The cycles that the entry of an interrupt takes.
@@ -38,6 +38,25 @@ impl Machine {
             rope.word(bank, offset)
         } else {
             self.word_in_erasable(rope)
+        }
+    }
+
+    /// The place of Z, and the word there.
+    #[inline(always)]
+    #[tactic(auto, unfolding(crate::specs::Effects::place_in, crate::specs::Effects::value_at))]
+    pub(crate) fn place_and_word_at_z(&self, rope: &Rope) -> (Linear, Word)
+        ensures place { result.0 ≡ place_in self.now (next_address self.now) }
+        ensures word { result.1 ≡ word_at_z rope.now self.now }
+    {
+        let address = self.next_address();
+        if address.number() >= FIRST_FIXED {
+            let (bank, offset) = resolve_fixed(address);
+            (Linear::Fixed(bank, offset), rope.word(bank, offset))
+        } else if address.number() >= FIRST_SWITCHED {
+            let (bank, offset) = self.switched(address);
+            (Linear::Fixed(bank, offset), rope.word(bank, offset))
+        } else {
+            (self.next_place(), self.word_in_erasable(rope))
         }
     }
 

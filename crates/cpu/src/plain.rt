@@ -42,9 +42,10 @@ impl Processor {
         ensures waited { result.waited ≡ false }
     {
         let _ = quiet;
+        let (place, word) = machine.place_and_word_at_z(self.rope());
         Fetched {
-            place: machine.next_place(),
-            word: machine.word_at_z(self.rope()),
+            place,
+            word,
             extra: machine.extra(),
             waited: false,
             added: None,

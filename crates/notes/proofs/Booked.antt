@@ -32,19 +32,15 @@ counts_nothing old now place same =
     subst (λ (book : Book). CountsPlain (account_number (Place place)) false (is_erasable (place_named book.named place)) book
     (record old { steps = old.steps + 1 })) same (quiet_counts (account_number (Place place)) (is_erasable (place_named old.named place)) old)
 
-pub counts_reach : (old now new : Book) (place : Linear) (number : ℕ) (kinds : Firsts) (some : Bool) → old ≡ now
-    → number ≡ account_number (Place place)
-    → ((kind : Kind) → counts_of new kind
-    ≡ counted_more (counts_of old kind) number (only_bank true (is_erasable (place_named old.named place)) kind))
+pub counts_reached : (old now new : Book) (number : ℕ) (erasable : Bool) (kinds : Firsts) (some : Bool) → old ≡ now
+    → ((kind : Kind) → counts_of new kind ≡ counted_more (counts_of old kind) number (only_bank true erasable kind))
     → new.named ≡ old.named → new.waits ≡ old.waits → new.past ≡ old.past → new.steps ≡ old.steps + 1
     → Lists kinds new.steps old.firsts new.firsts → some ≡ some_first kinds → new.last ≡ (if some then new.steps else old.last)
-    → ((kind : Kind) → is_first (counts_of old kind) number (only_bank true (is_erasable (place_named old.named place)) kind)
-    ≡ first_of kinds kind)
-    → CountsPlain (account_number (Place place)) true (is_erasable (place_named now.named place)) now new
-counts_reach old now new place number kinds some same at each named waits past steps listed is last first =
-    let firsts = all_firsts
-    (λ kind. is_first (counts_of old kind) number (only_bank true (is_erasable (place_named old.named place)) kind)) kinds first in
-    let counted : CountsPlain number true (is_erasable (place_named old.named place)) old new = record {
+    → ((kind : Kind) → is_first (counts_of old kind) number (only_bank true erasable kind) ≡ first_of kinds kind)
+    → CountsPlain number true erasable now new
+counts_reached old now new number erasable kinds some same each named waits past steps listed is last first =
+    let firsts = all_firsts (λ kind. is_first (counts_of old kind) number (only_bank true erasable kind)) kinds first in
+    let counted : CountsPlain number true erasable old new = record {
       each = each;
       named = named;
       waits = waits;
@@ -53,8 +49,7 @@ counts_reach old now new place number kinds some same at each named waits past s
       last = last ∙ ap (λ b. if b then new.steps else old.last) (is ∙ sym (ap some_first firsts));
       listed = subst (λ (ks : Firsts). Lists ks new.steps old.firsts new.firsts) (sym firsts) listed;
     } in
-    subst (λ (book : Book). CountsPlain (account_number (Place place)) true (is_erasable (place_named book.named place)) book new) same
-    (subst (λ n. CountsPlain n true (is_erasable (place_named old.named place)) old new) at counted)
+    subst (λ (book : Book). CountsPlain number true erasable book new) same counted
 
 -- ## A step that is taken
 module _ (scenario : Scenario) (s : State) (step : NextStep) (old now : Book) (same : old ≡ now) (next : step ≡ next_step scenario s) where

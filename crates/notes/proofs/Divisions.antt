@@ -1,4 +1,4 @@
--- DV is an extracode, and TS is none: no word of the other table has its name.
+-- DV is an extracode, and TS is none: no word of the other table has its name, nor has one outside of its range.
 use Rattle.std.proofs.Common.{◌≡◌, ℕ, Bool, true, false, nat_le, ◌&&◌, ◌||◌, List, [], ◌∷◌, Option, Some, cond, refl, find, unwrap_or}
 use Rattle.std.specs.List.{list_any}
 use Rattle.std.specs.Prelude.{codes}
@@ -54,3 +54,9 @@ pub never_elsewhere : (word : ℕ) → (nat_le 0o10000 word && nat_le word 0o117
     → same_name (row_of (code_of true word).instruction).name (codes "DV") ≡ false
 unfolding extracode_rows code_of
 never_elsewhere word outside = found_but (codes "DV") (serves word) extracode_rows refl (rw outside refl)
+
+-- nor is TS
+pub store_never_elsewhere : (word : ℕ) → (nat_le 0o54000 word && nat_le word 0o55777) ≡ false
+    → same_name (row_of (code_of false word).instruction).name (codes "TS") ≡ false
+unfolding basic_rows code_of
+store_never_elsewhere word outside = found_but (codes "TS") (serves word) basic_rows refl (rw outside refl)

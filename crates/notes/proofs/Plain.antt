@@ -1,8 +1,10 @@
 -- Steps of which nothing is told but that they reach another bank, and those of which nothing is.
 use Rattle.std.proofs.Common.{◌≡◌, ℕ, ◌+◌, ◌∙◌, ◌==◌, ◌&&◌, Bool, true, false, not, nat_lt, List, length, get_or, set, refl, sym, ap, subst}
-use Rattle.std.proofs.Common.{inl, inr, Option, Some, None, arith, if◌then◌else◌}
-use Rattle.std.specs.Prelude.{codes}
+use Rattle.std.proofs.Common.{inl, inr, Option, Some, None, arith, if◌then◌else◌, ◌<◌, ◌||◌, nat_le}
+use Rattle.std.specs.Prelude.{codes, is_some}
 use Rattle.std.proofs.lemmas.Bool.{cases_Bool, and_parts, ltb-true}
+use Rattle.std.proofs.lemmas.Bool.Decides.{nat_tests}
+use Rattle.space.specs.Cells.{return_address}
 use Rattle.std.proofs.lemmas.List.{set-get_or}
 use Rattle.space.specs.declared.place.Linear.{Linear}
 use Rattle.space.specs.declared.place.Linear.TheVariants.{Erasable, Fixed}
@@ -23,8 +25,8 @@ use Rattle.notes.specs.declared.past.Past.{Past}
 use Rattle.notes.specs.Past.{comes_by, is_lost, is_marked, is_passed, marked, past_by, reads_channel}
 use Rattle.notes.specs.Notes.{counts_minus_zero, divides, happens, happens_in, has_word, is_at_word, is_code_in_erasable, is_erasable}
 use Rattle.notes.specs.Notes.{is_plain, is_plain_code, is_plain_step, is_quiet_step, names_erasable_in, place_named, reaches_in}
-use Rattle.notes.specs.Notes.{is_named, reaches_other, skips}
-use Rattle.notes.proofs.Divisions.{basic_never, extracode_never}
+use Rattle.notes.specs.Notes.{is_named, is_way_back, reaches_other, skips}
+use Rattle.notes.proofs.Divisions.{basic_never, extracode_never, store_never_elsewhere}
 use Rattle.notes.specs.RunNotes.{here, where_of}
 use Rattle.notes.specs.Counted.{AreSmall, Book, counted_more, counts_of, firsts_by, is_first, left_after, Lists, Notes, seen_by, some_kind}
 use Rattle.notes.specs.Counted.{taken, taken_at, Takes}
@@ -73,7 +75,9 @@ is_account rope (Fixed bank offset) e = within_banks rope bank offset e
 -- what a plain instruction is
 record Plain (rope : Words) (s : State) (p : Past) (f : Fetched) : Type 0 where
   waited : f.waited ≡ false
-  placed : is_at_word rope f.place ≡ true
+  has_word : has_word rope f.place ≡ true
+  elsewhere : is_code_in_erasable f.place ≡ false
+  account : IsAccount (Place f.place)
   unshared : is_marked p.entered (comes_by s f) ≡ false
   passed : p.passed ≡ marked p.passed (comes_by s f)
   resumes : (not f.extra && f.word == 0o50017) ≡ false
@@ -99,7 +103,9 @@ plain_extracode rope s p f extra waited placed passes e =
     let one = and_parts (not (reads_channel f)) (not (divides rope s f)) e in
     record {
       waited = waited;
-      placed = placed;
+      has_word = has_a_word rope f.place placed;
+      elsewhere = not_in_erasable rope f.place placed;
+      account = is_account rope f.place placed;
       unshared = not_entered p (comes_by s f) passes;
       passed = passed_before p (comes_by s f) passes;
       resumes = rw extra refl;
@@ -117,7 +123,9 @@ plain_basic rope s p f extra waited placed passes e =
     let two = and_parts (not (skips s f)) (not (counts_minus_zero rope s f)) one.1 in
     record {
       waited = waited;
-      placed = placed;
+      has_word = has_a_word rope f.place placed;
+      elsewhere = not_in_erasable rope f.place placed;
+      account = is_account rope f.place placed;
       unshared = not_entered p (comes_by s f) passes;
       passed = passed_before p (comes_by s f) passes;
       resumes = rw extra (not_so (f.word == 0o50017) one.0);
@@ -163,8 +171,8 @@ plain_each named rope s f p q =
     of_kinds (λ kind. happens_in named rope s p kind (made.Executes f)
     ≡ only_bank (reaches_other named s f) (is_erasable (place_named named f.place)) kind)
     q.divides q.skips
-    (rw (q.waited, has_a_word rope f.place q.placed) refl)
-    (rw (q.waited, not_in_erasable rope f.place q.placed) refl) refl refl
+    (rw (q.waited, q.has_word) refl)
+    (rw (q.waited, q.elsewhere) refl) refl refl
     (not_four (not f.extra) (f.word == 0o50017) s.inside (is_lost s p.entry) q.resumes)
     (rw (q.waited, q.zeros) refl) refl
     (rw (not_three (not f.extra) (f.word == 0o50017) (not s.inside) q.resumes, q.unshared) refl) refl
@@ -204,14 +212,16 @@ still_so : (b : Bool) → b ≡ (b && true)
 still_so true = refl
 still_so false = refl
 
+past_stays : (rope : Words) (s : State) (f : Fetched) (p : Past) → Plain rope s p f → p ≡ past_by s p (made.Executes f)
+past_stays rope s f p q =
+    let unread : (b : Bool) → b ≡ b && not false = λ b. still_so b in
+    rw q.reads (λ i. record p { first_key = unread p.first_key i; second_key = unread p.second_key i; passed = q.passed i })
+
 pub plain_past : (rope : Words) (s : State) (step : NextStep) (p : Past) → is_plain_step rope s p step ≡ true
     → p ≡ past_by s p step
 plain_past rope s (made.Takes input) p e = absurd (cc)
 plain_past rope s (made.Enters k) p e = absurd (cc)
-plain_past rope s (made.Executes f) p e =
-    let q = plain_parts rope s p f e in
-    let unread : (b : Bool) → b ≡ b && not false = λ b. still_so b in
-    rw q.reads (λ i. record p { first_key = unread p.first_key i; second_key = unread p.second_key i; passed = q.passed i })
+plain_past rope s (made.Executes f) p e = past_stays rope s f p (plain_parts rope s p f e)
 
 pub quiet_past : (named : Named) (rope : Words) (s : State) (step : NextStep) (p : Past) → is_quiet_step named rope s p step ≡ true
     → p ≡ past_by s p step
@@ -224,28 +234,79 @@ plain_account rope s p (made.Takes input) e = absurd (cc)
 plain_account rope s p (made.Enters k) e = absurd (cc)
 plain_account rope s p (made.Executes f) e =
     let q = plain_parts rope s p f e in
-    rw q.waited (is_account rope f.place q.placed)
+    rw q.waited q.account
 
 -- a plain step is noted where it is counted, and a quiet one is counted by its number alone
-pub plain_noted : (scenario : Scenario) (s : State) (f : Fetched) (number : ℕ) (reaches erasable : Bool) (old new : Book)
-    → made.Executes f ≡ next_step scenario s → is_plain scenario.rope s old.past f ≡ true → number ≡ account_number (Place f.place)
+counted_noted : (scenario : Scenario) (s : State) (f : Fetched) (number : ℕ) (reaches erasable : Bool) (old new : Book)
+    → made.Executes f ≡ next_step scenario s → Plain scenario.rope s old.past f → number ≡ account_number (Place f.place)
     → reaches ≡ reaches_other old.named s f → erasable ≡ is_erasable (place_named old.named f.place)
     → CountsPlain number reaches erasable old new → Notes scenario s old new
-plain_noted scenario s f number reaches erasable old new was plain at reach is q =
+counted_noted scenario s f number reaches erasable old new was p at reach is q =
     let step : NextStep = made.Executes f in
-    let p = plain_parts scenario.rope s old.past f plain in
     let same : only_bank reaches erasable ≡ (λ kind. happens_in old.named scenario.rope s old.past kind step) = λ i kind.
     (ap (λ b. only_bank b erasable kind) reach ∙ ap (λ b. only_bank (reaches_other old.named s f) b kind) is
-    ∙ sym (step_plain old.named scenario.rope s step old.past plain kind)) i in
+    ∙ sym (plain_each old.named scenario.rope s f old.past p kind)) i in
     let here : Place f.place ≡ where_of step = rw p.waited refl in
-    noted scenario s step (Place f.place) number old new was here at (is_account scenario.rope f.place p.placed)
+    noted scenario s step (Place f.place) number old new was here at p.account
     (subst (λ (h : Kind → Bool). (kind : Kind) → counts_of new kind ≡ counted_more (counts_of old kind) number (h kind)) same q.each)
-    q.named (q.waits ∙ plain_waits scenario.rope s old.past step new.steps old.waits plain)
-    (q.past ∙ plain_past scenario.rope s step old.past plain) q.steps
+    q.named q.waits (q.past ∙ past_stays scenario.rope s f old.past p) q.steps
     (subst (λ (h : Kind → Bool). new.last ≡ (if some_kind (λ kind. is_first (counts_of old kind) number (h kind)) then new.steps
     else old.last)) same q.last)
     (subst (λ (h : Kind → Bool). Lists (firsts_by (λ kind. is_first (counts_of old kind) number (h kind))) new.steps old.firsts new.firsts)
     same q.listed)
+
+pub plain_noted : (scenario : Scenario) (s : State) (f : Fetched) (number : ℕ) (reaches erasable : Bool) (old new : Book)
+    → made.Executes f ≡ next_step scenario s → is_plain scenario.rope s old.past f ≡ true → number ≡ account_number (Place f.place)
+    → reaches ≡ reaches_other old.named s f → erasable ≡ is_erasable (place_named old.named f.place)
+    → CountsPlain number reaches erasable old new → Notes scenario s old new
+plain_noted scenario s f number reaches erasable old new was plain =
+    counted_noted scenario s f number reaches erasable old new was (plain_parts scenario.rope s old.past f plain)
+
+-- and so is a way back that stands at Q
+none_either : (b : Bool) (o : Option ℕ) → o ≡ None → (if b then None else o) ≡ None
+none_either true o e = refl
+none_either false o e = e
+
+comes_by_none : (s : State) (f : Fetched) (place : ℕ) → f.place ≡ Erasable place → comes_by s f ≡ None
+comes_by_none s f place at = rw at (none_either (s.inside || f.waited) None refl)
+
+return_parts : (rope : Words) (s : State) (p : Past) (f : Fetched) → f.waited ≡ false → f.place ≡ Erasable return_address
+    → is_way_back f ≡ true → Plain rope s p f
+return_parts rope s p f waited at way =
+    let one = and_parts (not f.extra && nat_le 0o2000 f.word) (nat_lt f.word 0o10000) way in
+    let two = and_parts (not f.extra) (nat_le 0o2000 f.word) one.0 in
+    let basic = not_so f.extra two.0 in
+    let below : f.word < 0o10000 = ltb-true f.word 0o10000 one.1 in
+    let apart : (f.word == 0o50017) ≡ false = grind (arith, nat_tests, below) in
+    let low : nat_le 0o10000 f.word ≡ false = grind (arith, nat_tests, below) in
+    let lower : nat_le 0o54000 f.word ≡ false = grind (arith, nat_tests, below) in
+    let none = comes_by_none s f return_address at in
+    let store : is_named f (codes "TS") ≡ false = rw basic (store_never_elsewhere f.word (rw lower refl)) in
+    record {
+      waited = waited;
+      has_word = rw at refl;
+      elsewhere = rw at refl;
+      account = rw at (omega arith);
+      unshared = rw none refl;
+      passed = rw none refl;
+      resumes = rw (basic, apart) refl;
+      reads = rw basic refl;
+      skips = rw store refl;
+      divides = never_divides rope s f basic;
+      zeros = rw (basic, low) refl;
+    }
+
+never_both : (b : Bool) → false ≡ (b && false)
+never_both true = refl
+never_both false = refl
+
+pub return_noted : (scenario : Scenario) (s : State) (f : Fetched) (number : ℕ) (erasable : Bool) (old new : Book)
+    → made.Executes f ≡ next_step scenario s → f.waited ≡ false → f.place ≡ Erasable return_address → is_way_back f ≡ true
+    → number ≡ account_number (Place f.place) → erasable ≡ is_erasable (place_named old.named f.place)
+    → CountsPlain number false erasable old new → Notes scenario s old new
+return_noted scenario s f number erasable old new was waited at way is named =
+    let none : false ≡ reaches_other old.named s f = rw (at, waited) (never_both (not (is_some f.added))) in
+    counted_noted scenario s f number false erasable old new was (return_parts scenario.rope s old.past f waited at way) is none named
 
 pub quiet_counts : (number : ℕ) (erasable : Bool) (old : Book)
     → CountsPlain number false erasable old (record old { steps = old.steps + 1 })

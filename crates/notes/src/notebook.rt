@@ -1,14 +1,16 @@
 //! How often each kind has happened, by where.
 
-ghost use Rattle.std.specs.Prelude.{◌≡◌, ◌+◌, ◌-◌, ◌<◌, ◌≤◌, ◌^◌, IfOk, None, if◌then◌else◌, false, true};
+ghost use Rattle.std.specs.Prelude.{◌≡◌, ◌+◌, ◌-◌, ◌<◌, ◌≤◌, ◌^◌, IfOk, None, get_or, if◌then◌else◌, false, true};
 ghost use Rattle.cpu.specs.declared.account.Account.TheVariants.{Place};
 ghost use Rattle.cpu.specs.declared.next_step.NextStep.TheVariants.{Executes};
+ghost use Rattle.cpu.specs.Bursts.{IsQuiet};
 ghost use Rattle.cpu.specs.Next.{next};
 ghost use Rattle.cpu.specs.NextStep.{next_step};
 ghost use Rattle.cpu.specs.Run.{run};
 ghost use Rattle.cpu.specs.Silent.{IsSilent};
 ghost use Rattle.cpu.specs.State.{FitsRun, Scenario};
 ghost use Rattle.cover.specs.Tallies.{account_count, account_number};
+ghost use Rattle.notes.specs.declared.kind.Kind.TheVariants.{FixedBank, OtherBank};
 ghost use Rattle.notes.specs.Counted.{AreSmall, Counted, Notes, Takes, counts_of, first_of, rewound, taken, taken_at};
 ghost use Rattle.notes.specs.Counted.{told_of};
 ghost use Rattle.notes.specs.Notes.{is_erasable, is_plain, is_plain_step, place_named, reaches_in};
@@ -19,7 +21,7 @@ use crate::kind::Kind;
 use crate::ledger::Ledger;
 use crate::other_bank::{names_erasable, names_erasable_in, reaches_other};
 use crate::past::Past;
-use crate::quiet::{is_plain, is_plain_step, plain_fetched, reaches_in};
+use crate::quiet::{is_plain, is_plain_step, is_return, plain_fetched, reaches_in};
 use crate::step::{account_of, happens};
 use crate::waits::Waits;
 use cover::{Recorder, number_of, record_plain_steps};
@@ -185,6 +187,7 @@ impl Notebook {
     }
 
     /// Counts a step at a place that reaches another bank.
+    #[inline(always)]
     fn count_reach(&mut self, place: Linear)
         requires small { AreSmall self.old }
         ensures { CountsPlain (account_number (Place place)) true
@@ -192,6 +195,19 @@ impl Notebook {
     {
         let number = number_of(Account::Place(place));
         let is_erasable = names_erasable(&self.named, &place);
+        self.count_reached(number, is_erasable);
+    }
+
+    /// Counts a step at a number that reaches another bank than that of the erasable place which its source names, or
+    /// of a fixed one. (What is handed on are numbers, which need not be put into memory.)
+    #[inline(never)]
+    fn count_reached(&mut self, number: usize, is_erasable: bool)
+        requires within { number < account_count }
+        requires erasable { get_or (counts_of self.old OtherBank) number 0 ≤ 2 ^ 62 }
+        requires fixed { get_or (counts_of self.old FixedBank) number 0 ≤ 2 ^ 62 }
+        requires steps { self.old.steps ≤ 2 ^ 62 }
+        ensures { CountsPlain number true is_erasable self.old self.new }
+    {
         let first_other_bank = self.other_banks.count(number, is_erasable);
         let first_fixed_bank = self.fixed_banks.count(number, !is_erasable);
         let kinds = Firsts {
@@ -228,6 +244,41 @@ impl Notebook {
         ensures counted { Counted self.old.named processor.old.scenario result self.new }
     {
         record_plain_steps(self, processor, machine, done, stop)
+    }
+
+    /// Makes the step behind step `done`, of so many quiet ones, and counts it, where it is at Q, to which RETURN leads,
+    /// a way back to fixed memory; else leaves all as it is.
+    #[inline(never)]
+    fn record_return(
+        &mut self,
+        processor: &Processor,
+        machine: &mut Machine,
+        done: u64,
+        quiet: u64,
+    ) -> bool
+        requires few { done < 2 ^ 40 }
+        requires quiet { IsQuiet processor.now.scenario machine.old quiet }
+        requires some { 1 ≤ quiet }
+        requires state { machine.old ≡ run processor.now.scenario done }
+        requires counted { Counted self.old.named processor.now.scenario done self.old }
+        ensures left { result ≡ false → machine.new ≡ machine.old }
+        ensures same { result ≡ false → self.new ≡ self.old }
+        ensures made { result ≡ true → (machine.new, None) ≡ next processor.now.scenario machine.old }
+        ensures quiet { result ≡ true → IsQuiet processor.now.scenario machine.new (quiet - 1) }
+        ensures kept { result ≡ true → self.new.named ≡ self.old.named }
+        ensures counted { result ≡ true → Counted self.old.named processor.now.scenario (done + 1) self.new }
+    {
+        let _ = done;
+        let fetched = processor.fetched(machine, quiet);
+        if !is_return(&fetched) {
+            return false;
+        }
+        let made = processor.make_plain(machine, fetched.word, quiet);
+        if !made {
+            return false;
+        }
+        self.count_plain(fetched.place, false);
+        true
     }
 
     /// Notes what happens in the next step, which may be any.
@@ -467,7 +518,7 @@ impl Recorder for Notebook {
         let _ = done;
         let fetched = processor.fetched(machine, quiet);
         if !is_plain(processor, machine, &self.past, &fetched) {
-            return false;
+            return self.record_return(processor, machine, done, quiet);
         }
         let reaches = reaches_other(&self.named, machine, &fetched);
         if !processor.make_plain(machine, fetched.word, quiet) {

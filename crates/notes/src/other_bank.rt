@@ -6,12 +6,14 @@ ghost use Rattle.notes.specs.Notes.{is_elsewhere, is_erasable, leads_elsewhere, 
 ghost use Rattle.notes.specs.Notes.{reaches_other};
 
 use cpu::{Fetched, Machine, NextStep, named_address};
-use space::resolve::resolve;
-use space::{Addr12, Linear};
+use space::{Addr12, FIRST_FIXED, FIRST_IN_WINDOW, Linear, resolve_fixed, resolve_unbanked};
 use yayul::NamedPlaces;
 
 /// How many words an erasable bank holds.
 const BANK_SIZE: u16 = 0o400;
+
+/// The first address whose bank FB selects.
+const FIRST_SWITCHED: u16 = 0o2000;
 
 /// Whether an instruction reaches another bank than that of the place that its source names. What INDEX added something
 /// to is passed over, and so is a word that waited.
@@ -83,10 +85,22 @@ fn is_elsewhere(other: &Linear, place: &Linear) -> bool
     }
 }
 
-/// The place to which an address leads.
+/// The place to which an address leads. Only an address in a window needs the bank registers.
+#[inline(always)]
 #[tactic(auto, unfolding(cpu::specs::Effects::place_in))]
 pub(crate) fn place_at(machine: &Machine, address: Addr12) -> Linear
     ensures { result ≡ place_in machine.now address }
 {
-    resolve(address, machine.store().banks())
+    let number = address.number();
+    if number < FIRST_IN_WINDOW {
+        Linear::Erasable(resolve_unbanked(address))
+    } else if number >= FIRST_FIXED {
+        let (bank, offset) = resolve_fixed(address);
+        Linear::Fixed(bank, offset)
+    } else if number < FIRST_SWITCHED {
+        Linear::Erasable(machine.store().place_in_erasable_window(address))
+    } else {
+        let (bank, offset) = machine.store().place_in_fixed_window(address);
+        Linear::Fixed(bank, offset)
+    }
 }

@@ -1,23 +1,26 @@
 //! Steps of which no note is made, or none but that another bank is reached: nearly all.
 
 ghost use Rattle.std.specs.Prelude.{◌≡◌, IfSome, true};
+ghost use Rattle.space.specs.Cells.{return_address};
+ghost use Rattle.space.specs.declared.place.Linear.TheVariants.{Erasable};
 ghost use Rattle.words.specs.Numbers.{correct};
 ghost use Rattle.cpu.specs.Effects.{value_at};
 ghost use Rattle.cpu.specs.Next.{instruction_word};
 ghost use Rattle.cpu.specs.NextStep.{next_step};
 ghost use Rattle.cpu.specs.Profiles.{account_of};
 ghost use Rattle.cpu.specs.State.{FitsRun};
-ghost use Rattle.notes.specs.Notes.{is_at_word, is_plain, is_plain_code, is_plain_step, is_quiet_step, reaches_in};
+ghost use Rattle.notes.specs.Notes.{is_at_word, is_plain, is_plain_code, is_plain_step, is_quiet_step, is_way_back};
+ghost use Rattle.notes.specs.Notes.{reaches_in};
 
 use crate::keys::reads_channel;
 use crate::other_bank::reaches_other;
 use crate::past::{Past, RESUME};
 use crate::sharing::{comes_by, is_passed};
-use crate::step::{divides, skips};
+use crate::step::{divides, is_way_back, skips};
 use crate::zeros::counts_minus_zero;
 use cpu::{Account, Fetched, Machine, NextStep, Processor};
 use rope::Rope;
-use space::Linear;
+use space::{Eras, Linear};
 use words::Word;
 use yayul::NamedPlaces;
 
@@ -165,5 +168,16 @@ fn is_at_word(rope: &Rope, place: &Linear) -> bool
     match place {
         Linear::Erasable(_) => false,
         Linear::Fixed(bank, offset) => rope.has(*bank, *offset),
+    }
+}
+
+/// Whether an instruction is a way back to fixed memory, executed at Q, where RETURN leads.
+pub(crate) fn is_return(fetched: &Fetched) -> bool
+    ensures place { result ≡ true → fetched.now.place ≡ Erasable return_address }
+    ensures way { result ≡ true → is_way_back fetched.now ≡ true }
+{
+    match fetched.place {
+        Linear::Erasable(place) => place == Eras::Q && is_way_back(fetched),
+        Linear::Fixed(_, _) => false,
     }
 }

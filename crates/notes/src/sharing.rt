@@ -41,12 +41,14 @@ pub(crate) fn executes_shared(machine: &Machine, past: &Past, fetched: &Fetched)
 pub(crate) fn comes_by(machine: &Machine, fetched: &Fetched) -> Option<Interrupt>
     ensures { result ≡ comes_by machine.now fetched.now }
 {
-    if machine.inside() || fetched.waited {
-        return None;
-    }
-    match fetched.place {
+    let entered = match fetched.place {
         Linear::Erasable(_) => None,
         Linear::Fixed(bank, offset) => entered_at(bank, offset),
+    };
+    if entered.is_some() && (machine.inside() || fetched.waited) {
+        None
+    } else {
+        entered
     }
 }
 

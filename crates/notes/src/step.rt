@@ -1,9 +1,12 @@
 //! Whether something happens in a step that is seldom meant.
 
-ghost use Rattle.std.specs.Prelude.{◌≡◌, ◌*◌, ◌&&◌, ◌==◌, nat_le, not};
+ghost use Rattle.std.specs.Prelude.{◌≡◌, ◌*◌, ◌&&◌, ◌==◌, codes, false, nat_le, not};
+ghost use Rattle.agc_text.specs.Tables.{same_name};
+ghost use Rattle.cpu.specs.Codes.{code_of, row_of};
+ghost use Rattle.cpu.specs.Operands.{address_of};
 ghost use Rattle.rope.specs.Places.{stands};
 ghost use Rattle.notes.specs.Notes.{divides, happens_in, has_word, is_code_in_erasable, is_too_great, is_way_back};
-ghost use Rattle.notes.specs.Notes.{is_z, names_z, skips};
+ghost use Rattle.notes.specs.Notes.{is_z, leads_to_z, skips};
 ghost use Rattle.notes.specs.RunNotes.{where_of};
 
 use crate::keys::overwrites;
@@ -29,6 +32,11 @@ const NO_TC: u16 = 0o10000;
 const FIRST_DIVISION: u16 = 0o10000;
 
 const LAST_DIVISION: u16 = 0o11777;
+
+/// The first and the last word of TS.
+const FIRST_STORE: u16 = 0o54000;
+
+const LAST_STORE: u16 = 0o55777;
 
 /// Whether something of a kind happens in a step that a machine is to make, after what was before.
 pub(crate) fn happens(
@@ -114,7 +122,7 @@ fn is_code_in_erasable(place: &Linear) -> bool
 }
 
 /// Whether an instruction is TC to a place of fixed memory, as each way back is that TC leaves in Q.
-fn is_way_back(fetched: &Fetched) -> bool
+pub(crate) fn is_way_back(fetched: &Fetched) -> bool
     ensures { result ≡ is_way_back fetched.now }
 {
     let word = fetched.word.to_u16();
@@ -123,23 +131,36 @@ fn is_way_back(fetched: &Fetched) -> bool
 
 /// Whether TS skips: A overflows, and Z does not take it.
 #[inline(always)]
+#[tactic(auto, using(crate::proofs::Divisions::extracode_never, crate::proofs::Divisions::store_never_elsewhere))]
 pub(crate) fn skips(machine: &Machine, fetched: &Fetched) -> bool
     ensures { result ≡ skips machine.now fetched.now }
 {
-    // (A seldom overflows: names are compared last.)
-    machine.reg(Eras::A).overflow() != Overflow::No
-        && instruction_name(fetched.word, fetched.extra) == b"TS".as_slice()
-        && !names_z(machine, fetched)
+    // (A seldom overflows: names are compared last, and by the word, since what a call is handed is put into memory.)
+    !fetched.extra
+        && is_store(fetched.word)
+        && machine.reg(Eras::A).overflow() != Overflow::No
+        && stores_beside_z(machine, fetched.word)
 }
 
-/// Whether an instruction names Z.
-fn names_z(machine: &Machine, fetched: &Fetched) -> bool
-    ensures { result ≡ names_z machine.now fetched.now }
+/// Whether a word may be TS, where extracode is not in force.
+fn is_store(word: Word) -> bool
+    ensures { result ≡ (nat_le 0o54000 word && nat_le word 0o55777) }
 {
-    match named_address(fetched.word, fetched.extra) {
-        Some(address) => is_z(&place_at(machine, address)),
-        None => false,
-    }
+    let word = word.to_u16();
+    FIRST_STORE <= word && word <= LAST_STORE
+}
+
+/// Whether a word is TS, and does not name Z.
+#[inline(never)]
+fn stores_beside_z(machine: &Machine, word: Word) -> bool
+    ensures { result ≡ (same_name (row_of (code_of false word).instruction).name (codes "TS")
+        && not (leads_to_z machine.now (address_of (code_of false word)))) }
+{
+    instruction_name(word, false) == b"TS".as_slice()
+        && match named_address(word, false) {
+            Some(address) => !is_z(&place_at(machine, address)),
+            None => true,
+        }
 }
 
 /// Whether the quotient of DV does not fit. A division by Z is none of these.
