@@ -110,3 +110,6 @@ pub sought_none :
     (text : List ℕ) (as_long near : Option (List ℕ))
     → sought text as_long near [] ≡ (if nat_le 3 (length text) then option_or as_long near else None)
 sought_none text as_long near = rw (or_none as_long, or_none near) refl
+
+-- the steps of a search for a near name
+pub ruleset sought_steps = (sought_on, sought_far, sought_held, sought_past, sought_here, sought_none)

@@ -21,7 +21,7 @@ pub(crate) const SHORTEST: usize = 3;
 
 /// The first of some names that is a text in capitals; else, for a text of three bytes or more, one that is near, as
 /// long where there is one.
-#[tactic(auto, using(crate::proofs::NearNames::sought_on, crate::proofs::NearNames::sought_far, crate::proofs::NearNames::sought_held, crate::proofs::NearNames::sought_past, crate::proofs::NearNames::sought_here, crate::proofs::NearNames::sought_none))]
+#[tactic(auto, using(crate::proofs::NearNames::sought_steps))]
 pub fn near_in(names: &[&'static str], text: &[u8]) -> Option<&'static [u8]>
     ensures { option_map (λ name. name.now) result ≡ near_name (map (λ name. name.now) names.now) text.now }
 {
