@@ -67,6 +67,8 @@ pub counted_more : (image : List ℕ) (n : ℕ) → counted_before image (n + 1)
 unfolding counted_before
 counted_more image n = rw (add-one n) refl
 
+pub ruleset parity_steps = (even_first, even_more, counted_first, counted_more)
+
 pub mended_first : (image : List ℕ) (turned : Bool) (bank bit : ℕ) → mended_sum_before image turned bank bit 0 ≡ 0
 unfolding mended_sum_before
 mended_first image turned bank bit = refl

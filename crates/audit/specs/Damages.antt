@@ -64,15 +64,7 @@ finding_of image turned bank =
 -- whether it is told of
 abbrev pub is_damaged : Finding → Bool
 is_damaged Sound = false
-is_damaged Uniform = true
-is_damaged DeadBit = true
-is_damaged WrongSum = true
-is_damaged (CopyOf other) = true
-is_damaged (SumOf other) = true
-is_damaged (ExchangedWith other) = true
-is_damaged ParityBits = true
-is_damaged LostBits = true
-is_damaged WrongWords = true
+is_damaged _ = true
 
 -- ## Texts
 -- a bank's name

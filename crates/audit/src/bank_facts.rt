@@ -27,58 +27,43 @@ const OFFSET_BITS: u32 = 10;
 pub(crate) fn is_turned(image: &Dump) -> bool
     ensures { result ≡ is_turned image.now }
 {
-    counted_in_all(image) < 2 * even_in_all(image)
+    let (counted, even) = parities_in_all(image);
+    counted < 2 * even
 }
 
-/// Of how many words of an image the parities count.
-#[tactic(auto, using(crate::proofs::Folds::counted_first, crate::proofs::Folds::counted_more))]
-fn counted_in_all(image: &Dump) -> u32
-    ensures count { result ≡ counted_before image.now banks }
-    ensures few { result ≤ 1024 * banks }
+/// Of how many words of an image the parities count, and how many of these have two bytes with an even number of one
+/// bits.
+#[tactic(auto, using(crate::proofs::Folds::parity_steps))]
+fn parities_in_all(image: &Dump) -> (u32, u32)
+    ensures counted { result.0 ≡ counted_before image.now banks }
+    ensures even { result.1 ≡ even_words_before image.now banks }
+    ensures few { result.1 ≤ 1024 * banks }
 {
-    let mut count: u32 = 0;
+    let (mut counted, mut even) = (0, 0);
     for number in 0..FIXED_BANKS {
-        count += counted_words(image, bank_of(number));
+        let (counts, evens) = parities_in(image, bank_of(number));
+        counted += counts;
+        even += evens;
     }
-    count
+    (counted, even)
 }
 
-/// How many of these have two bytes with an even number of one bits.
-#[tactic(auto, using(crate::proofs::Folds::even_first, crate::proofs::Folds::even_more))]
-fn even_in_all(image: &Dump) -> u32
-    ensures count { result ≡ even_words_before image.now banks }
-    ensures few { result ≤ 1024 * banks }
-{
-    let mut count: u32 = 0;
-    for number in 0..FIXED_BANKS {
-        count += even_words(image, bank_of(number));
-    }
-    count
-}
-
-/// Of how many words of a bank the parities count: of none where all are one.
-fn counted_words(image: &Dump, bank: Bank) -> u32
+/// Of how many words of a bank the parities count, and how many of these have two bytes with an even number of one bits:
+/// of none where all are one.
+fn parities_in(image: &Dump, bank: Bank) -> (u32, u32)
     requires { bank < banks }
-    ensures count { result ≡ counted_words image.now bank }
-    ensures few { result ≤ 1024 }
+    ensures counted { result.0 ≡ counted_words image.now bank }
+    ensures even { result.1 ≡ even_words image.now bank }
+    ensures few_counted { result.0 ≤ 1024 }
+    ensures few_even { result.1 ≤ 1024 }
 {
     if is_uniform(image, bank) {
-        0
+        (0, 0)
     } else {
-        u32::from(BANK_WORDS)
-    }
-}
-
-/// How many of these have two bytes with an even number of one bits.
-fn even_words(image: &Dump, bank: Bank) -> u32
-    requires { bank < banks }
-    ensures count { result ≡ even_words image.now bank }
-    ensures few { result ≤ 1024 }
-{
-    if is_uniform(image, bank) {
-        0
-    } else {
-        u32::from(wrong_words(image, false, bank))
+        (
+            u32::from(BANK_WORDS),
+            u32::from(wrong_words(image, false, bank)),
+        )
     }
 }
 

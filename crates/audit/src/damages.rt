@@ -8,10 +8,10 @@ ghost use Rattle.rope.specs.Places.{banks};
 ghost use Rattle.audit.specs.BankFacts.{count_before, dead_bit, is_always, is_turned, mended_sum, mends, wrong_words};
 ghost use Rattle.audit.specs.Orders.{arrangement_of};
 ghost use Rattle.audit.specs.Damages.{always_text, arrangement_text, bank_name, bank_of_sum, bank_text, by_count};
-ghost use Rattle.audit.specs.Damages.{by_its_sum, by_other, by_parities, by_sum, complemented_line};
+ghost use Rattle.audit.specs.Damages.{by_its_sum, by_other, by_parities, by_sum};
 ghost use Rattle.audit.specs.Damages.{count_in, count_of, damages, dead_line, dead_text, finding_of};
 ghost use Rattle.audit.specs.Damages.{finding_text, findings, in_order, is_damaged, lost_line, lost_lines, lost_text};
-ghost use Rattle.audit.specs.Damages.{module_text, modules, numbered_line, of_sum, of_uniform, of_wrong_parity};
+ghost use Rattle.audit.specs.Damages.{module_text, modules, of_sum, of_uniform, of_wrong_parity};
 ghost use Rattle.audit.specs.Damages.{order_line, parity_bits_line, report, report_in, turned_text};
 ghost use Rattle.audit.specs.Damages.{uniform_line, ways_of, wrong_lines, wrong_sum_line};
 
@@ -20,6 +20,7 @@ use crate::bank_facts::{
     mended_sum, mends, wrong_words,
 };
 use crate::differences::count_line;
+use crate::form_names::name_if;
 use crate::form_sums::holds_sum;
 use crate::lines::{Written, bank_of, offset_of};
 use crate::lost_modules::write_module;
@@ -132,17 +133,6 @@ fn in_order(order: Order) -> u32
     }
 }
 
-/// How an image stands otherwise than as written.
-fn arrangement_text(standing: Arrangement) -> ArrayVec<u8, STANDING>
-    ensures { result.items ≡ arrangement_text standing }
-{
-    let mut text = ArrayVec::new();
-    push_all(&mut text, order_line(standing.order));
-    push_all(&mut text, complemented_line(standing.is_complemented));
-    push_all(&mut text, numbered_line(standing.is_numbered));
-    text
-}
-
 /// The order of its bits and bytes.
 fn order_line(order: Order) -> &'static [u8]
     ensures text { result.now ≡ order_line order }
@@ -156,20 +146,21 @@ fn order_line(order: Order) -> &'static [u8]
     }
 }
 
-/// That each bit is the other one.
-fn complemented_line(is: bool) -> &'static [u8]
-    ensures text { result.now ≡ complemented_line is }
-    ensures short { length result.now ≤ 22 }
+/// How an image stands otherwise than as written.
+fn arrangement_text(standing: Arrangement) -> ArrayVec<u8, STANDING>
+    ensures { result.items ≡ arrangement_text standing }
 {
-    if is { b"ALL BITS COMPLEMENTED\n" } else { b"" }
-}
-
-/// That the banks stand by their numbers.
-fn numbered_line(is: bool) -> &'static [u8]
-    ensures text { result.now ≡ numbered_line is }
-    ensures short { length result.now ≤ 23 }
-{
-    if is { b"BANKS BY THEIR NUMBERS\n" } else { b"" }
+    let mut text = ArrayVec::new();
+    push_all(&mut text, order_line(standing.order));
+    push_all(
+        &mut text,
+        name_if(standing.is_complemented, b"ALL BITS COMPLEMENTED\n"),
+    );
+    push_all(
+        &mut text,
+        name_if(standing.is_numbered, b"BANKS BY THEIR NUMBERS\n"),
+    );
+    text
 }
 
 /// Writes what is damaged, module by module.

@@ -156,7 +156,7 @@ fn push_names_in(line: &mut Line, order: Order, bank: Bank, total: Word, is_comp
 }
 
 /// A name, or nothing.
-fn name_if(is: bool, name: &'static [u8]) -> &'static [u8]
+pub(crate) fn name_if(is: bool, name: &'static [u8]) -> &'static [u8]
     requires { length name.now ≤ 40 }
     ensures text { result.now ≡ name_if is name.now }
     ensures short { length result.now ≤ 40 }
