@@ -1,35 +1,30 @@
 -- What lines of an extended session ask for.
-use Rattle.std.proofs.Common.{◌≡◌, ℕ, ◌≤◌, nat_lt, None, Some, List, ◌∷◌, All, length, drop, map, slice_index_or, refl, subst, inl, inr}
+use Rattle.std.proofs.Common.{◌≡◌, ℕ, ◌≤◌, None, Some, List, ◌∷◌, All, length, drop, map, slice_index_or, refl, subst, inl, inr}
 use Rattle.std.proofs.Common.{arith}
 use Rattle.std.specs.List.{before_first, range_with_len, filter}
-use Rattle.std.proofs.lemmas.Bool.{cases_Bool}
 use Rattle.std.proofs.lemmas.List.{length-drop, length-take}
 use Rattle.std.proofs.lemmas.List.Elements.{All-map, All-head, All-tail}
 use Rattle.agc_text.specs.Fields.{Piece, is_blank, before_comment, is_run_start, run_at, runs, texts, fields}
 use Rattle.symbols.specs.Values.{SymbolTable}
 use Rattle.commands.specs.Extended.{extended_in, extended_line}
-use Rattle.commands.specs.Lines.{kept_line, command_length}
+use Rattle.commands.specs.Lines.{kept_line}
 use Rattle.commands.specs.declared.command.ParsedLine.TheVariants.{TooLong}
+use Rattle.commands.specs.declared.extended.ExtendedLine.{ExtendedLine}
 use Rattle.commands.specs.declared.extended.ExtendedLine.TheVariants.{Plain}
+use Rattle.commands.proofs.ParsedLaws.{kept-whole, not-kept}
 
 -- what a line asks for that is kept whole
 pub extended-kept : (symbols : SymbolTable) (line text : List ℕ) → Some text ≡ kept_line line
     → extended_in symbols text (fields text) ≡ extended_line symbols line
 unfolding extended_line
 extended-kept symbols line text same =
-    elim (cases_Bool (nat_lt command_length (length line))) [
-      | inl long ↦ let no : Some text ≡ None = rw long at same in cc
-      | inr short ↦ let whole : Some text ≡ Some line = rw short at same in let e : text ≡ line = cc in rw (short, e) refl
-    ]
+    kept-whole ExtendedLine (λ text. extended_in symbols text (fields text)) (Plain TooLong) line text same
 
 -- what a line asks for that is too long
 pub extended-too-long : (symbols : SymbolTable) (line : List ℕ) → None ≡ kept_line line → Plain TooLong ≡ extended_line symbols line
 unfolding extended_line
 extended-too-long symbols line same =
-    elim (cases_Bool (nat_lt command_length (length line))) [
-      | inl long ↦ rw long refl
-      | inr short ↦ let no : None ≡ Some line = rw short at same in cc
-    ]
+    not-kept ExtendedLine (λ text. extended_in symbols text (fields text)) (Plain TooLong) line same
 
 -- the fields of a text are no longer than the text
 shorter : (xs : List ℕ) → length (before_first is_blank xs) ≤ length xs

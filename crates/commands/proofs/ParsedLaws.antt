@@ -1,12 +1,14 @@
 -- What lines ask for.
 use Rattle.std.proofs.Common.{◌≡◌, ℕ, nat_lt, None, Some, List, [], ◌∷◌, length, refl, inl, inr}
 use Rattle.std.specs.Option.{option_and_then}
+use Rattle.std.specs.Prelude.{if◌then◌else◌}
 use Rattle.std.proofs.lemmas.Bool.{cases_Bool}
 use Rattle.agc_text.specs.Fields.{fields}
 use Rattle.agc_text.specs.Tables.{same_name, value_in}
 use Rattle.symbols.specs.Values.{SymbolTable}
 use Rattle.commands.specs.Commands.{Form, forms, parsed_in, parsed_line}
 use Rattle.commands.specs.Lines.{kept_line, command_length}
+use Rattle.commands.specs.declared.command.ParsedLine.{ParsedLine}
 use Rattle.commands.specs.declared.command.ParsedLine.TheVariants.{TooLong}
 
 -- no form of a table takes the fields
@@ -32,21 +34,30 @@ too-many symbols name a b c d more =
     none-taken (forms symbols) name (a ∷ b ∷ c ∷ d ∷ more)
     (refl, (refl, (refl, (refl, (refl, (refl, (refl, (refl, (refl, (refl, (refl, (refl, (refl, (refl, (refl, tt)))))))))))))))
 
+-- what is made of a line that is kept whole, and of one that is too long
+pub kept-whole : (A : Type 0) (made : List ℕ → A) (long : A) (line text : List ℕ) → Some text ≡ kept_line line
+    → made text ≡ (if nat_lt command_length (length line) then long else made line)
+kept-whole A made long line text same =
+    elim (cases_Bool (nat_lt command_length (length line))) [
+      | inl past ↦ let no : Some text ≡ None = rw past at same in cc
+      | inr short ↦ let whole : Some text ≡ Some line = rw short at same in let e : text ≡ line = cc in rw (short, e) refl
+    ]
+
+pub not-kept : (A : Type 0) (made : List ℕ → A) (long : A) (line : List ℕ) → None ≡ kept_line line
+    → long ≡ (if nat_lt command_length (length line) then long else made line)
+not-kept A made long line same =
+    elim (cases_Bool (nat_lt command_length (length line))) [
+      | inl past ↦ rw past refl
+      | inr short ↦ let no : None ≡ Some line = rw short at same in cc
+    ]
+
 -- what a line asks for that is kept whole
 pub request-kept : (symbols : SymbolTable) (line text : List ℕ) → Some text ≡ kept_line line
     → parsed_in symbols text (fields text) ≡ parsed_line symbols line
 unfolding parsed_line
-request-kept symbols line text same =
-    elim (cases_Bool (nat_lt command_length (length line))) [
-      | inl long ↦ let no : Some text ≡ None = rw long at same in cc
-      | inr short ↦ let whole : Some text ≡ Some line = rw short at same in let e : text ≡ line = cc in rw (short, e) refl
-    ]
+request-kept symbols line text same = kept-whole ParsedLine (λ text. parsed_in symbols text (fields text)) TooLong line text same
 
 -- what a line asks for that is too long
 pub request-too-long : (symbols : SymbolTable) (line : List ℕ) → None ≡ kept_line line → TooLong ≡ parsed_line symbols line
 unfolding parsed_line
-request-too-long symbols line same =
-    elim (cases_Bool (nat_lt command_length (length line))) [
-      | inl long ↦ rw long refl
-      | inr short ↦ let no : None ≡ Some line = rw short at same in cc
-    ]
+request-too-long symbols line same = not-kept ParsedLine (λ text. parsed_in symbols text (fields text)) TooLong line same
