@@ -28,18 +28,19 @@ same_waiting None (Some there) = false
 same_waiting (Some here) None = false
 same_waiting (Some here) (Some there) = here == there
 
--- the same holds of all numbers below n
-unfoldable pub same_places : Cells → Cells → ℕ → Bool
-same_places one other zero = true
-same_places one other (suc n) = same_places one other n && same_place one other n
+-- a test holds of all numbers below n
+unfoldable pub all_below : (ℕ → Bool) → ℕ → Bool
+all_below test zero = true
+all_below test (suc n) = all_below test n && test n
 
-unfoldable pub same_channels : Cells → Cells → ℕ → Bool
-same_channels one other zero = true
-same_channels one other (suc n) = same_channels one other n && same_channel one other n
+abbrev pub same_places : Cells → Cells → ℕ → Bool
+same_places one other = all_below (same_place one other)
 
-unfoldable pub same_requests : FinSet nat_cmp → FinSet nat_cmp → ℕ → Bool
-same_requests one other zero = true
-same_requests one other (suc n) = same_requests one other n && same_request one other n
+abbrev pub same_channels : Cells → Cells → ℕ → Bool
+same_channels one other = all_below (same_channel one other)
+
+abbrev pub same_requests : FinSet nat_cmp → FinSet nat_cmp → ℕ → Bool
+same_requests one other = all_below (same_request one other)
 
 -- extracode is in force in both or in neither, interrupts are inhibited, and one is being served
 abbrev pub same_flags : State → State → Bool

@@ -92,7 +92,7 @@ fn same_word(one: Option<Word>, other: Option<Word>) -> bool
 }
 
 /// Whether the same stands at all erasable places.
-#[tactic(auto, using(crate::proofs::Same::place_steps))]
+#[tactic(auto, using(crate::proofs::Same::below_steps))]
 fn same_places(one: &Machine, other: &Machine) -> bool
     ensures { result ≡ same_places one.now.cells other.now.cells 0o4000 }
 {
@@ -105,7 +105,7 @@ fn same_places(one: &Machine, other: &Machine) -> bool
 }
 
 /// Whether the same stands on all channels.
-#[tactic(auto, using(crate::proofs::Same::channel_steps))]
+#[tactic(auto, using(crate::proofs::Same::below_steps))]
 fn same_channels(one: &Machine, other: &Machine) -> bool
     ensures { result ≡ same_channels one.now.cells other.now.cells 0o1000 }
 {
@@ -125,7 +125,7 @@ fn same_channel(one: &Machine, other: &Machine, channel: Chan) -> bool
 }
 
 /// Whether the same interrupts are asked for.
-#[tactic(auto, using(crate::proofs::Same::request_steps))]
+#[tactic(auto, using(crate::proofs::Same::below_steps))]
 fn same_requests(one: &Machine, other: &Machine) -> bool
     ensures { result ≡ same_requests one.now.requests other.now.requests 10 }
 {
