@@ -29,9 +29,9 @@ use Rattle.yayul.specs.Language.{UnknownOperator, UsedTooEarly, Value}
 use Rattle.yayul.specs.declared.doubt.Known.{Known}
 use Rattle.yayul.specs.declared.finding.Finding.{Finding}
 use Rattle.yayul.proofs.Asked.{asked_stays}
-use Rattle.yayul.proofs.KindsAs.{AreAs, bare_as, five_as, label_as, valued_as, FailsAs, IsApart, choice_as, content_as, erasable_as, err_as}
-use Rattle.yayul.proofs.KindsAs.{extracode_as, form_as, if_as}
-use Rattle.yayul.proofs.KindsAs.{location_as, moved_value_as, none_apart, ok_or_as, stands_as, text_as, then_as}
+use Rattle.yayul.proofs.KindsAs.{AreAs, bare_as, label_as, valued_as, FailsAs, IsApart, choice_as, content_as, erasable_as, err_as}
+use Rattle.yayul.proofs.KindsAs.{extracode_as, given_as, if_as, line_as}
+use Rattle.yayul.proofs.KindsAs.{location_as, moved_value_as, none_apart, ok_or_as, stands_as, then_as}
 use Rattle.yayul.proofs.NoLabel.{KeepsAll, LacksValue, followed_keeps, known_keeps, line_keeps, names_symbol, no_kinds, noted_stands}
 use Rattle.yayul.proofs.NoLabel.{or_true, own_kind, stands_last}
 use Rattle.yayul.proofs.Sure.{lines_told, line_said, not_false}
@@ -122,13 +122,7 @@ statement_other line s label (Ebank operand) none =
     bare_as IsOther refl label _ (then_as IsOther erasable_place (early_value s operand) (early_other s operand none)
     (λ v. then_as IsOther erasable_number (location_at v) (location_as IsOther refl refl v) (erasable_as IsOther refl refl)))
 statement_other line s label (Gives None) none = label_as IsOther refl refl s label (Some BadOperand ∷ []) (refl, tt)
-statement_other line s label (Gives (Some content)) none =
-    label_as IsOther refl refl s label (fault_if (lacks_room (width content) s.location) BankFull ∷ fault_if (is_taken s (width content)) PlaceTaken
-    ∷ fault_if (is_erasable s.location) CodeInErasable ∷ [])
-    (if_as IsOther (lacks_room (width content) s.location) BankFull
-    (fault_if (is_taken s (width content)) PlaceTaken ∷ fault_if (is_erasable s.location) CodeInErasable ∷ []) refl
-    (if_as IsOther (is_taken s (width content)) PlaceTaken (fault_if (is_erasable s.location) CodeInErasable ∷ []) refl
-    (if_as IsOther (is_erasable s.location) CodeInErasable [] refl tt)))
+statement_other line s label (Gives (Some content)) none = given_as IsOther refl refl refl refl refl s label content
 
 -- no name waits where the operand has a value
 and_none : (a b : Bool) → b ≡ false → (a && b) ≡ false
@@ -182,13 +176,9 @@ line_other : (whole : Survey) (line : ℕ) (s : Survey) (text : List ℕ) → la
 line_other whole line s text none =
     let label : Label = (statement_on s.layout text).label in
     let operation : Operation = operation_on s.layout text in
-    let formless : Bool = lacks_form (statement_on s.layout text).operation in
-    five_as IsOther (text_faults s.layout.language line text) (form_kinds formless) (layout_kinds line s.layout label operation)
-    (standing (vain_kind whole s label operation ∷ [])) (word_kinds whole.layout.symbols s.layout formless operation)
-    (text_as IsOther s.layout.language line text refl refl refl) (form_as IsOther formless refl)
-    (statement_other line s.layout label operation none)
+    line_as IsOther refl refl refl refl whole line s text (statement_other line s.layout label operation none)
     (vain_other (vain_kind whole s label operation) (vain_none whole s label operation none))
-    (word_other whole.layout.symbols s.layout formless operation)
+    (word_other whole.layout.symbols s.layout (lacks_form (statement_on s.layout text).operation) operation)
 
 line_early : (whole : Survey) (line : ℕ) (s : Survey) (text : List ℕ) → is_one_of (line_kinds whole line s text) UsedTooEarly ≡ true
     → LacksValue s.layout.symbols (operation_on s.layout text)

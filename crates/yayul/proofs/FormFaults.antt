@@ -188,44 +188,39 @@ bank_fits : (b : Bool) (here : Location) → Fits (cond b (Ok here) (Err BadBank
 bank_fits true here = tt
 bank_fits false here = refl
 
+-- a statement that takes no label
+no_label : (operation : Operation) → ((name : List ℕ) → takes_label (Named name) operation ≡ false) → takes_label Missing operation ≡ true
+    → (l : Label) → not (is_missing l) ≡ not (takes_label l operation)
+no_label operation named missing Missing = ap not (sym missing)
+no_label operation named missing Malformed = refl
+no_label operation named missing (Named name) = ap not (sym (named name))
+
 -- ## Statements
 setloc_form : (label : Label) (operand : Option Operand)
     → has_fault (statement_effect 1 first label (Setloc operand)) ≡ not (has_form (Setloc operand) && takes_label label (Setloc operand))
 setloc_form label None = bare_refused label (and_then location_at (early_value first None)) refl
 setloc_form label (Some operand) = bare_form label (and_then location_at (early_value first (Some operand)))
-    (fits_then location_at (early_value first (Some operand)) (early_fits first operand) location_fits) ∙ by_label label
-  where
-    by_label : (l : Label) → not (is_missing l) ≡ not (takes_label l (Setloc (Some operand)))
-    by_label Missing = refl
-    by_label Malformed = refl
-    by_label (Named name) = refl
+    (fits_then location_at (early_value first (Some operand)) (early_fits first operand) location_fits)
+    ∙ no_label (Setloc (Some operand)) (λ name. refl) refl label
 
 ebank_form : (label : Label) (operand : Option Operand)
     → has_fault (statement_effect 1 first label (Ebank operand)) ≡ not (has_form (Ebank operand) && takes_label label (Ebank operand))
 ebank_form label None = bare_refused label (and_then erasable_place (early_value first None)) refl
 ebank_form label (Some operand) = bare_form label (and_then erasable_place (early_value first (Some operand)))
-    (fits_then erasable_place (early_value first (Some operand)) (early_fits first operand) place_fits) ∙ by_label label
-  where
-    by_label : (l : Label) → not (is_missing l) ≡ not (takes_label l (Ebank (Some operand)))
-    by_label Missing = refl
-    by_label Malformed = refl
-    by_label (Named name) = refl
+    (fits_then erasable_place (early_value first (Some operand)) (early_fits first operand) place_fits)
+    ∙ no_label (Ebank (Some operand)) (λ name. refl) refl label
 
 bank_form : (label : Label) (taken : BankRange) (number : Numeral)
     → has_fault (statement_effect 1 first label (Bank taken number))
     ≡ not (has_form (Bank taken number) && takes_label label (Bank taken number))
 bank_form label taken number = by_number number
   where
-    by_label : (n : Numeral) (l : Label) → not (is_missing l) ≡ not (takes_label l (Bank taken n))
-    by_label n Missing = refl
-    by_label n Malformed = refl
-    by_label n (Named name) = refl
-
     by_number : (n : Numeral) → has_fault (statement_effect 1 first label (Bank taken n))
         ≡ not (has_form (Bank taken n) && takes_label label (Bank taken n))
     by_number NoForm = bare_refused label (bank_target first taken NoForm) refl
-    by_number TooLarge = bare_form label (bank_target first taken TooLarge) refl ∙ by_label TooLarge label
-    by_number (Is n) = bare_form label (bank_target first taken (Is n)) (bank_fits _ _) ∙ by_label (Is n) label
+    by_number TooLarge = bare_form label (bank_target first taken TooLarge) refl ∙ no_label (Bank taken TooLarge) (λ name. refl) refl label
+    by_number (Is n) = bare_form label (bank_target first taken (Is n)) (bank_fits _ _)
+        ∙ no_label (Bank taken (Is n)) (λ name. refl) refl label
 
 equals_form : (label : Label) (operand : Option Operand)
     → has_fault (statement_effect 1 first label (Equals operand)) ≡ not (has_form (Equals operand) && takes_label label (Equals operand))

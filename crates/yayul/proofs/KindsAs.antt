@@ -14,15 +14,17 @@ use Rattle.yayul.specs.Forms.{greatest_number}
 use Rattle.yayul.specs.Operators.{bits_under, field_size}
 use Rattle.yayul.specs.Later.{Table}
 use Rattle.yayul.specs.Layout.{and_then, erasable_number, fault_if, fault_number, location_at, location_of, moved, moved_value, standing}
+use Rattle.yayul.specs.Layout.{is_erasable, is_taken, lacks_room, statement_on, width}
 use Rattle.yayul.specs.Layout.{Layout, is_malformed, is_missing, is_twice, term_value, text_faults, value_of, valued}
-use Rattle.yayul.specs.Survey.{form_kinds, is_one_of}
+use Rattle.yayul.specs.Mended.{lacks_form}
+use Rattle.yayul.specs.Survey.{Survey, form_kinds, is_one_of, layout_kinds, line_kinds, operation_on, vain_kind, word_kinds}
 use Rattle.yayul.specs.Words.{accepted, address_below, address_of, addressed_word, bank_word, channel_in, complete_address, content_words}
 use Rattle.yayul.specs.Words.{extracode_fault, far_address, field_of, fixed_offset, fixed_place, low_place}
 use Rattle.yayul.specs.Language.{Address, Addressed, AddressedCode, BadLabel, BadOperand, BankWord, Label, TwiceDefined, Channel}
-use Rattle.yayul.specs.Language.{Complemented, Constant, Constants}
+use Rattle.yayul.specs.Language.{BankFull, CodeInErasable, Complemented, Constant, Constants, PlaceTaken}
 use Rattle.yayul.specs.Language.{Content, Either, Erasable, ErasablePlace, Extracode, FarAddress, FarComplement, FaultKind, Fixed}
 use Rattle.yayul.specs.Language.{FixedAddress, FixedPlace, Language, Location, LongLine, Minus, NeedsExtend, No, NotAscii, NotExtracode}
-use Rattle.yayul.specs.Language.{Num, Operand, OutOfRange, Pair, Plain, Plus, Shift, Takes, Term, TooManyLines, Undefined, Value}
+use Rattle.yayul.specs.Language.{Num, Operand, Operation, OutOfRange, Pair, Plain, Plus, Shift, Takes, Term, TooManyLines, Undefined, Value}
 use Rattle.yayul.specs.Language.{WrongKindOfAddress, Yes}
 
 abbrev pub AreAs : (FaultKind → Type 0) → List FaultKind → Type 0
@@ -57,6 +59,20 @@ module _ (P : FaultKind → Type 0) where
       → AreAs P (standing (fault_if (is_malformed label) BadLabel ∷ fault_if (is_twice s label) TwiceDefined ∷ cs))
   label_as bad twice s label cs are = if_as (is_malformed label) BadLabel (fault_if (is_twice s label) TwiceDefined ∷ cs) bad
       (if_as (is_twice s label) TwiceDefined cs twice are)
+
+  -- the faults of a label and of the words of its line
+  pub given_as : P BadLabel → P TwiceDefined → P BankFull → P PlaceTaken → P CodeInErasable → (s : Layout) (label : Label)
+      (content : Content)
+      → AreAs P (standing (fault_if (is_malformed label) BadLabel ∷ fault_if (is_twice s label) TwiceDefined
+      ∷ fault_if (lacks_room (width content) s.location) BankFull ∷ fault_if (is_taken s (width content)) PlaceTaken
+      ∷ fault_if (is_erasable s.location) CodeInErasable ∷ []))
+  given_as bad twice full taken erasable s label content =
+      label_as bad twice s label (fault_if (lacks_room (width content) s.location) BankFull ∷ fault_if (is_taken s (width content)) PlaceTaken
+      ∷ fault_if (is_erasable s.location) CodeInErasable ∷ [])
+      (if_as (lacks_room (width content) s.location) BankFull
+      (fault_if (is_taken s (width content)) PlaceTaken ∷ fault_if (is_erasable s.location) CodeInErasable ∷ []) full
+      (if_as (is_taken s (width content)) PlaceTaken (fault_if (is_erasable s.location) CodeInErasable ∷ []) taken
+      (if_as (is_erasable s.location) CodeInErasable [] erasable tt)))
 
   pub bare_as : {A : Type 0} → P BadLabel → (label : Label) (r : Result A FaultKind) → FailsAs P r
       → AreAs P (standing (fault_if (not (is_missing label)) BadLabel ∷ result_err r ∷ []))
@@ -103,6 +119,20 @@ module _ (P : FaultKind → Type 0) where
 
   pub form_as : (formless : Bool) → P BadOperand → AreAs P (form_kinds formless)
   form_as formless is = if_as formless BadOperand [] is tt
+
+  -- the faults of a line, whose text and operand may be wrong
+  pub line_as : P NotAscii → P LongLine → P TooManyLines → P BadOperand → (whole : Survey) (line : ℕ) (s : Survey) (text : List ℕ)
+      → AreAs P (layout_kinds line s.layout (statement_on s.layout text).label (operation_on s.layout text))
+      → AreAs P (standing (vain_kind whole s (statement_on s.layout text).label (operation_on s.layout text) ∷ []))
+      → AreAs P (word_kinds whole.layout.symbols s.layout (lacks_form (statement_on s.layout text).operation) (operation_on s.layout text))
+      → AreAs P (line_kinds whole line s text)
+  line_as ascii long many bad whole line s text of_layout of_name of_words =
+      let label : Label = (statement_on s.layout text).label in
+      let operation : Operation = operation_on s.layout text in
+      let formless : Bool = lacks_form (statement_on s.layout text).operation in
+      five_as (text_faults s.layout.language line text) (form_kinds formless) (layout_kinds line s.layout label operation)
+      (standing (vain_kind whole s label operation ∷ [])) (word_kinds whole.layout.symbols s.layout formless operation)
+      (text_as s.layout.language line text ascii long many) (form_as formless bad) of_layout of_name of_words
 
   pub extracode_as : (i : Extracode) (extracode : Bool) → P NeedsExtend → P NotExtracode
       → AreAs P (standing (extracode_fault i extracode ∷ []))

@@ -1,57 +1,12 @@
 -- What stands after a line has the language of what stands before it.
-use Rattle.std.proofs.Common.{◌≡◌, ℕ, Bool, true, false, List, Option, None, Some, Result, Ok, Err, cond, refl, ◌∙◌}
-use Rattle.yayul.specs.Layout.{Layout, asked_here, defined, early_value, is_later, statement_effect, statement_on, valued}
-use Rattle.yayul.specs.Layout.{value_here, with_promise, word_place, asked, promised}
-use Rattle.yayul.specs.Language.{Bank, Content, Ebank, Equals, Erase, FaultKind, Gives, Label, Malformed, Missing}
-use Rattle.yayul.specs.Language.{Named, Nothing, Operand, Operation, Setloc, Unknown, Value}
+use Rattle.std.proofs.Common.{◌≡◌, ℕ, Bool, true, false, List, cond, refl, ◌∙◌}
+use Rattle.yayul.specs.Layout.{statement_effect, statement_on}
+use Rattle.yayul.specs.Language.{FaultKind, Label, Operation}
 use Rattle.yayul.specs.Mended.{lacks_operand}
 use Rattle.yayul.specs.Survey.{Survey, done_line, is_bare, is_done, is_kept, kept_label, known_after, label_passed, laid}
-use Rattle.std.specs.Option.{option_map_or}
 use Rattle.yayul.specs.Survey.{layout_kinds, noted, nowhere, operation_on, passed_line, some_stands, with_known}
 use Rattle.yayul.specs.declared.doubt.Known.{Known}
-
-of_defined : (s : Layout) (label : Label) (value : Value) → (defined s label value).language ≡ s.language
-of_defined s (Named name) value = refl
-of_defined s Missing value = refl
-of_defined s Malformed value = refl
-
-of_promise : (line : ℕ) (s : Layout) (label : Label) (operand : Operand) → (with_promise line s label operand).language ≡ s.language
-of_promise line s (Named name) operand = refl
-of_promise line s Missing operand = refl
-of_promise line s Malformed operand = refl
-
-of_valued : (s : Layout) (label : Label) (value : Result Value FaultKind) → (valued s label value).after.language ≡ s.language
-of_valued s label (Ok value) = of_defined s label value
-of_valued s label (Err kind) = refl
-
-of_asked : (line : ℕ) (s : Layout) (content : Content) → (asked_here line s content).language ≡ s.language
-of_asked line s content = by_place (word_place s.location)
-  where
-    by_place : (place : Option (ℕ × ℕ)) → (option_map_or
-        (λ p. asked s (record { line = line; bank = p.0; offset = p.1; content = content; extracode = s.extracode; eb = s.eb })) place
-        s).language ≡ s.language
-    by_place None = refl
-    by_place (Some place) = refl
-
--- what a statement does
-of_effect : (line : ℕ) (s : Layout) (label : Label) (operation : Operation)
-    → (statement_effect line s label operation).after.language ≡ s.language
-of_effect line s label Nothing = of_defined s label (value_here s.location)
-of_effect line s label Unknown = refl
-of_effect line s label (Setloc operand) = refl
-of_effect line s label (Bank taken number) = refl
-of_effect line s label (Erase count) = of_defined s label (value_here s.location)
-of_effect line s label (Equals None) = refl
-of_effect line s label (Equals (Some operand)) = by_test (is_later s operand)
-  where
-    by_test : (later : Bool) → (cond later (promised line s label operand) (valued s label (early_value s (Some operand)))).after.language
-        ≡ s.language
-    by_test true = of_promise line s label operand
-    by_test false = of_valued s label (early_value s (Some operand))
-of_effect line s label (Ebank operand) = refl
-of_effect line s label (Gives None) = refl
-of_effect line s label (Gives (Some content)) = of_asked line (defined s label (value_here s.location)) content
-    ∙ of_defined s label (value_here s.location)
+use Rattle.yayul.proofs.Lines.{statement_language}
 
 of_label : (s : Survey) (label : Label) (operation : Operation) (kept : Bool)
     → (label_passed kept s label operation).layout.language ≡ s.layout.language
@@ -68,7 +23,7 @@ of_laid line s label operation = by_test (some_stands (statement_effect line s.l
   where
     by_test : (stands : Bool) → (cond stands s.layout (statement_effect line s.layout label operation).after).language ≡ s.layout.language
     by_test true = refl
-    by_test false = of_effect line s.layout label operation
+    by_test false = statement_language line s.layout label operation
 
 of_done : (line : ℕ) (s : Survey) (label : Label) (operation : Operation) (done kept : Bool)
     → (done_line line s label operation done kept).layout.language ≡ s.layout.language

@@ -37,6 +37,7 @@ use Rattle.yayul.proofs.LateFaults.{AreLate, IsLateIf, is_of_fields, statement_l
 use Rattle.yayul.proofs.Least.{none_least}
 use Rattle.yayul.proofs.LeastOfSet.{StandsIn, fold_is_least}
 use Rattle.yayul.proofs.Least as least_fault
+use Rattle.yayul.proofs.Tables.{names_same}
 use Rattle.yayul.proofs.Lines.{same_language, faultless_line, faulty_line, few_lines, line_told}
 use Rattle.yayul.proofs.FaultlessLines.{clean, no_text, no_layout, says_same, passed_clean, no_front, all_text, clean_after, words_of}
 use Rattle.yayul.proofs.FaultlessLines.{words_told, line_fault, first_of, neither, effect_where, kind_where, promises_first}
@@ -133,14 +134,6 @@ of_one_more (p ∷ names) name n value e = by_test (of_one_more names name n val
           | inl there ↦ inl (ap (λ b. is_some (cond b (Some p.1) (value_in names n))) is ∙ there)
           | inr here ↦ inr here
         ]
-
-names_same : (a b : List ℕ) → same_name a b ≡ true → a ≡ b
-names_same [] [] e = refl
-names_same [] (y ∷ ys) e = absurd (cc)
-names_same (x ∷ xs) [] e = absurd (cc)
-names_same (x ∷ xs) (y ∷ ys) e =
-    let parts = and_parts (x == y) (same_name xs ys) e in
-    λ i. eqb-true x y parts.0 i ∷ names_same xs ys parts.1 i
 
 -- a name that waits has a value, where nothing is wrong with it
 valued_promise : (table : Table) (name : List ℕ) (operand : Operand) → promise_kind table name operand ≡ None

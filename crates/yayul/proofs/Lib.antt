@@ -21,7 +21,7 @@ mod ReadSaid
 mod LanguageKept
 mod KeptFaultless
 mod NoneStands
-mod Tables
+pub mod Tables
 mod TakenPlaces
 mod TextAlone
 mod LineRequests

@@ -115,7 +115,8 @@ equals_language : (s : Layout) (label : Label) (value : Result Value FaultKind)
 equals_language s label (Ok v) = label_language s label v
 equals_language s label (Err kind) = refl
 
-statement_language : (line : ℕ) (s : Layout) (label : Label) (operation : Operation)
+-- a statement leaves the language as it is
+pub statement_language : (line : ℕ) (s : Layout) (label : Label) (operation : Operation)
     → (statement_effect line s label operation).after.language ≡ s.language
 statement_language line s label Nothing = label_language s label (value_here s.location)
 statement_language line s label Unknown = refl

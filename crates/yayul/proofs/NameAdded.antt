@@ -89,6 +89,16 @@ module _ (table more : List (List ℕ × Value)) where
           | inr settled ↦ rw (settled, words-grown r (known settled)) refl
         ]
 
+    -- what is known of all requests is known of the first, and of the others
+    abbrev IsKnown : Request → Type 0
+    IsKnown r = is_waiting waiting r ≡ false → request_words table r ≢ Err Undefined
+
+    first_known : (r : Request) (rs : List Request) → AreKnown table waiting (r ∷ rs) → IsKnown r
+    first_known r rs known = All-head IsKnown r rs known
+
+    others_known : (r : Request) (rs : List Request) → AreKnown table waiting (r ∷ rs) → AreKnown table waiting rs
+    others_known r rs known = All-tail IsKnown r rs known
+
     -- the places of the words that stand
     abbrev places : List (List ℕ × Value) → Request → List Placed
     places t r = placed_from r.bank r.offset (standing_words t waiting r)
@@ -96,11 +106,7 @@ module _ (table more : List (List ℕ × Value)) where
     places-grown : (rs : List Request) → AreKnown table waiting rs → flat_map (places (table ++ more)) rs ≡ flat_map (places table) rs
     places-grown [] known = refl
     places-grown (r ∷ rs) known =
-        let head : is_waiting waiting r ≡ false → request_words table r ≢ Err Undefined = All-head
-        (λ q. is_waiting waiting q ≡ false → request_words table q ≢ Err Undefined) r rs known in
-        let tail : AreKnown table waiting rs = All-tail (λ q. is_waiting waiting q ≡ false → request_words table q ≢ Err Undefined) r rs
-        known in
-        rw (standing_words-grown r head, places-grown rs tail) refl
+        rw (standing_words-grown r (first_known r rs known), places-grown rs (others_known r rs known)) refl
 
     rope-grown : (rs : List Request) → AreKnown table waiting rs → standing_rope (table ++ more) waiting rs ≡ standing_rope table waiting rs
     unfolding standing_rope
@@ -111,13 +117,9 @@ module _ (table more : List (List ℕ × Value)) where
     unfolding standing_faults
     standing_faults-grown [] known = refl
     standing_faults-grown (r ∷ rs) known =
-        let head : is_waiting waiting r ≡ false → request_words table r ≢ Err Undefined = All-head
-        (λ q. is_waiting waiting q ≡ false → request_words table q ≢ Err Undefined) r rs known in
-        let tail : AreKnown table waiting rs = All-tail (λ q. is_waiting waiting q ≡ false → request_words table q ≢ Err Undefined) r rs
-        known in
         elim (cases_Bool (is_waiting waiting r)) [
-          | inl waits ↦ rw waits (standing_faults-grown rs tail)
-          | inr settled ↦ rw (settled, faults-grown r (head settled), standing_faults-grown rs tail) refl
+          | inl waits ↦ rw waits (standing_faults-grown rs (others_known r rs known))
+          | inr settled ↦ rw (settled, faults-grown r (first_known r rs known settled), standing_faults-grown rs (others_known r rs known)) refl
         ]
 
     -- what is known stays so

@@ -13,7 +13,7 @@ use Rattle.agc_text.specs.Tables.{same_name, value_in}
 use Rattle.words.specs.Numbers.{neg}
 use Rattle.yayul.specs.Later.{Table, awaited, four_rounds, kept, promise_kind, round, settled, waiting_kind, with_value}
 use Rattle.yayul.specs.Layout.{LineEffect, Layout, Promise, and_then, asked_here, defined, early_value, erasable_place, fault_if}
-use Rattle.yayul.specs.Layout.{fault_number, is_erasable, is_later, is_taken, lacks_room, location_at}
+use Rattle.yayul.specs.Layout.{fault_number, is_erasable, is_later, is_missing, is_taken, lacks_room, location_at}
 use Rattle.yayul.specs.Layout.{moved_value, promised, standing, statement_effect, statement_on, term_value, text_faults, value_here}
 use Rattle.yayul.specs.Layout.{value_of, valued, width, with_promise}
 use Rattle.yayul.specs.Laws.{IsGiven, ValueIsSure, is_of_value, said_on, symbol_in, symbol_of}
@@ -24,7 +24,7 @@ use Rattle.yayul.specs.Survey.{operation_on, passed_line, passed_lines, passed_o
 use Rattle.yayul.specs.Survey.{settled_survey, some_stands, stands_in, taken_by, told, told_line, told_lines, unmarked, vain_kind}
 use Rattle.yayul.specs.Survey.{waits_in_vain, with_known, word_kinds}
 use Rattle.yayul.specs.Words.{addressed_word, bank_word, content_words, extracode_fault, extracode_of, far_address, fixed_place, low_place}
-use Rattle.yayul.specs.Language.{Addressed, Bank, BankFull, BankWord, CodeInErasable, Complemented, Constant, Constants, Content}
+use Rattle.yayul.specs.Language.{Addressed, BadLabel, Bank, BankFull, BankWord, CodeInErasable, Complemented, Constant, Constants, Content}
 use Rattle.yayul.specs.Language.{Ebank, Equals, Erase, FarAddress, FarComplement, FaultKind, Fixed, Gives, Label, Language, Malformed}
 use Rattle.yayul.specs.Language.{Missing, Named, Nothing, Num, Operand, Operation, PlaceTaken, Plain, Setloc, Term, Undefined}
 use Rattle.yayul.specs.Language.{Unknown, UsedTooEarly, Value}
@@ -32,9 +32,10 @@ use Rattle.yayul.specs.declared.doubt.Known.{Known}
 use Rattle.yayul.specs.declared.finding.Finding.{Finding}
 use Rattle.yayul.proofs.Equalled.{by_later}
 use Rattle.yayul.proofs.Asked.{asked_stays}
-use Rattle.yayul.proofs.KindsAs.{AreAs, bare_as, five_as, label_as, valued_as, FailsAs, IsAsIf, err_as, extracode_as, form_as, if_as}
-use Rattle.yayul.proofs.KindsAs.{stands_as, text_as}
+use Rattle.yayul.proofs.KindsAs.{AreAs, bare_as, label_as, valued_as, FailsAs, IsAsIf, err_as, extracode_as, line_as, if_as}
+use Rattle.yayul.proofs.KindsAs.{given_as, stands_as}
 use Rattle.yayul.proofs.NoLabel.{no_kinds}
+use Rattle.yayul.proofs.Tables.{names_same}
 use Rattle.yayul.proofs.Sure.{line_after, line_before, line_said, line_text, lines_after, next_at, not_false, told_all}
 
 -- ## What gives the names of a layout
@@ -186,14 +187,6 @@ module _ (P : List ℕ → Type 0) where
 same_number : (a b : ℕ) → (a == b) ≡ true → a ≡ b
 same_number a b e = grind (arith, nat_tests)
 
-names_same : (a b : List ℕ) → same_name a b ≡ true → a ≡ b
-names_same [] [] e = refl
-names_same [] (y ∷ b) e = absurd (cc)
-names_same (x ∷ a) [] e = absurd (cc)
-names_same (x ∷ a) (y ∷ b) e =
-    let parts = and_parts (x == y) (same_name a b) e in
-    λ i. same_number x y parts.0 i ∷ names_same a b parts.1 i
-
 found_given : (P : List ℕ → Type 0) (table : Table) (name : List ℕ) → All (λ (e : List ℕ × Value). P e.0) table
     → stands_in table name ≡ true → P name
 found_given P [] name given is = absurd (cc)
@@ -246,17 +239,23 @@ module _ (name : List ℕ) where
   nothing_named : {A : Type 0} → None ≡ Some name → A
   nothing_named e = absurd (let bad : None ≡ Some name = e in cc)
 
+  -- a statement of a place, by an operand without a value
+  place_plain : {A : Type 0} (f : Value → Result A FaultKind) (s : Layout) (label : Label) (operand : Operand)
+      → symbol_in operand.term ≡ Some name → stands_in s.symbols name ≡ false
+      → AreAs IsPlain (standing (fault_if (not (is_missing label)) BadLabel ∷ result_err (and_then f (early_value s (Some operand))) ∷ []))
+  place_plain f s label operand is none =
+      let missing : early_value s (Some operand) ≡ Err UsedTooEarly = value_missing UsedTooEarly s.symbols (value_here s.location) operand
+      name is none in
+      bare_as IsPlain refl label (and_then f (early_value s (Some operand)))
+      (subst (λ (v : Result Value FaultKind). FailsAs IsPlain (and_then f v)) (sym missing) refl)
+
   statement_plain : (line : ℕ) (s : Layout) (label : Label) (operation : Operation) → symbol_of operation ≡ Some name
       → stands_in s.symbols name ≡ false
       → AreAs IsPlain (statement_effect line s label operation).faults
   statement_plain line s label Nothing is none = nothing_named is
   statement_plain line s label Unknown is none = nothing_named is
   statement_plain line s label (Setloc None) is none = nothing_named is
-  statement_plain line s label (Setloc (Some operand)) is none =
-      let missing : early_value s (Some operand) ≡ Err UsedTooEarly = value_missing UsedTooEarly s.symbols (value_here s.location) operand
-      name is none in
-      bare_as IsPlain refl label (and_then location_at (early_value s (Some operand)))
-      (subst (λ (v : Result Value FaultKind). FailsAs IsPlain (and_then location_at v)) (sym missing) refl)
+  statement_plain line s label (Setloc (Some operand)) is none = place_plain location_at s label operand is none
   statement_plain line s label (Bank taken number) is none = nothing_named is
   statement_plain line s label (Erase count) is none = nothing_named is
   statement_plain line s label (Equals None) is none = nothing_named is
@@ -270,19 +269,9 @@ module _ (name : List ℕ) where
           operand name is none in
           valued_as IsPlain refl refl s label (early_value s (Some operand)) (subst (λ (v : Result Value FaultKind). FailsAs IsPlain v) (sym missing) refl)
   statement_plain line s label (Ebank None) is none = nothing_named is
-  statement_plain line s label (Ebank (Some operand)) is none =
-      let missing : early_value s (Some operand) ≡ Err UsedTooEarly = value_missing UsedTooEarly s.symbols (value_here s.location) operand
-      name is none in
-      bare_as IsPlain refl label (and_then erasable_place (early_value s (Some operand)))
-      (subst (λ (v : Result Value FaultKind). FailsAs IsPlain (and_then erasable_place v)) (sym missing) refl)
+  statement_plain line s label (Ebank (Some operand)) is none = place_plain erasable_place s label operand is none
   statement_plain line s label (Gives None) is none = nothing_named is
-  statement_plain line s label (Gives (Some content)) is none =
-      label_as IsPlain refl refl s label (fault_if (lacks_room (width content) s.location) BankFull ∷ fault_if (is_taken s (width content)) PlaceTaken
-      ∷ fault_if (is_erasable s.location) CodeInErasable ∷ [])
-      (if_as IsPlain (lacks_room (width content) s.location) BankFull
-      (fault_if (is_taken s (width content)) PlaceTaken ∷ fault_if (is_erasable s.location) CodeInErasable ∷ []) refl
-      (if_as IsPlain (is_taken s (width content)) PlaceTaken (fault_if (is_erasable s.location) CodeInErasable ∷ []) refl
-      (if_as IsPlain (is_erasable s.location) CodeInErasable [] refl tt)))
+  statement_plain line s label (Gives (Some content)) is none = given_as IsPlain refl refl refl refl refl s label content
 
   waiting_plain : (table : Table) (s : Layout) (label : Label) (operation : Operation) → symbol_of operation ≡ Some name
       → stands_in table name ≡ false → IsAsIf IsPlain (waiting_kind table s label operation)
@@ -348,13 +337,9 @@ module _ (name : List ℕ) where
   line_plain whole line s text is none whole_none =
       let label : Label = (statement_on s.layout text).label in
       let operation : Operation = operation_on s.layout text in
-      let formless : Bool = lacks_form (statement_on s.layout text).operation in
-      five_as IsPlain (text_faults s.layout.language line text) (form_kinds formless) (layout_kinds line s.layout label operation)
-      (standing (vain_kind whole s label operation ∷ [])) (word_kinds whole.layout.symbols s.layout formless operation)
-      (text_as IsPlain s.layout.language line text refl refl refl) (form_as IsPlain formless refl)
-      (statement_plain line s.layout label operation is none)
+      line_as IsPlain refl refl refl refl whole line s text (statement_plain line s.layout label operation is none)
       (stands_as IsPlain (vain_kind whole s label operation) [] (vain_plain whole s label operation is whole_none) tt)
-      (word_plain whole.layout.symbols s.layout formless operation is whole_none)
+      (word_plain whole.layout.symbols s.layout (lacks_form (statement_on s.layout text).operation) operation is whole_none)
 
 -- ## The lines of a source
 module _ (language : Language) (source : List ℕ) where

@@ -85,7 +85,7 @@ pub(crate) fn span_at(text: &[u8], line: &Line<'_>, kind: FaultKind) -> Span
 }
 
 /// The place of the first byte that a line may not hold, or its length.
-pub(crate) fn wrong_place(text: &[u8]) -> usize
+pub fn wrong_place(text: &[u8]) -> usize
     ensures { result ≡ wrong_place text.now }
 {
     for (place, byte) in text.iter().enumerate() {

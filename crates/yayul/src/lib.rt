@@ -49,7 +49,7 @@ mod word_lines;
 pub use assembled::Program;
 pub use assembly::assemble;
 pub use faults::{Fault, FaultKind};
-pub use finding::{Finding, Span};
+pub use finding::{Finding, Span, wrong_place};
 pub use flight::{is_count, is_signed_name, most_lines};
 pub use flight_form::has_flight_form;
 pub use language::Language;
