@@ -1,12 +1,13 @@
 //! Making steps once more, each of them written.
 
-ghost use Rattle.std.specs.Prelude.{◌≡◌, ◌+◌, ◌-◌, ◌^◌, ◌<◌, ◌≤◌, ℕ, List, true, OnOk};
+ghost use Rattle.std.specs.Prelude.{◌≡◌, ◌-◌, ◌≤◌, ℕ, List, true, OnOk};
 ghost use Rattle.words.specs.Devices.{Writes, failures_after};
 ghost use Rattle.cpu.specs.State.{State, Scenario, FitsRun};
 ghost use Rattle.cpu.specs.Next.{next, most_cycles};
 ghost use Rattle.cpu.specs.Run.{run};
 ghost use Rattle.replay.specs.Retraced.{texts_after};
 ghost use Rattle.replay.specs.View.{counted};
+ghost use Rattle.replay.specs.Gone.{CanGo, HasGone};
 
 use crate::showing::Shown;
 use cpu::{Machine, Processor};
@@ -45,18 +46,13 @@ pub(crate) fn write_steps<T: StepWriter, W: Write>(
     out: &mut W,
 ) -> Result<(), WriteFailed>
     requires order { low ≤ high }
-    requires within { high < 2 ^ 40 }
-    requires metered { processor.old.meter < 2 ^ 128 }
-    requires stands { shown.old.machine ≡ run processor.old.scenario low }
+    requires way { CanGo processor.old shown.old.machine low high }
     requires there { shown.old.step ≡ low }
     ensures written { W.told ≡ true →
         Writes (W.written out.old) (W.written out.new)
         (texts_after (T.text writer.now processor.old.scenario) processor.old.scenario low (high - low)) result }
     ensures failures { W.failures out.new ≡ failures_after (W.failures out.old) result }
-    ensures scenario { processor.new.scenario ≡ processor.old.scenario }
-    ensures metered { processor.new.meter < 2 ^ 128 }
-    ensures least { processor.old.meter ≤ processor.new.meter }
-    ensures most { processor.new.meter + low ≤ processor.old.meter + high }
+    ensures gone { HasGone processor.old processor.new low high }
     ensures stands { shown.new.machine ≡ run processor.old.scenario shown.new.step }
     ensures within { shown.new.step ≤ high }
     ensures all { OnOk result (shown.new.step ≡ high) }

@@ -6,16 +6,16 @@ use Rattle.replay.proofs.searching.search_on.Goals as goal
 
 pub loop-at-init : goal.loop-at-init
 loop-at-init g c = record {
-  machine = c.requires.stands;
+  machine = c.requires.way.stands;
   scenario = refl;
-  metered = c.requires.metered;
+  metered = c.requires.way.metered;
   least = omega arith;
   most = omega arith;
   later = λ find answers. refl;
 }
 
 pub ask-requires-clause-cycles : goal.ask-requires-clause-cycles
-ask-requires-clause-cycles g c = few_cycles _ _ _ c.loop-at.invariant.machine (omega arith)
+ask-requires-clause-cycles g c = few_cycles _ _ _ c.loop-at.invariant.machine (omega (arith, c.requires.way.within))
 
 pub ask-requires-clause-fits : goal.ask-requires-clause-fits
 ask-requires-clause-fits g c = fits_after _ _ _ _ c.loop-at.invariant.scenario c.loop-at.invariant.machine

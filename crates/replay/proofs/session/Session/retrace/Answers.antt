@@ -34,9 +34,9 @@ returns-clause-after g c =
     let near = shown.cheap (omega arith) in
     has_retraced c.args.self.now _ c.args.low c.args.count c.write_steps.new.processor.scenario
     (c.write_steps.new.shown.step, c.write_steps.new.shown.machine) c.write_steps.new.processor.meter c.self.view_is
-    (c.write_steps.ensures.scenario ∙ told.scenario) (omega (arith, c.write_steps.ensures.least, told.least))
-    (omega (arith, near, n_is, meter_is, c.write_steps.ensures.most))
-    (λ before. omega (arith, told.on before, c.write_steps.ensures.most))
+    (c.write_steps.ensures.gone.scenario ∙ told.scenario) (omega (arith, c.write_steps.ensures.gone.least, told.least))
+    (omega (arith, near, n_is, meter_is, c.write_steps.ensures.gone.most))
+    (λ before. omega (arith, told.on before, c.write_steps.ensures.gone.most))
 
 pub invariant_of-self : goal.invariant_of-self
 invariant_of-self g c =
@@ -44,5 +44,5 @@ invariant_of-self g c =
     let n_is = ap (λ (q : SessionView). q.n) c.self.view_is in
     let of_run = told.stands ∙ ap (λ (q : Scenario). run q c.write_steps.new.shown.step) c.reach.ensures.scenario in
     shown_sound _ c.write_steps.new.processor.scenario (c.write_steps.new.shown.step, c.write_steps.new.shown.machine)
-    c.write_steps.new.processor.meter c.self.invariant (told.scenario ∙ c.reach.ensures.scenario) told.metered
+    c.write_steps.new.processor.meter c.self.invariant (told.gone.scenario ∙ c.reach.ensures.scenario) told.gone.metered
     (omega (arith, n_is, c.write_steps.ensures.within), of_run)

@@ -29,8 +29,8 @@ returns-clause-after g c =
     let there = c.reach.ensures.most 0 first (omega arith) in
     has_searched c.args.self.now _ c.search_on.new.processor.scenario
     (c.search_on.new.shown.step, c.search_on.new.shown.machine) c.search_on.new.processor.meter c.self.view_is
-    (c.search_on.ensures.scenario ∙ c.reach.ensures.scenario) (omega (arith, c.search_on.ensures.least, c.reach.ensures.least))
-    (omega (arith, there, c.search_on.ensures.most))
+    (c.search_on.ensures.gone.scenario ∙ c.reach.ensures.scenario) (omega (arith, c.search_on.ensures.gone.least, c.reach.ensures.least))
+    (omega (arith, there, c.search_on.ensures.gone.most))
 
 pub returns-then-count-eq0-clause-after : goal.returns-then-count-eq0-clause-after
 returns-then-count-eq0-clause-after g c = record { same = refl; least = omega arith; most = omega arith }
@@ -41,5 +41,5 @@ invariant_of-self g c =
     let n_is = ap (λ (q : SessionView). q.n) c.self.view_is in
     let of_run = told.stands ∙ ap (λ (q : Scenario). run q c.search_on.new.shown.step) c.reach.ensures.scenario in
     shown_sound _ c.search_on.new.processor.scenario (c.search_on.new.shown.step, c.search_on.new.shown.machine)
-    c.search_on.new.processor.meter c.self.invariant (told.scenario ∙ c.reach.ensures.scenario) told.metered
+    c.search_on.new.processor.meter c.self.invariant (told.gone.scenario ∙ c.reach.ensures.scenario) told.gone.metered
     (omega (arith, n_is, c.search_on.ensures.within), of_run)
