@@ -1,5 +1,5 @@
 -- The registers and the counters by their names.
-use Rattle.std.specs.Prelude.{ℕ, List, [], ◌∷◌, codes, map}
+use Rattle.std.specs.Prelude.{ℕ, List, [], ◌∷◌, ◌==◌, ◌||◌, Bool, codes, map}
 use Rattle.std.specs.Borrow.{Bor}
 
 -- a table of texts without where they lie in memory
@@ -46,3 +46,9 @@ registers =
     ∷ (codes "PIPAZ", codes "41")
     ∷ (codes "INLINK", codes "45")
     ∷ []
+
+-- the name of some register or counter begins with a byte
+abbrev pub begins_register : ℕ → Bool
+begins_register first =
+    first == 0o101 || first == 0o102 || first == 0o103 || first == 0o105 || first == 0o106 || first == 0o111 || first == 0o114
+    || first == 0o117 || first == 0o120 || first == 0o121 || first == 0o123 || first == 0o124 || first == 0o132

@@ -3,7 +3,7 @@
 ghost use Rattle.std.specs.Prelude.{◌≡◌, ◌∷◌};
 ghost use Rattle.std.specs.Option.{option_map};
 ghost use Rattle.agc_text.specs.Tables.{same_name, value_in};
-ghost use Rattle.symbols.specs.Registers.{entries, registers};
+ghost use Rattle.symbols.specs.Registers.{begins_register, entries, registers};
 
 const REGISTERS: [(&str, &str); 36] = [
     ("A", "0"),
@@ -49,9 +49,30 @@ pub fn register_place(name: &[u8]) -> Option<&'static [u8]>
     ensures { option_map (λ place. place.now) result ≡ value_in registers name.now }
 {
     match name.split_first() {
-        Some((first, rest)) => place_in(registers(), *first, rest),
+        Some((first, rest)) => place_of_parts(*first, rest),
         None => None,
     }
+}
+
+// The place of the register or the counter of a name's first byte and the rest.
+fn place_of_parts(first: u8, rest: &[u8]) -> Option<&'static [u8]>
+    ensures { option_map (λ place. place.now) result ≡ value_in registers (first ∷ rest.now) }
+{
+    if begins_register(first) {
+        place_in(registers(), first, rest)
+    } else {
+        None
+    }
+}
+
+// Whether the name of some register or counter begins with a byte.
+fn begins_register(first: u8) -> bool
+    ensures { result ≡ begins_register first }
+{
+    matches!(
+        first,
+        b'A' | b'B' | b'C' | b'E' | b'F' | b'I' | b'L' | b'O' | b'P' | b'Q' | b'S' | b'T' | b'Z'
+    )
 }
 
 fn registers() -> &'static [(&'static str, &'static str)]
