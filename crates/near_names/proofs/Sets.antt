@@ -47,3 +47,8 @@ pub find_on :
     (test : List ℕ → Bool) (names : List (List ℕ)) (i : ℕ) (name : List ℕ) → Some name ≡ slice_get names i → test name ≡ false
     → find test (drop i names) ≡ find test (drop (i + 1) names)
 find_on test names i name at fails = rw (left_at names i name at) (rw fails refl)
+
+-- no text is one of no names
+pub none_among : (table : List (List ℕ × Value)) (text : List ℕ) → length table ≡ 0 → is_among (map (λ e. e.0) table) text ≡ false
+none_among [] text none = refl
+none_among (e ∷ es) text none = absurd (omega (arith, none))

@@ -60,8 +60,16 @@ impl NameSet {
         near_name(&self.symbols, text)
     }
 
-    /// Whether a text is one of them.
+    /// Whether a text is one of them. Where there are none it is not looked for.
+    #[tactic(auto, using(crate::proofs::Sets::none_among))]
     pub fn has(&self, text: &[u8]) -> bool
+        ensures { result ≡ is_among self.now text.now }
+    {
+        self.symbols.len() > 0 && self.has_symbol(text)
+    }
+
+    // Whether a text is one of them, as it is looked for.
+    fn has_symbol(&self, text: &[u8]) -> bool
         ensures { result ≡ is_among self.now text.now }
     {
         self.symbols.symbol(text).is_some()

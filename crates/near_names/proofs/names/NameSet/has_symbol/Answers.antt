@@ -2,7 +2,7 @@ use Rattle.std.proofs.Common.{◌∙◌, ap, is_some}
 use Rattle.std.proofs.lemmas.Map.Made.{is_some-lookup}
 use Rattle.agc_text.specs.Tables.{same_name}
 use Rattle.near_names.specs.Names.{is_among}
-use Rattle.near_names.proofs.names.NameSet.has.Goals as goal
+use Rattle.near_names.proofs.names.NameSet.has_symbol.Goals as goal
 
 pub returns : goal.returns
 returns c =
