@@ -8,6 +8,7 @@ ghost use Rattle.audit.specs.WordLines.{extracode_at};
 ghost use Rattle.audit.specs.declared.differences.Extent.TheVariants.{Filled};
 ghost use Rattle.certain.specs.Comparison.{comparison, form_lines, remark, told_line, uncertain_line};
 
+use crate::counts::Beside;
 use crate::form::UncertainForm;
 use crate::form_lines::{write_form_lines, write_uncertain_line};
 use crate::places::UncertainPlaces;
@@ -16,7 +17,6 @@ use audit::{
     DifferenceText, Extent, PlaceOfTwo, Written, count_line, difference_text, write_differing,
 };
 use rope::Rope;
-use space::{Bank, Offset};
 use words::{Write, WriteFailed, push_all, write_all};
 
 /// The most bytes of a line: those of a difference, ` UNCERTAIN `, a name of 6 bytes, and a line feed.
@@ -42,40 +42,38 @@ pub fn write_comparison<W: Write>(
     ensures failures { W.failures out.new ≡ failures_after (W.failures out.old) result }
 {
     let count = write_differing(&PlaceLines { uncertain }, old, new, Extent::Filled, out)?;
-    write_counts(count, uncertain, old, new, out)?;
+    write_counts(
+        count,
+        Beside {
+            uncertain,
+            old,
+            new,
+        },
+        out,
+    )?;
     Ok(count)
 }
 
 /// Writes how many places there are, and what is known of the uncertain ones.
-fn write_counts<W: Write>(
-    count: u32,
-    uncertain: &UncertainPlaces,
-    old: &Rope,
-    new: &Rope,
-    out: &mut W,
-) -> Written
+fn write_counts<W: Write>(count: u32, beside: Beside<'_>, out: &mut W) -> Written
     ensures written { W.told ≡ true → Writes (W.written out.old) (W.written out.new)
-        (count_line count ++ (uncertain_line uncertain.now old.now new.now ++ form_lines uncertain.now old.now new.now))
-        result }
+        (count_line count ++ (uncertain_line beside.entry.uncertain.now beside.entry.old.now beside.entry.new.now
+        ++ form_lines beside.entry.uncertain.now beside.entry.old.now beside.entry.new.now)) result }
     ensures failures { W.failures out.new ≡ failures_after (W.failures out.old) result }
 {
     write_all(out, count_line(count).as_slice())?;
-    write_uncertain(uncertain, old, new, out)
+    write_uncertain(beside, out)
 }
 
 /// Writes what is known of the uncertain places.
-fn write_uncertain<W: Write>(
-    uncertain: &UncertainPlaces,
-    old: &Rope,
-    new: &Rope,
-    out: &mut W,
-) -> Written
+fn write_uncertain<W: Write>(beside: Beside<'_>, out: &mut W) -> Written
     ensures written { W.told ≡ true → Writes (W.written out.old) (W.written out.new)
-        (uncertain_line uncertain.now old.now new.now ++ form_lines uncertain.now old.now new.now) result }
+        (uncertain_line beside.entry.uncertain.now beside.entry.old.now beside.entry.new.now
+        ++ form_lines beside.entry.uncertain.now beside.entry.old.now beside.entry.new.now) result }
     ensures failures { W.failures out.new ≡ failures_after (W.failures out.old) result }
 {
-    write_uncertain_line(uncertain, old, new, out)?;
-    write_form_lines(uncertain, old, new, out)
+    write_uncertain_line(beside, out)?;
+    write_form_lines(beside, out)
 }
 
 /// The lines of places.
@@ -88,31 +86,24 @@ impl<'a> DifferenceText for PlaceLines<'a> {
     ghost text = { λ lines old new place. told_line lines.uncertain.now old new place };
 
     fn write<W: Write>(&self, old: &Rope, new: &Rope, at: PlaceOfTwo, out: &mut W) -> Written {
-        let line = told_line(self.uncertain, old, new, at.bank, at.offset, at.extra);
+        let line = told_line(self.uncertain, old, new, at);
         write_all(out, line.as_slice())
     }
 }
 
 /// The line of a place.
 #[tactic(auto, unfolding(crate::specs::Comparison::told_line))]
-fn told_line(
-    uncertain: &UncertainPlaces,
-    old: &Rope,
-    new: &Rope,
-    bank: Bank,
-    offset: Offset,
-    extra: (bool, bool),
-) -> Line
-    requires old { extra.0 ≡ extracode_at old.now bank offset }
-    requires new { extra.1 ≡ extracode_at new.now bank offset }
-    ensures { result.items ≡ told_line uncertain.now old.now new.now (bank, offset) }
+fn told_line(uncertain: &UncertainPlaces, old: &Rope, new: &Rope, at: PlaceOfTwo) -> Line
+    requires old { at.extra.0 ≡ extracode_at old.now at.bank at.offset }
+    requires new { at.extra.1 ≡ extracode_at new.now at.bank at.offset }
+    ensures { result.items ≡ told_line uncertain.now old.now new.now (at.bank, at.offset) }
 {
     let mut line = ArrayVec::new();
     push_all(
         &mut line,
-        difference_text(old, new, bank, offset, extra).as_slice(),
+        difference_text(old, new, at.bank, at.offset, at.extra).as_slice(),
     );
-    push_remark(&mut line, uncertain.form_at(bank, offset));
+    push_remark(&mut line, uncertain.form_at(at.bank, at.offset));
     push_all(&mut line, b"\n");
     line
 }

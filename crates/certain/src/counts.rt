@@ -10,36 +10,36 @@ use audit::{PLACES, bank_of, count_below, offset_of};
 use rope::Rope;
 use space::BANK_WORDS;
 
+/// A source with uncertain places beside a rope.
+#[derive(Clone, Copy)]
+pub(crate) struct Beside<'a> {
+    /// The uncertain places.
+    pub(crate) uncertain: &'a UncertainPlaces,
+    /// The words of the source.
+    pub(crate) old: &'a Rope,
+    /// Those of the rope.
+    pub(crate) new: &'a Rope,
+}
+
 /// How many places are uncertain by a form, or by any where none is asked for, where the words differ, or do not.
-pub(crate) fn count_of(
-    uncertain: &UncertainPlaces,
-    old: &Rope,
-    new: &Rope,
-    asked: Option<u16>,
-    wrong: bool,
-) -> u32
-    ensures count { result ≡ count_of uncertain.now old.now new.now asked wrong }
+pub(crate) fn count_of(beside: Beside<'_>, asked: Option<u16>, wrong: bool) -> u32
+    ensures count { result ≡ count_of beside.entry.uncertain.now beside.entry.old.now beside.entry.new.now asked
+        wrong }
     ensures few { result ≤ fixed_places }
 {
     u32::from(count_below(PLACES, |place| {
-        is_counted(uncertain, old, new, asked, wrong, u32::from(place))
+        is_counted(beside, asked, wrong, u32::from(place))
     }))
 }
 
 // Whether a place is one of them.
-fn is_counted(
-    uncertain: &UncertainPlaces,
-    old: &Rope,
-    new: &Rope,
-    asked: Option<u16>,
-    wrong: bool,
-    place: u32,
-) -> bool
+fn is_counted(beside: Beside<'_>, asked: Option<u16>, wrong: bool, place: u32) -> bool
     requires { place < fixed_places }
-    ensures { result ≡ is_counted uncertain.now old.now new.now asked wrong place }
+    ensures { result ≡ is_counted beside.entry.uncertain.now beside.entry.old.now beside.entry.new.now asked wrong
+        place }
 {
-    match uncertain.form_numbered(place) {
-        Some(form) => is_asked(asked, form) && differs(old, new, place) == wrong,
+    match beside.uncertain.form_numbered(place) {
+        Some(form) => is_asked(asked, form) && differs(beside.old, beside.new, place) == wrong,
         None => false,
     }
 }

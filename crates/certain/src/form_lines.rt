@@ -6,12 +6,10 @@ ghost use Rattle.rope.specs.Places.{fixed_places};
 ghost use Rattle.certain.specs.Comparison.{form_line, form_lines, form_text, uncertain_line, uncertain_text};
 ghost use Rattle.certain.specs.Forms.{forms};
 
-use crate::counts::count_of;
+use crate::counts::{Beside, count_of};
 use crate::form::{FORMS, UncertainForm};
-use crate::places::UncertainPlaces;
 use arrayvec::ArrayVec;
 use audit::Written;
-use rope::Rope;
 use words::{Write, push_all, push_decimal, write_all};
 
 /// The most bytes of a line: two numbers of at most 20 digits, a name, and what stands between.
@@ -21,46 +19,36 @@ type Line = ArrayVec<u8, LINE>;
 
 /// Writes how many uncertain places differ, of how many; nothing where there is none.
 #[tactic(auto, unfolding(crate::specs::Comparison::uncertain_line))]
-pub(crate) fn write_uncertain_line<W: Write>(
-    uncertain: &UncertainPlaces,
-    old: &Rope,
-    new: &Rope,
-    out: &mut W,
-) -> Written
+pub(crate) fn write_uncertain_line<W: Write>(beside: Beside<'_>, out: &mut W) -> Written
     ensures written { W.told ≡ true → Writes (W.written out.old) (W.written out.new)
-        (uncertain_line uncertain.now old.now new.now) result }
+        (uncertain_line beside.entry.uncertain.now beside.entry.old.now beside.entry.new.now) result }
     ensures failures { W.failures out.new ≡ failures_after (W.failures out.old) result }
 {
-    let wrong = count_of(uncertain, old, new, None, true);
-    let right = count_of(uncertain, old, new, None, false);
+    let wrong = count_of(beside, None, true);
+    let right = count_of(beside, None, false);
     write_all(out, uncertain_text(wrong, right).as_slice())
 }
 
 /// Writes for each form that stands in the source how many of its places the rope confirms, and how many it denies.
 #[tactic(auto, unfolding(crate::specs::Comparison::form_lines))]
-pub(crate) fn write_form_lines<W: Write>(
-    uncertain: &UncertainPlaces,
-    old: &Rope,
-    new: &Rope,
-    out: &mut W,
-) -> Written
+pub(crate) fn write_form_lines<W: Write>(beside: Beside<'_>, out: &mut W) -> Written
     ensures written { W.told ≡ true → Writes (W.written out.old) (W.written out.new)
-        (form_lines uncertain.now old.now new.now) result }
+        (form_lines beside.entry.uncertain.now beside.entry.old.now beside.entry.new.now) result }
     ensures failures { W.failures out.new ≡ failures_after (W.failures out.old) result }
 {
     for number in 0..FORMS {
-        write_all(out, form_line(uncertain, old, new, number).as_slice())?;
+        write_all(out, form_line(beside, number).as_slice())?;
     }
     Ok(())
 }
 
 // The line of a form.
 #[tactic(auto, unfolding(crate::specs::Comparison::form_line))]
-fn form_line(uncertain: &UncertainPlaces, old: &Rope, new: &Rope, number: u16) -> Line
-    ensures { result.items ≡ form_line uncertain.now old.now new.now number }
+fn form_line(beside: Beside<'_>, number: u16) -> Line
+    ensures { result.items ≡ form_line beside.entry.uncertain.now beside.entry.old.now beside.entry.new.now number }
 {
-    let right = count_of(uncertain, old, new, Some(number), false);
-    let wrong = count_of(uncertain, old, new, Some(number), true);
+    let right = count_of(beside, Some(number), false);
+    let wrong = count_of(beside, Some(number), true);
     form_text(number, right, wrong)
 }
 

@@ -8,5 +8,6 @@ pub returns-in_err-write_all-clause-written : goal.returns-in_err-write_all-clau
 returns-in_err-write_all-clause-written g c = λ told.
     let failed = err_from_is_err_and c.from_residual.result c.from_residual.ensures.1 in
     rw failed.1 (beginning-longer _ _ _
-    (uncertain_line c.args.uncertain.now c.args.old.now c.args.new.now ++ form_lines c.args.uncertain.now c.args.old.now c.args.new.now)
+    (uncertain_line c.args.beside.uncertain.now c.args.beside.old.now c.args.beside.new.now
+    ++ form_lines c.args.beside.uncertain.now c.args.beside.old.now c.args.beside.new.now)
     (rw (c.as_slice.ensures.value, c.count_line.ensures) at (c.in_err-write_all.ensures.written told)))
