@@ -5,8 +5,8 @@ ghost use Rattle.cpu.specs.Codes.{code_of};
 ghost use Rattle.cpu.specs.Effects.{place_in};
 ghost use Rattle.cpu.specs.Inputs.{carried_by};
 ghost use Rattle.cpu.specs.Operands.{address_of};
-ghost use Rattle.say.specs.Told.{counter_places, executed_places, first_place, input_places, no_places, places_of};
-ghost use Rattle.say.specs.Told.{second_address};
+ghost use Rattle.say.specs.Told.{counter_places, executed_places, first_place, input_places};
+ghost use Rattle.say.specs.Told.{no_places, places_of, second_address};
 
 use crate::instruction::instruction_at;
 use cpu::{Fetched, Input, Instruction, Machine, NextStep, named_address};

@@ -4,11 +4,11 @@ ghost use Rattle.std.specs.Prelude.{◌≡◌, ◌*◌, ◌+◌, ◌<◌, ◌≤
 ghost use Rattle.arrayvec.specs.ArrayVec.{array_vec_len};
 ghost use Rattle.words.specs.Numbers.{correct};
 ghost use Rattle.words.specs.Numerals.{octal_text};
-ghost use Rattle.cpu.specs.Effects.{place_in, value_at};
 ghost use Rattle.cpu.specs.NextStep.{next_step};
 ghost use Rattle.cpu.specs.State.{FitsRun};
-ghost use Rattle.trace.specs.TraceLines.{added_text, entry_place, fetched_text, full_name, octal_digits, operand_gap};
-ghost use Rattle.trace.specs.TraceLines.{short_octal, taken_text, what_text, word_place, word_text};
+ghost use Rattle.cpu.specs.Effects.{place_in, value_at};
+ghost use Rattle.trace.specs.TraceLines.{added_text, entry_place, fetched_text, full_name, octal_digits};
+ghost use Rattle.trace.specs.TraceLines.{operand_gap, short_octal, taken_text, what_text, word_place, word_text};
 
 use crate::fields::{StepFields, Text, place_text, step_fields};
 use crate::inputs::{input_text, interrupt_name, push_asked};
