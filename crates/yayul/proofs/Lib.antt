@@ -63,3 +63,4 @@ mod Finished
 pub mod Octals
 pub mod WrittenStatements
 pub mod WrittenWords
+pub mod Vectors

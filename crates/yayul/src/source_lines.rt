@@ -1,6 +1,10 @@
 //! The lines of a source, each read once.
 
-ghost use Rattle.std.specs.Prelude.{◌≡◌, ◌+◌, ◌≤◌, length, IfOk};
+ghost use Rattle.std.specs.Prelude.{◌≡◌, ◌==◌, ◌+◌, ◌<◌, ◌≤◌, ◌∷◌, [], length, map, IfOk, IfSome, MatchOption};
+ghost use Rattle.std.specs.List.{position_or_len};
+ghost use Rattle.std.specs.Simd.Lanes.{mask_l};
+ghost use Rattle.agc_text.specs.Bytes.{line_feed};
+ghost use Rattle.agc_text.specs.Lines.{lines};
 ghost use Rattle.yayul.specs.Flight.{most_lines};
 ghost use Rattle.yayul.specs.Program.{Source};
 ghost use Rattle.yayul.specs.ReadLines.{lines_of};
@@ -8,9 +12,13 @@ ghost use Rattle.yayul.specs.ReadLines.{lines_of};
 use crate::flight::most_lines;
 use crate::language::Language;
 use crate::read_line::ReadLine;
-use agc_text::next_line;
+use agc_text::length_before_byte;
 use std::alloc::{AllocError, Global};
 use std::marker::Model;
+use std::simd::prelude::*;
+
+/// How many bytes are tested for a line feed at once.
+const TESTED: usize = 16;
 
 /// A source of a language, whose lines are read once: as many as it may have, and one.
 #[derive(Drop)]
@@ -86,11 +94,51 @@ fn read_lines(
     let mut lines = Vec::new(alloc);
     let mut rest = source;
     for _ in 0..most_lines(language) + 1 {
-        let Some((text, after)) = next_line(rest) else {
+        let Some((text, after)) = line_and_rest(rest) else {
             return Ok(lines);
         };
         lines.push(ReadLine::of(language, text))?;
         rest = after;
     }
     Ok(lines)
+}
+
+// The first line of a text, without its line feed, and what follows it, as `next_line` tells them.
+fn line_and_rest(text: &[u8]) -> Option<(&[u8], &[u8])>
+    ensures lines { MatchOption result (lines text.now ≡ []) (λ r. lines text.now ≡ r.0.now ∷ lines r.1.now) }
+    ensures shorter { IfSome result (λ r. length r.1.now < length text.now) }
+{
+    if text.is_empty() {
+        return None;
+    }
+    let end = length_before_feed(text);
+    if end < text.len() {
+        Some((&text[..end], &text[end + 1..]))
+    } else {
+        Some((text, &[]))
+    }
+}
+
+// How many bytes stand before the first line feed: all, where none stands.
+fn length_before_feed(text: &[u8]) -> usize
+    ensures value { result ≡ position_or_len (λ byte. byte == line_feed) text.now }
+    ensures within { result ≤ length text.now }
+{
+    let mut start = 0;
+    while text.len() - start >= TESTED {
+        let feeds = feeds_in(u8x16::from_slice(&text[start..]));
+        if feeds != 0 {
+            return start + feeds.trailing_zeros() as usize;
+        }
+        start += TESTED;
+    }
+    start + length_before_byte(&text[start..], b'\n')
+}
+
+// Which of some bytes are line feeds, the first by the lowest bit.
+#[inline(always)]
+fn feeds_in(bytes: u8x16) -> u64
+    ensures { result ≡ mask_l (map (λ byte. byte == line_feed) bytes) }
+{
+    bytes.simd_eq(u8x16::splat(b'\n')).to_bitmask()
 }
