@@ -18,7 +18,7 @@ use Rattle.yayul.specs.Layout.{moved, moved_value, promised, standing, start, st
 use Rattle.yayul.specs.Layout.{width}
 use Rattle.yayul.specs.Flight.{measured, uncounted, uncounted_statement}
 use Rattle.yayul.specs.FlightForms.{has_flight_form, is_of_form, gives_too_great}
-use Rattle.yayul.specs.Inside.Forms.{has_form, takes_label}
+use Rattle.yayul.specs.Inside.Forms.{has_form, is_formed, takes_label}
 
 -- ## Faults that are not of a form
 -- what comes to no fault of a form
@@ -282,7 +282,7 @@ module _ (text : List ℕ) (said : Statement) (is : said ≡ uncounted_statement
       ∙ ap (λ (x : Statement). not (nat_lt line_length (length (measured Flight text))
       || not (has_form said.operation && takes_label said.label said.operation) || gives_too_great x.operation)) (sym is))
 
-  pub short_form : length (measured Flight text) ≤ line_length
+  short_form : length (measured Flight text) ≤ line_length
       → (has_form said.operation && takes_label said.label said.operation && not (gives_too_great said.operation)) ≡ has_flight_form text
   short_form short =
       by_parts (has_form said.operation) (takes_label said.label said.operation) (gives_too_great said.operation)
@@ -295,8 +295,24 @@ module _ (text : List ℕ) (said : Statement) (is : said ≡ uncounted_statement
       by_parts true false c = refl
       by_parts false b c = refl
 
+pub short_line : (text : List ℕ) → length (measured Flight text) ≤ line_length
+    → is_formed (uncounted_statement (Location.Fixed 2 0) (uncounted text)) ≡ has_flight_form text
+short_line text short = short_form text (uncounted_statement (Location.Fixed 2 0) (uncounted text)) refl short
+
 pub long_form : (text : List ℕ) → line_length < length (measured Flight text) → false ≡ has_flight_form text
 long_form text long =
     let said : Statement = uncounted_statement (Location.Fixed 2 0) (uncounted text) in
     ap (λ b. not (b || not (has_form said.operation && takes_label said.label said.operation) || gives_too_great said.operation))
     (sym (lt-ltb line_length (length (measured Flight text)) long)) ∙ form_is_tested text said refl
+
+-- ## Labels
+-- a label that has no form is taken by no operation
+pub no_label_taken : (label : Label) (operation : Operation) → is_malformed label ≡ true
+    → false ≡ (has_form operation && takes_label label operation && not (gives_too_great operation))
+no_label_taken Malformed operation e = by_form (has_form operation)
+  where
+    by_form : (b : Bool) → false ≡ (b && false && not (gives_too_great operation))
+    by_form true = refl
+    by_form false = refl
+no_label_taken Missing operation e = absurd (cc)
+no_label_taken (Named name) operation e = absurd (cc)

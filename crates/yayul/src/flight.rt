@@ -74,8 +74,8 @@ pub(crate) fn flight_statement(here: Location, text: &[u8]) -> Statement
     }
 }
 
-// What a line says that has no count, where these are its fields.
-fn uncounted_statement(here: Location, text: &[u8], line: &Line<'_>) -> Statement
+/// What a line says that has no count, where these are its fields.
+pub(crate) fn uncounted_statement(here: Location, text: &[u8], line: &Line<'_>) -> Statement
     requires { IsApart text.now line.now }
     ensures { result ≡ uncounted_statement here text.now }
 {

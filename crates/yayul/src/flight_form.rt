@@ -1,30 +1,57 @@
 //! Whether the language of flight programs takes the form of a line.
 
-ghost use Rattle.std.specs.Prelude.{◌≡◌, ◌&&◌, not};
+ghost use Rattle.std.specs.Prelude.{◌≡◌};
+ghost use Rattle.yayul.specs.Flight.{uncounted, uncounted_statement};
 ghost use Rattle.yayul.specs.FlightForms.{gives_too_great, has_flight_form, is_too_great};
-ghost use Rattle.yayul.specs.Inside.Forms.{has_form, is_number, takes_label};
+ghost use Rattle.yayul.specs.Inside.Forms.{has_form, is_formed, is_number, takes_label};
+ghost use Rattle.yayul.specs.Inside.LinesRead.{IsApart};
+ghost use Rattle.yayul.specs.declared.language.Location.TheVariants as Location;
 
-use crate::flight::{flight_statement, measured};
+use crate::flight::{flight_label_in, measured, uncounted_by, uncounted_statement};
 use crate::language::{Content, Label, Language, Location, Numeral, Operation, Statement};
-use agc_text::LINE_LENGTH;
+use agc_text::{LINE_LENGTH, Line};
 use symbols::FixedBank;
 
 /// Whether the language of flight programs takes the form of a line: as the first of a source the line has no fault of
 /// its length, its label, its operator and its operand, and no constant that is too great.
-#[tactic(auto, using(crate::proofs::FormFaults::short_form, crate::proofs::FormFaults::long_form))]
+#[tactic(auto, using(crate::proofs::FormFaults::short_line, crate::proofs::FormFaults::long_form))]
 pub fn has_flight_form(text: &[u8]) -> bool
     ensures { result ≡ has_flight_form text.now }
 {
+    measured(Language::Flight, text).len() <= LINE_LENGTH && says_form(text)
+}
+
+// Whether what a line says has a form, a count that stands first apart.
+#[tactic(auto, using(crate::proofs::Counts::uncounted_same))]
+fn says_form(text: &[u8]) -> bool
+    ensures { result ≡ is_formed (uncounted_statement (Location.Fixed 2 0) (uncounted text.now)) }
+{
+    let line = Line::of(text);
+    let rest = uncounted_by(text, &line);
+    if rest.len() == text.len() {
+        says_form_by(text, &line)
+    } else {
+        says_form_by(rest, &Line::of(rest))
+    }
+}
+
+// Whether what a line without a count says has a form, where these are its fields.
+fn says_form_by(text: &[u8], line: &Line<'_>) -> bool
+    requires { IsApart text.now line.now }
+    ensures { result ≡ is_formed (uncounted_statement (Location.Fixed 2 0) text.now) }
+{
+    // Of most lines that are asked about the label has none: so it is looked at first, and alone.
+    if flight_label_in(line.label).is_malformed() {
+        return false;
+    }
     let first = Location::Fixed(FixedBank::two(), 0);
-    measured(Language::Flight, text).len() <= LINE_LENGTH
-        && flight_statement(first, text).has_form()
+    uncounted_statement(first, text, line).has_form()
 }
 
 impl Statement {
     // Whether its label, its operator and its operand have a form, and no constant is too great.
     fn has_form(&self) -> bool
-        ensures { result ≡ (has_form self.now.operation && takes_label self.now.label self.now.operation
-            && not (gives_too_great self.now.operation)) }
+        ensures { result ≡ is_formed self.now }
     {
         self.operation.has_form()
             && self.label.is_taken_by(&self.operation)

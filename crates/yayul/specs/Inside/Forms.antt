@@ -1,7 +1,8 @@
 -- What the code asks of the form of a line.
-use Rattle.std.specs.Prelude.{Bool, true, false, is_some}
+use Rattle.std.specs.Prelude.{Bool, true, false, ◌&&◌, is_some, not}
+use Rattle.yayul.specs.FlightForms.{gives_too_great}
 use Rattle.yayul.specs.Language.{Bank, Ebank, Equals, Erase, Gives, Label, Malformed, Missing, Named, NoForm, Nothing, Numeral, Operation}
-use Rattle.yayul.specs.Language.{Setloc, Unknown}
+use Rattle.yayul.specs.Language.{Setloc, Statement, Unknown}
 
 -- a number, too large or not
 abbrev pub is_number : Numeral → Bool
@@ -28,3 +29,7 @@ takes_label (Named name) (Setloc operand) = false
 takes_label (Named name) (Bank taken number) = false
 takes_label (Named name) (Ebank operand) = false
 takes_label (Named name) operation = true
+
+-- the operator, the operand and the label of what a line says have a form, and no constant is too great
+abbrev pub is_formed : Statement → Bool
+is_formed said = has_form said.operation && takes_label said.label said.operation && not (gives_too_great said.operation)
