@@ -724,5 +724,9 @@ fn has_number(numbers: &[u8], kind: FaultKind) -> bool
     ensures { result ≡ has_number numbers.now kind }
 {
     let number = kind.number();
-    numbers.iter().any(|other| *other == number)
+    match numbers {
+        // Where a line has faults that are told by all kinds, it mostly has two.
+        [one, other] => *one == number || *other == number,
+        _ => numbers.iter().any(|other| *other == number),
+    }
 }
