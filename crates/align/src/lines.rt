@@ -21,10 +21,10 @@ use crate::entries::{BANKS, Entry, PLACES, WORDS, entry_at, is_entry, is_first, 
 use crate::renamed_lines::write_renamed;
 use crate::view::View;
 use arrayvec::ArrayVec;
-use audit::{bank_of, count_below, offset_of};
+use audit::{Written, bank_of, count_below, offset_of};
 use rope::Rope;
 use space::{Linear, window};
-use words::{Word, Write, WriteFailed, push_all, push_decimal, push_octal, write_all};
+use words::{Word, Write, push_all, push_decimal, push_octal, write_all};
 
 /// The most bytes of a line: two places of 7 or two counts of at most 20 digits, and what stands between.
 const LINE: usize = 80;
@@ -45,7 +45,7 @@ pub fn write_alignment<W: Write>(
     new: &Rope,
     alignment: &Alignment,
     out: &mut W,
-) -> Result<(), WriteFailed>
+) -> Written
     ensures written { W.told ≡ true → Writes (W.written out.old) (W.written out.new)
         (alignment_lines old.now new.now (renaming alignment.now.names.items alignment.now.back.items
         alignment.now.operands.items) (pairing alignment.now.own.items alignment.now.old.items
@@ -58,12 +58,7 @@ pub fn write_alignment<W: Write>(
 }
 
 /// Writes which addresses are others, and how many words are where they were.
-fn write_rest<W: Write>(
-    old: &Rope,
-    new: &Rope,
-    alignment: &Alignment,
-    out: &mut W,
-) -> Result<(), WriteFailed>
+fn write_rest<W: Write>(old: &Rope, new: &Rope, alignment: &Alignment, out: &mut W) -> Written
     ensures written { W.told ≡ true → Writes (W.written out.old) (W.written out.new)
         (renamed_lines (renaming alignment.now.names.items alignment.now.back.items alignment.now.operands.items)
         (pairing alignment.now.own.items alignment.now.old.items alignment.now.new.items alignment.now.to_old.items
@@ -82,7 +77,7 @@ fn write_rest<W: Write>(
 /// `FOUND 02,4000 10,2272 WORDS 512`, and for words that are in no run, as `MISSING 02,4000 WORDS 3`.
 ///
 /// After a failure a beginning of it was written.
-pub fn write_found<W: Write>(alignment: &Alignment, out: &mut W) -> Result<(), WriteFailed>
+pub fn write_found<W: Write>(alignment: &Alignment, out: &mut W) -> Written
     ensures written { W.told ≡ true → Writes (W.written out.old) (W.written out.new)
         (view_lines Passage (sides alignment.now.to_new.items alignment.now.old.items alignment.now.to_old.items
         alignment.now.new.items)) result }
@@ -122,11 +117,12 @@ fn old_sides(a: &Alignment) -> Sides<'_>
     ensures { sides result.pairs.now result.here.now result.back.now result.there.now
         ≡ sides a.now.to_new.items a.now.old.items a.now.to_old.items a.now.new.items }
 {
+    let new = new_sides(a);
     Sides {
-        pairs: a.to_new.as_slice(),
-        here: a.old.as_slice(),
-        back: a.to_old.as_slice(),
-        there: a.new.as_slice(),
+        pairs: new.back,
+        here: new.there,
+        back: new.pairs,
+        there: new.here,
     }
 }
 
@@ -134,7 +130,7 @@ fn old_sides(a: &Alignment) -> Sides<'_>
 /// paired.
 ///
 /// After a failure a beginning of it was written.
-fn write_view<W: Write>(view: View, s: Sides<'_>, out: &mut W) -> Result<(), WriteFailed>
+fn write_view<W: Write>(view: View, s: Sides<'_>, out: &mut W) -> Written
     ensures written { W.told ≡ true → Writes (W.written out.old) (W.written out.new)
         (view_lines view (sides s.entry.pairs.now s.entry.here.now s.entry.back.now s.entry.there.now)) result }
     ensures failures { W.failures out.new ≡ failures_after (W.failures out.old) result }
@@ -146,12 +142,7 @@ fn write_view<W: Write>(view: View, s: Sides<'_>, out: &mut W) -> Result<(), Wri
 }
 
 /// Writes what has become of the words of a bank.
-fn write_bank<W: Write>(
-    view: View,
-    s: Sides<'_>,
-    bank: usize,
-    out: &mut W,
-) -> Result<(), WriteFailed>
+fn write_bank<W: Write>(view: View, s: Sides<'_>, bank: usize, out: &mut W) -> Written
     requires { bank < banks }
     ensures written { W.told ≡ true → Writes (W.written out.old) (W.written out.new)
         (bank_lines view (sides s.entry.pairs.now s.entry.here.now s.entry.back.now s.entry.there.now) bank) result }
@@ -188,7 +179,7 @@ fn write_place<W: Write>(
     at: (usize, usize),
     words: usize,
     out: &mut W,
-) -> Result<(), WriteFailed>
+) -> Written
     requires bank { at.0 < banks }
     requires offset { at.1 < bank_words }
     requires words { words ≡ words_before s.pairs.now s.here.now at.0 (at.1 + 1) }

@@ -3,7 +3,7 @@
 ghost use Rattle.std.specs.Prelude.{◌≡◌, ◌+◌, ◌*◌, ◌/◌, ◌%◌, ◌<◌, ◌≤◌, ◌++◌, true, length};
 ghost use Rattle.words.specs.Devices.{Writes, failures_after};
 ghost use Rattle.align.specs.Alignments.{renaming};
-ghost use Rattle.align.specs.CarriedNames.{address_of_place, carried_line, carried_lines, erasable_line, is_kept};
+ghost use Rattle.align.specs.CarriedNames.{address_of_place, carried_line, carried_lines, is_kept};
 ghost use Rattle.align.specs.CarriedNames.{is_sure_place, keep_switched, known_line, place_in_bank, settled_line};
 ghost use Rattle.align.specs.Evidences.{IsKnown};
 ghost use Rattle.align.specs.Pairings.{pairing};
@@ -16,9 +16,10 @@ use crate::entries::{Entry, WORDS, entry_at};
 use crate::evidence::{ADDRESSES, Evidence, is_enough, weigh};
 use crate::renamed_lines::{Renaming, slot_address, slot_bank};
 use crate::renaming::{ERASABLE_BANK, FIRST_FREE, FIRST_SWITCHED, SLOTS, renamed};
+use audit::Written;
 use space::Eras;
 use symbols::{Symbols, Value};
-use words::{Write, WriteFailed, write_all};
+use words::{Write, write_all};
 
 /// Writes a line for each name of a table, in their order, with what it stands for in the new rope, as `START FIXED
 /// 02,0003`. In a comment stand those that are near an end of a run which no single changed word makes, as `# UNSURE
@@ -27,11 +28,7 @@ use words::{Write, WriteFailed, write_all};
 /// ERASABLE 0123`. Numbers, registers and counters are as they were.
 ///
 /// After a failure a beginning of it was written.
-pub fn write_carried<W: Write>(
-    alignment: &Alignment,
-    names: &Symbols,
-    out: &mut W,
-) -> Result<(), WriteFailed>
+pub fn write_carried<W: Write>(alignment: &Alignment, names: &Symbols, out: &mut W) -> Written
     ensures written { W.told ≡ true → Writes (W.written out.old) (W.written out.new)
         (carried_lines (renaming alignment.now.names.items alignment.now.back.items alignment.now.operands.items)
         (pairing alignment.now.own.items alignment.now.old.items alignment.now.new.items alignment.now.to_old.items
@@ -42,12 +39,7 @@ pub fn write_carried<W: Write>(
 }
 
 /// Writes the lines of all names.
-fn write_names<W: Write>(
-    r: Renaming<'_>,
-    p: Pairing<'_>,
-    names: &Symbols,
-    out: &mut W,
-) -> Result<(), WriteFailed>
+fn write_names<W: Write>(r: Renaming<'_>, p: Pairing<'_>, names: &Symbols, out: &mut W) -> Written
     ensures written { W.told ≡ true → Writes (W.written out.old) (W.written out.new)
         (carried_lines (renaming r.entry.names.now r.entry.back.now r.entry.operands.now)
         (pairing p.entry.own.now p.entry.old.now p.entry.new.now p.entry.to_old.now p.entry.to_new.now) names.now)
@@ -90,34 +82,16 @@ fn carried_line(
             let place = WORDS * usize::from(bank.bank().number()) + usize::from(offset.number());
             fixed_line(p, name, place, entry_at(p.to_new, place))
         }
-        Value::Erasable(place) => erasable_line(r, p, known, kept, name, place),
+        Value::Erasable(place) => {
+            let number = place.number();
+            if number < FIRST_FREE {
+                name_line(b"", name, value)
+            } else {
+                let address = usize::from(address_of_place(number));
+                known_line(r.names, kept, name, number, known[address])
+            }
+        }
         Value::Num(_) => name_line(b"", name, value),
-    }
-}
-
-/// The line of a name of an erasable place.
-fn erasable_line(
-    r: Renaming<'_>,
-    p: Pairing<'_>,
-    known: &[Evidence; ADDRESSES],
-    kept: bool,
-    name: &[u8],
-    place: Eras,
-) -> Line
-    requires name { length name.now ≤ 8 }
-    requires len { length known.now ≡ 0o2000 }
-    requires known { IsKnown r.operands.now (pairing p.own.now p.old.now p.new.now p.to_old.now p.to_new.now)
-        fixed_places known.now }
-    requires kept { kept ≡ keep_switched r.names.now 9216 }
-    ensures { result.items ≡ erasable_line (renaming r.entry.names.now r.entry.back.now r.entry.operands.now)
-        (pairing p.entry.own.now p.entry.old.now p.entry.new.now p.entry.to_old.now p.entry.to_new.now) name.now place }
-{
-    let number = place.number();
-    if number < FIRST_FREE {
-        name_line(b"", name, Value::Erasable(place))
-    } else {
-        let address = usize::from(address_of_place(number));
-        known_line(r.names, kept, name, number, known[address])
     }
 }
 

@@ -187,8 +187,8 @@ fn pair_run(
     there: usize,
     length: usize,
 ) {
-    let ahead = run_ahead(olds, news, old, new, here, there);
-    let back = run_back(olds, news, old, new, here, there);
+    let ahead = run_ahead(olds, news, old, new, (here, there));
+    let back = run_back(olds, news, old, new, (here, there));
     let count = ahead.saturating_add(back);
     if count < length {
         return;
@@ -204,14 +204,8 @@ fn pair_run(
 }
 
 /// How many words from two places on are equal, and may be paired.
-fn run_ahead(
-    olds: &Side,
-    news: &Side,
-    old: &[Entry],
-    new: &[Entry],
-    here: usize,
-    there: usize,
-) -> usize {
+fn run_ahead(olds: &Side, news: &Side, old: &[Entry], new: &[Entry], at: (usize, usize)) -> usize {
+    let (here, there) = at;
     let most = olds.room(here).min(news.room(there));
     for more in 0..most {
         let first = entry_at(old, here.saturating_add(more));
@@ -224,14 +218,8 @@ fn run_ahead(
 }
 
 /// How many words before two places are equal, and may be paired.
-fn run_back(
-    olds: &Side,
-    news: &Side,
-    old: &[Entry],
-    new: &[Entry],
-    here: usize,
-    there: usize,
-) -> usize {
+fn run_back(olds: &Side, news: &Side, old: &[Entry], new: &[Entry], at: (usize, usize)) -> usize {
+    let (here, there) = at;
     for back in 0..WORDS {
         let (Some(first), Some(second)) = (here.checked_sub(back), there.checked_sub(back)) else {
             return back;
