@@ -1,3 +1,4 @@
 mod Merging
 mod WarningRows
 mod BankRows
+mod Written

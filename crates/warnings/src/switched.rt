@@ -2,6 +2,7 @@
 
 ghost use Rattle.std.specs.Prelude.{◌≡◌};
 ghost use Rattle.yayul.specs.Readings.{parts_in};
+ghost use Rattle.warnings.specs.declared.switched.Banks.{Banks as KnownOfBanks};
 ghost use Rattle.warnings.specs.Warnings.{target_at, target_in};
 ghost use Rattle.warnings.specs.Warnings.{has_bank, writes_bank, may_write, may_set, banks_after, no_banks};
 ghost use Rattle.warnings.specs.Warnings.{is_switched, reaches, is_common, is_common_place, is_common_number};
@@ -97,6 +98,18 @@ pub(crate) fn target_in(language: Language, symbols: &Symbols, parts: &Reading<'
     match parts.operand_value(language, symbols) {
         Some(value) => target_at(value),
         None => Target::Unknown,
+    }
+}
+
+/// The same where a line writes a word, by which it may set a register; of other lines it is of no account.
+pub(crate) fn written_target(language: Language, symbols: &Symbols, parts: &Reading<'_>) -> Target
+    ensures { (banks : KnownOfBanks) → banks_after banks result (parts_in parts.now)
+        ≡ banks_after banks (target_in language symbols.now (parts_in parts.now)) (parts_in parts.now) }
+{
+    if Class::WritesErasable.has(parts.role) {
+        target_in(language, symbols, parts)
+    } else {
+        Target::Unknown
     }
 }
 

@@ -20,7 +20,7 @@ use crate::outputs::stays_inside;
 use crate::registers::takes_register;
 use crate::reserved::Reserved;
 use crate::roles::Class;
-use crate::switched::{Banks, Target, target_in};
+use crate::switched::{Banks, Target, target_in, written_target};
 use crate::told::Warning;
 use crate::unreached::{Leads, is_unreached};
 use agc_text::{Field, Number, octal_value};
@@ -105,7 +105,7 @@ impl Names {
         };
         for line in lines {
             let parts = line.reading();
-            names.note(target_in(language, symbols, &parts), &parts)?;
+            names.note(written_target(language, symbols, &parts), &parts)?;
         }
         Ok(names)
     }

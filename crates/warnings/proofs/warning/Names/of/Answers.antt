@@ -31,7 +31,7 @@ loop-line-preserved c =
           (c.in_ok-note.ensures.read ∙ ap (λ parts. with_read names.read parts) same)
           ∙ ap (fold (λ names parts. with_read names parts) names.read) next ∙ c.loop-line.invariant.read;
       banks = ap (λ held. fold noted held rest)
-          (c.in_ok-note.ensures.banks ∙ ap (λ target. banks_after names.banks target read) c.target_in.ensures ∙ ap (noted names.banks) same)
+          (c.in_ok-note.ensures.banks ∙ c.written_target.ensures names.banks ∙ ap (noted names.banks) same)
           ∙ ap (fold noted names.banks) next ∙ c.loop-line.invariant.banks;
       handlers = ap (λ held. fold (λ handlers parts. handlers_after handlers parts) held rest)
           (c.in_ok-note.ensures.handlers ∙ ap (λ parts. handlers_after names.handlers parts) same)
