@@ -4,6 +4,7 @@ ghost use Rattle.std.specs.Prelude.{◌≡◌, ◌≤◌, ◌++◌, map, take, l
 ghost use Rattle.std.specs.Prelude.{IfSome, OnOk};
 ghost use Rattle.std.specs.List.{position_or_len};
 ghost use Rattle.std.specs.Option.{option_map};
+ghost use Rattle.std.specs.Simd.Lanes.{mask_l};
 ghost use Rattle.yayul.specs.Readings.{parts_in};
 ghost use Rattle.diagnostics.specs.Shown.{shown_byte};
 ghost use Rattle.diagnostics.specs.Causes.{filled, filled_byte, is_mark, of_line};
@@ -19,6 +20,7 @@ use agc_text::is_text;
 use explain::push_number;
 use json_text::Notation;
 use std::alloc::AllocError;
+use std::simd::prelude::*;
 use warnings::text_of;
 use words::BackwardText;
 use yayul::{Finding, Reading, Span};
@@ -28,6 +30,9 @@ const MOST_SHOWN: usize = 120;
 
 /// How many columns the number of a line has.
 const NUMBER_WIDTH: usize = 5;
+
+/// How many bytes are tested for marks at once.
+const TESTED: usize = 16;
 
 // Appends where a fault or a warning stands.
 fn push_place(out: &mut Vec<u8>, note: &Note<'_, '_, '_>) -> Result<(), AllocError>
@@ -163,6 +168,35 @@ fn push_plain(out: &mut Vec<u8>, text: &[u8]) -> Result<(), AllocError>
 
 // How many bytes of a text stand before the first mark: all, where none stands.
 fn length_before_mark(text: &[u8]) -> usize
+    ensures value { result ≡ position_or_len is_mark text.now }
+    ensures within { result ≤ length text.now }
+{
+    let mut start = 0;
+    while text.len() - start >= TESTED {
+        let marks = marks_in(u8x16::from_slice(&text[start..]));
+        if marks != 0 {
+            return start + marks.trailing_zeros() as usize;
+        }
+        start += TESTED;
+    }
+    start + few_before_mark(&text[start..])
+}
+
+// Which of some bytes are marks, the first by the lowest bit.
+#[inline(always)]
+fn marks_in(bytes: u8x16) -> u64
+    ensures { result ≡ mask_l (map is_mark bytes) }
+{
+    (bytes.simd_eq(u8x16::splat(b'&'))
+        | bytes.simd_eq(u8x16::splat(b'%'))
+        | bytes.simd_eq(u8x16::splat(b'@'))
+        | bytes.simd_eq(u8x16::splat(b'!'))
+        | bytes.simd_eq(u8x16::splat(b'~'))
+        | bytes.simd_eq(u8x16::splat(b'^'))).to_bitmask()
+}
+
+// The same of few bytes.
+fn few_before_mark(text: &[u8]) -> usize
     ensures value { result ≡ position_or_len is_mark text.now }
     ensures within { result ≤ length text.now }
 {
