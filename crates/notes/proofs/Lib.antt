@@ -5,6 +5,7 @@ pub mod Counting
 pub mod Divisions
 mod Exact
 mod FirstSteps
+pub mod Recalled
 pub mod Listing
 pub mod LongWaits
 pub mod Plain

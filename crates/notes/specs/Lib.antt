@@ -1,5 +1,6 @@
 pub mod Past
 pub mod Notes
+pub mod Known
 pub mod Unread
 pub mod RunNotes
 pub mod Waits

@@ -4,6 +4,7 @@
 mod first_steps;
 mod keys;
 mod kind;
+mod known;
 pub mod laws;
 mod ledger;
 mod lines;

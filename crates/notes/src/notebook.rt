@@ -4,7 +4,7 @@ ghost use Rattle.std.specs.Prelude.{◌≡◌, ◌+◌, ◌-◌, ◌<◌, ◌≤
 ghost use Rattle.cpu.specs.declared.account.Account.TheVariants.{Place};
 ghost use Rattle.cpu.specs.declared.next_step.NextStep.TheVariants.{Executes};
 ghost use Rattle.cpu.specs.Bursts.{IsQuiet};
-ghost use Rattle.cpu.specs.Next.{next};
+ghost use Rattle.cpu.specs.Next.{next, word_at_z};
 ghost use Rattle.cpu.specs.NextStep.{next_step};
 ghost use Rattle.cpu.specs.Run.{run};
 ghost use Rattle.cpu.specs.Silent.{IsSilent};
@@ -14,10 +14,12 @@ ghost use Rattle.notes.specs.declared.kind.Kind.TheVariants.{FixedBank, OtherBan
 ghost use Rattle.notes.specs.Counted.{AreSmall, Counted, Notes, Takes, counts_of, first_of, rewound, taken, taken_at};
 ghost use Rattle.notes.specs.Counted.{told_of};
 ghost use Rattle.notes.specs.Notes.{is_erasable, is_plain, is_plain_step, place_named, reaches_in};
+ghost use Rattle.notes.specs.Notes.{reaches_other};
 ghost use Rattle.notes.specs.Reached.{CountsPlain};
 
 use crate::first_steps::{FirstSteps, Firsts, NO_FIRSTS};
 use crate::kind::Kind;
+use crate::known::KnownWords;
 use crate::ledger::Ledger;
 use crate::other_bank::{names_erasable, names_erasable_in, reaches_other};
 use crate::past::Past;
@@ -51,11 +53,13 @@ pub struct Notebook {
     steps: u64,
     last: u64,
     firsts: FirstSteps,
+    known: KnownWords,
 }
 
 impl Model for Notebook {
     ghost use Rattle.std.specs.Prelude.{◌∷◌, []};
     ghost use Rattle.notes.specs.Counted.{Book};
+    ghost use Rattle.notes.specs.Known.{Knows};
 
     ghost Value = { Book };
 
@@ -70,6 +74,8 @@ impl Model for Notebook {
       last = n.last;
       firsts = n.firsts;
     } };
+
+    ghost invariant = { λ n. Knows n.named n.known };
 }
 
 /// How often each kind happens that is told at a step: 0 of what is not told there.
@@ -126,6 +132,7 @@ impl Notebook {
             steps: 0,
             last: 0,
             firsts: FirstSteps::new(alloc)?,
+            known: KnownWords::nothing(alloc)?,
         })
     }
 
@@ -244,6 +251,72 @@ impl Notebook {
         ensures counted { Counted self.old.named processor.old.scenario result self.new }
     {
         record_plain_steps(self, processor, machine, done, stop)
+    }
+
+    /// Makes the step behind step `done`, of so many quiet ones, and counts it, where nothing is told of it but, it may be,
+    /// that it reaches another bank; else leaves all as it is.
+    #[inline(always)]
+    fn record_reaching(
+        &mut self,
+        processor: &Processor,
+        machine: &mut Machine,
+        fetched: &Fetched,
+        reaches: bool,
+        done: u64,
+        quiet: u64,
+    ) -> bool
+        requires few { done < 2 ^ 40 }
+        requires quiet { IsQuiet processor.now.scenario machine.old quiet }
+        requires some { 1 ≤ quiet }
+        requires state { machine.old ≡ run processor.now.scenario done }
+        requires counted { Counted self.old.named processor.now.scenario done self.old }
+        requires step { Executes fetched.now ≡ next_step processor.now.scenario machine.old }
+        requires word { fetched.now.word ≡ word_at_z processor.now.scenario.rope machine.old }
+        requires plain { is_plain processor.now.scenario.rope machine.old self.old.past fetched.now ≡ true }
+        requires reaches { reaches ≡ reaches_other self.old.named machine.old fetched.now }
+        ensures left { result ≡ false → machine.new ≡ machine.old }
+        ensures same { result ≡ false → self.new ≡ self.old }
+        ensures made { result ≡ true → (machine.new, None) ≡ next processor.now.scenario machine.old }
+        ensures quiet { result ≡ true → IsQuiet processor.now.scenario machine.new (quiet - 1) }
+        ensures kept { result ≡ true → self.new.named ≡ self.old.named }
+        ensures counted { result ≡ true → Counted self.old.named processor.now.scenario (done + 1) self.new }
+    {
+        let _ = done;
+        if !processor.make_plain(machine, fetched.word, quiet) {
+            return false;
+        }
+        self.count_plain(fetched.place, reaches);
+        true
+    }
+
+    /// The same of any step, where it is plain; what is known of it then is kept.
+    #[inline(never)]
+    fn record_other(
+        &mut self,
+        processor: &Processor,
+        machine: &mut Machine,
+        done: u64,
+        quiet: u64,
+    ) -> bool
+        requires few { done < 2 ^ 40 }
+        requires quiet { IsQuiet processor.now.scenario machine.old quiet }
+        requires some { 1 ≤ quiet }
+        requires state { machine.old ≡ run processor.now.scenario done }
+        requires counted { Counted self.old.named processor.now.scenario done self.old }
+        ensures left { result ≡ false → machine.new ≡ machine.old }
+        ensures same { result ≡ false → self.new ≡ self.old }
+        ensures made { result ≡ true → (machine.new, None) ≡ next processor.now.scenario machine.old }
+        ensures quiet { result ≡ true → IsQuiet processor.now.scenario machine.new (quiet - 1) }
+        ensures kept { result ≡ true → self.new.named ≡ self.old.named }
+        ensures counted { result ≡ true → Counted self.old.named processor.now.scenario (done + 1) self.new }
+    {
+        let fetched = processor.fetched(machine, quiet);
+        if !is_plain(processor, machine, &self.past, &fetched) {
+            return self.record_return(processor, machine, done, quiet);
+        }
+        self.known.keep(&self.named, &fetched);
+        let reaches = reaches_other(&self.named, machine, &fetched);
+        self.record_reaching(processor, machine, &fetched, reaches, done, quiet)
     }
 
     /// Makes the step behind step `done`, of so many quiet ones, and counts it, where it is at Q, to which RETURN leads,
@@ -515,17 +588,16 @@ impl Recorder for Notebook {
         done: u64,
         quiet: u64,
     ) -> bool {
-        let _ = done;
         let fetched = processor.fetched(machine, quiet);
-        if !is_plain(processor, machine, &self.past, &fetched) {
-            return self.record_return(processor, machine, done, quiet);
+        match self
+            .known
+            .recall(&self.named, processor, machine, &self.past, &fetched)
+        {
+            Some(reaches) => {
+                self.record_reaching(processor, machine, &fetched, reaches, done, quiet)
+            }
+            None => self.record_other(processor, machine, done, quiet),
         }
-        let reaches = reaches_other(&self.named, machine, &fetched);
-        if !processor.make_plain(machine, fetched.word, quiet) {
-            return false;
-        }
-        self.count_plain(fetched.place, reaches);
-        true
     }
 }
 

@@ -148,7 +148,7 @@ pub(crate) fn is_plain(
 
 /// Whether an instruction, wherever it stands, reads no channel and is none of the few that are told.
 #[inline(always)]
-fn is_plain_code(processor: &Processor, machine: &Machine, fetched: &Fetched) -> bool
+pub(crate) fn is_plain_code(processor: &Processor, machine: &Machine, fetched: &Fetched) -> bool
     ensures { result ≡ is_plain_code processor.now.scenario.rope machine.now fetched.now }
 {
     if fetched.extra {

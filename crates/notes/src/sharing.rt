@@ -54,7 +54,7 @@ pub(crate) fn comes_by(machine: &Machine, fetched: &Fetched) -> Option<Interrupt
 
 /// The interrupt that is entered at a place of fixed memory.
 #[inline(always)]
-fn entered_at(bank: Bank, offset: Offset) -> Option<Interrupt>
+pub(crate) fn entered_at(bank: Bank, offset: Offset) -> Option<Interrupt>
     ensures { result ≡ entered_at (Fixed bank offset) }
 {
     let number = offset.number();

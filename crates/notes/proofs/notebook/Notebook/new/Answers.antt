@@ -1,6 +1,10 @@
 use Rattle.std.proofs.Common.{refl}
 use Rattle.notes.proofs.Counting.{none_counted, of_kinds}
+use Rattle.notes.proofs.Recalled.{nothing_is_known}
 use Rattle.notes.proofs.notebook.Notebook.new.Goals as goal
+
+pub invariant_of-result : goal.invariant_of-result
+invariant_of-result c = nothing_is_known c.args.named _ c.in_ok-nothing.ensures
 
 pub returns : goal.returns
 returns c = λ scenario.
