@@ -1,12 +1,14 @@
 -- Which lines the language of flight programs takes by their form.
 use Rattle.std.proofs.Common.{◌≡◌, ℕ, ◌<◌, ◌≤◌, Bool, true, false, ◌&&◌, ◌||◌, not, nat_lt, List, [], ◌∷◌, length, Option, Some, None}
 use Rattle.std.proofs.Common.{Result, Ok, Err, cond, refl, ap, sym, ◌∙◌}
-use Rattle.std.specs.Prelude.{IfErr, ok_or}
-use Rattle.std.specs.List.{list_any, list_all}
+use Rattle.std.specs.Prelude.{IfErr, if◌then◌else◌, ok_or}
+use Rattle.std.specs.Option.{option_map, option_or}
+use Rattle.std.specs.List.{list_any, list_all, slice_get}
 use Rattle.std.specs.Result.{result_err}
 use Rattle.std.proofs.lemmas.Bool.{le-ltb, lt-ltb}
 use Rattle.std.proofs.lemmas.List.Folds.{list_any-append}
 use Rattle.agc_text.specs.Bytes.{line_length, is_text_byte}
+use Rattle.agc_text.specs.Fields.{Piece, fields, label_of, others_of}
 use Rattle.agc_text.specs.Tables.{value_in}
 use Rattle.yayul.specs.Language.{BadBank, BadLabel, BadOperand, Bank, BankFull, BankRange, CodeInErasable, Content, Ebank, Equals, Erasable}
 use Rattle.yayul.specs.Language.{Erase, FaultKind, Fixed, Flight, Gives, Is, Label, Location, LongLine, Malformed, Minus, Missing, Named}
@@ -16,9 +18,9 @@ use Rattle.yayul.specs.Layout.{Layout, LineEffect, and_then, bank_target, early_
 use Rattle.yayul.specs.Layout.{is_erasable, is_later, is_malformed, is_missing, is_taken, is_twice, lacks_room, line_effect, location_at}
 use Rattle.yayul.specs.Layout.{moved, moved_value, promised, standing, start, statement_effect, term_value, text_faults, value_here, valued}
 use Rattle.yayul.specs.Layout.{width}
-use Rattle.yayul.specs.Flight.{measured, uncounted, uncounted_statement}
+use Rattle.yayul.specs.Flight.{after_field, flight_label_in, is_count, measured, uncounted, uncounted_statement, without_count}
 use Rattle.yayul.specs.FlightForms.{has_flight_form, is_of_form, gives_too_great}
-use Rattle.yayul.specs.Inside.Forms.{has_form, is_formed, takes_label}
+use Rattle.yayul.specs.Inside.Forms.{has_form, is_formed, is_formless, takes_label}
 
 -- ## Faults that are not of a form
 -- what comes to no fault of a form
@@ -316,3 +318,23 @@ no_label_taken Malformed operation e = by_form (has_form operation)
     by_form false = refl
 no_label_taken Missing operation e = absurd (cc)
 no_label_taken (Named name) operation e = absurd (cc)
+
+-- a line that has such a label, which is no count, has no form
+pub formless_line : (text : List ℕ) → is_formless (label_of (fields text)) ≡ true
+    → false ≡ is_formed (uncounted_statement (Location.Fixed 2 0) (uncounted text))
+unfolding uncounted_statement
+formless_line text = by_label (label_of (fields text)) refl
+  where
+    by_count : (f : Piece) (b : Bool) → label_of (fields text) ≡ Some f
+        → (not b && is_malformed (flight_label_in (Some f.text))) ≡ true
+        → false ≡ is_formed (uncounted_statement (Location.Fixed 2 0) (if b then after_field text f else text))
+    by_count f true same e = absurd (cc)
+    by_count f false same e =
+        no_label_taken _ (uncounted_statement (Location.Fixed 2 0) text).operation
+        (ap (λ p. is_malformed (flight_label_in (option_map (λ (q : Piece). q.text) p))) same ∙ e)
+
+    by_label : (label : Option Piece) → label_of (fields text) ≡ label → is_formless label ≡ true
+        → false ≡ is_formed (uncounted_statement (Location.Fixed 2 0)
+        (without_count text (option_or label (slice_get (others_of (fields text)) 0))))
+    by_label None same e = absurd (cc)
+    by_label (Some f) same e = by_count f (is_count f.text) same e

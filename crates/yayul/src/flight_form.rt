@@ -3,13 +3,14 @@
 ghost use Rattle.std.specs.Prelude.{◌≡◌};
 ghost use Rattle.yayul.specs.Flight.{uncounted, uncounted_statement};
 ghost use Rattle.yayul.specs.FlightForms.{gives_too_great, has_flight_form, is_too_great};
-ghost use Rattle.yayul.specs.Inside.Forms.{has_form, is_formed, is_number, takes_label};
+ghost use Rattle.agc_text.specs.Fields.{fields, label_of};
+ghost use Rattle.yayul.specs.Inside.Forms.{has_form, is_formed, is_formless, is_number, takes_label};
 ghost use Rattle.yayul.specs.Inside.LinesRead.{IsApart};
 ghost use Rattle.yayul.specs.declared.language.Location.TheVariants as Location;
 
-use crate::flight::{flight_label_in, measured, uncounted_by, uncounted_statement};
+use crate::flight::{flight_label_in, is_count, measured, uncounted_by, uncounted_statement};
 use crate::language::{Content, Label, Language, Location, Numeral, Operation, Statement};
-use agc_text::{LINE_LENGTH, Line};
+use agc_text::{LINE_LENGTH, Line, next_field};
 use symbols::FixedBank;
 
 /// Whether the language of flight programs takes the form of a line: as the first of a source the line has no fault of
@@ -22,10 +23,14 @@ pub fn has_flight_form(text: &[u8]) -> bool
 }
 
 // Whether what a line says has a form, a count that stands first apart.
-#[tactic(auto, using(crate::proofs::Counts::uncounted_same))]
+#[tactic(auto, using(crate::proofs::Counts::uncounted_same, crate::proofs::FormFaults::formless_line))]
 fn says_form(text: &[u8]) -> bool
     ensures { result ≡ is_formed (uncounted_statement (Location.Fixed 2 0) (uncounted text.now)) }
 {
+    // Of most lines that are asked about the label has none: so it is looked at first, and alone.
+    if has_formless_label(text) {
+        return false;
+    }
     let line = Line::of(text);
     let rest = uncounted_by(text, &line);
     if rest.len() == text.len() {
@@ -35,15 +40,23 @@ fn says_form(text: &[u8]) -> bool
     }
 }
 
+// Whether a line has a label that is no count and has no label's form.
+fn has_formless_label(text: &[u8]) -> bool
+    ensures { result ≡ is_formless (label_of (fields text.now)) }
+{
+    match next_field(text, 0) {
+        Some(field) if field.start == 0 => {
+            !is_count(field.text) && flight_label_in(Some(field)).is_malformed()
+        }
+        _ => false,
+    }
+}
+
 // Whether what a line without a count says has a form, where these are its fields.
 fn says_form_by(text: &[u8], line: &Line<'_>) -> bool
     requires { IsApart text.now line.now }
     ensures { result ≡ is_formed (uncounted_statement (Location.Fixed 2 0) text.now) }
 {
-    // Of most lines that are asked about the label has none: so it is looked at first, and alone.
-    if flight_label_in(line.label).is_malformed() {
-        return false;
-    }
     let first = Location::Fixed(FixedBank::two(), 0);
     uncounted_statement(first, text, line).has_form()
 }

@@ -1,5 +1,8 @@
 -- What the code asks of the form of a line.
-use Rattle.std.specs.Prelude.{Bool, true, false, ◌&&◌, is_some, not}
+use Rattle.std.specs.Prelude.{Bool, true, false, ◌&&◌, is_some, not, Option, None, Some}
+use Rattle.agc_text.specs.Fields.{Piece}
+use Rattle.yayul.specs.Flight.{flight_label_in, is_count}
+use Rattle.yayul.specs.Layout.{is_malformed}
 use Rattle.yayul.specs.FlightForms.{gives_too_great}
 use Rattle.yayul.specs.Language.{Bank, Ebank, Equals, Erase, Gives, Label, Malformed, Missing, Named, NoForm, Nothing, Numeral, Operation}
 use Rattle.yayul.specs.Language.{Setloc, Statement, Unknown}
@@ -33,3 +36,8 @@ takes_label (Named name) operation = true
 -- the operator, the operand and the label of what a line says have a form, and no constant is too great
 abbrev pub is_formed : Statement → Bool
 is_formed said = has_form said.operation && takes_label said.label said.operation && not (gives_too_great said.operation)
+
+-- a label that is no count and has no label's form
+abbrev pub is_formless : Option Piece → Bool
+is_formless None = false
+is_formless (Some field) = not (is_count field.text) && is_malformed (flight_label_in (Some field.text))
