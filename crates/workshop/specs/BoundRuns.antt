@@ -17,10 +17,9 @@ use Rattle.workshop.specs.declared.bounding.Bounded.TheVariants.{Told, Refused, 
 use Rattle.workshop.specs.declared.fault.WorkshopFault.{WorkshopFault}
 use Rattle.workshop.specs.declared.fault.WorkshopFault.TheVariants.{NoMemory}
 use Rattle.workshop.specs.declared.origin.Origin.{Origin}
-use Rattle.workshop.specs.Failures.{Reader, Writer}
+use Rattle.workshop.specs.Failures.{Writer}
 use Rattle.workshop.specs.Inputs.{Code}
-use Rattle.workshop.specs.Loading.{Reads, ReadsProgram}
-use Rattle.workshop.specs.Reaches.{Listing}
+use Rattle.workshop.specs.Loading.{Answering, Reads, ReadsProgram}
 use Rattle.workshop.specs.Ropes.{WritesText}
 
 -- what is asked for: the texts of a routine, of pairs of a place and a number, and of cells
@@ -31,10 +30,6 @@ pub record Question : Type 0 where
 
 abbrev pub question : List ℕ → List ℕ → List ℕ → Question
 question routine loops kept = record { routine = routine; loops = loops; kept = kept }
-
--- the program that is read, and what is written
-abbrev pub bounding : Reader → Writer → Listing
-bounding program out = record { program = program; out = out }
 
 -- whether a bound is told
 abbrev pub told_of : Answer → Bounded
@@ -73,7 +68,7 @@ BoundsThen q (Ok code) before after result = BoundsRoutine code.0 code.1 q befor
 BoundsThen q (Err fault) before after result = (result ≡ Err fault) × (after ≡ before)
 
 -- a program is read, and what was read decides what is written
-pub record Bounds (from : Origin) (q : Question) (before after : Listing) (result : Result Bounded WorkshopFault) : Type 0 where
+pub record Bounds (from : Origin) (q : Question) (before after : Answering) (result : Result Bounded WorkshopFault) : Type 0 where
   pub code : Result Code WorkshopFault
   pub reads : Reads (ReadsProgram from) before.program after.program code
   pub next : BoundsThen q code before.out after.out result

@@ -55,6 +55,9 @@ pub record Checking : Type 0 where
   pub input : Reader
   pub out : Writer
 
+abbrev pub checking : Reader → Writer → Checking
+checking input out = record { input = input; out = out }
+
 -- where an input was read its faults are written, and how many there are is answered; after a fault nothing is
 abbrev pub ChecksThen : {T : Type 0} → Result (List ℕ × T) WorkshopFault → Writer → Writer → Result T WorkshopFault → Type 0
 ChecksThen (Ok r) before after result = WritesText r.0 before after result × IfOk result (λ count. count ≡ r.1)

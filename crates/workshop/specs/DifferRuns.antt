@@ -19,6 +19,9 @@ pub record Pairing : Type 0 where
   pub other : Files
   pub out : Writer
 
+abbrev pub pairing : Files → Files → Writer → Pairing
+pairing one other out = record { one = one; other = other; out = out }
+
 -- a run, with the symbols that name its places
 abbrev pub named_of : Loaded → Named
 named_of l = record { symbols = l.symbols; scenario = scenario_of l }

@@ -13,7 +13,7 @@ use Rattle.workshop.specs.declared.fault.WorkshopFault.TheVariants.{NoMemory, Re
 use Rattle.workshop.specs.declared.inputs.Loaded.{Loaded}
 use Rattle.workshop.specs.declared.origin.Origin.{Origin}
 use Rattle.workshop.specs.declared.origin.Origin.TheVariants as origin
-use Rattle.workshop.specs.Failures.{Reader, has_read_failed, has_write_failed, failures_if, most_read}
+use Rattle.workshop.specs.Failures.{Reader, Writer, has_read_failed, has_write_failed, failures_if, most_read}
 use Rattle.workshop.specs.Inputs.{Code, assembled, code_of, imaged, loaded, of_feed}
 
 -- what is answered of a text: what it gives, or its first fault; that memory ran out or a read failed says nothing of it
@@ -60,6 +60,14 @@ pub record Files : Type 0 where
 
 abbrev pub program_and_feed : Reader → Reader → Files
 program_and_feed program feed = record { program = program; feed = feed }
+
+-- what an engine has that reads a program, and writes a text
+pub record Answering : Type 0 where
+  pub program : Reader
+  pub out : Writer
+
+abbrev pub answering : Reader → Writer → Answering
+answering program out = record { program = program; out = out }
 
 -- where a program was read the feed is read, and after a fault nothing of it
 pub record LoadsFeed (code : Code) (before after : Reader) (result : Result Loaded WorkshopFault) : Type 0 where

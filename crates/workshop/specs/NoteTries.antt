@@ -11,10 +11,9 @@ use Rattle.workshop.specs.declared.noting.NamedCode.{NamedCode}
 use Rattle.workshop.specs.declared.origin.Origin.{Origin}
 use Rattle.workshop.specs.Failures.{Writer}
 use Rattle.workshop.specs.Inputs.{of_feed}
-use Rattle.workshop.specs.Loading.{Reads}
+use Rattle.workshop.specs.Loading.{Answering, Reads}
 use Rattle.workshop.specs.Notings.{ReadsNamed}
 use Rattle.workshop.specs.Ropes.{WritesText}
-use Rattle.workshop.specs.Tries.{Trying}
 
 -- trials are refused, or memory is, and nothing is written; or the text is, all of it, or a beginning where the writer has failed
 abbrev pub WritesNotes : List ℕ → Writer → Writer → Result (Unit {0}) WorkshopFault → Type 0
@@ -40,7 +39,7 @@ TriesNotesThen feed trials steps (Ok code) before after result = TriesNotesFeed 
 TriesNotesThen feed trials steps (Err fault) before after result = (result ≡ Err fault) × (after ≡ before)
 
 -- a program is read, and what was read decides what is told
-pub record TriesNotes (from : Origin) (feed : List ℕ) (trials : List Plain) (steps : ℕ) (before after : Trying)
+pub record TriesNotes (from : Origin) (feed : List ℕ) (trials : List Plain) (steps : ℕ) (before after : Answering)
     (result : Result (Unit {0}) WorkshopFault) : Type 0 where
   pub code : Result NamedCode WorkshopFault
   pub reads : Reads (ReadsNamed from) before.program after.program code

@@ -50,6 +50,9 @@ pub record Texts : Type 0 where
   pub out : Writer
   pub notes : Writer
 
+abbrev pub out_and_notes : Writer → Writer → Texts
+out_and_notes out notes = record { out = out; notes = notes }
+
 -- all steps are made, and then the notes are written; or the run breaks off, and no note is written; or all steps are made, and a
 -- beginning of the notes is written
 abbrev pub EndsNoted : List ℕ → Scenario → ℕ → Texts → Texts → Result Summary WorkshopFault → Type 0
@@ -76,6 +79,9 @@ NotesThen notation code steps (Err fault) before after result = (result ≡ Err 
 pub record Noting : Type 0 where
   pub files : Files
   pub texts : Texts
+
+abbrev pub running_noted : Files → Texts → Noting
+running_noted files texts = record { files = files; texts = texts }
 
 pub record NotesNext (notation : Notation) (code : NamedCode) (steps : ℕ) (before after : Noting) (result : Result Summary WorkshopFault) :
     Type 0 where

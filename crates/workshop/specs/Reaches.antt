@@ -10,8 +10,8 @@ use Rattle.workshop.specs.declared.fault.WorkshopFault.TheVariants.{NoMemory}
 use Rattle.workshop.specs.declared.origin.Origin.{Origin}
 use Rattle.workshop.specs.declared.addressing.Addressing.{Addressing}
 use Rattle.workshop.specs.Addressings.{ReadsAddressing}
-use Rattle.workshop.specs.Failures.{Reader, Writer}
-use Rattle.workshop.specs.Loading.{Reads}
+use Rattle.workshop.specs.Failures.{Writer}
+use Rattle.workshop.specs.Loading.{Answering, Reads}
 use Rattle.workshop.specs.Ropes.{WritesText}
 
 -- what is reached is marked, and nothing else, and roots are found where they are shown, and the text of these is written
@@ -33,13 +33,8 @@ abbrev pub ReachesThen : Result Addressing WorkshopFault → Bool → Writer →
 ReachesThen (Ok program) shows before after result = ReachesText program shows before after result
 ReachesThen (Err fault) shows before after result = (result ≡ Err fault) × (after ≡ before)
 
--- what an engine has that shows a program
-pub record Listing : Type 0 where
-  pub program : Reader
-  pub out : Writer
-
 -- a program is read, and what was read decides what is written, with roots or without
-pub record Reaches (from : Origin) (shows : Bool) (before after : Listing) (result : Result (Unit {0}) WorkshopFault) : Type 0 where
+pub record Reaches (from : Origin) (shows : Bool) (before after : Answering) (result : Result (Unit {0}) WorkshopFault) : Type 0 where
   pub program : Result Addressing WorkshopFault
   pub reads : Reads (ReadsAddressing from) before.program after.program program
   pub next : ReachesThen program shows before.out after.out result

@@ -10,9 +10,9 @@ use Rattle.whatif.specs.Spans.{whatif_text}
 use Rattle.workshop.specs.declared.fault.WorkshopFault.{WorkshopFault}
 use Rattle.workshop.specs.declared.fault.WorkshopFault.TheVariants.{NoMemory}
 use Rattle.workshop.specs.declared.origin.Origin.{Origin}
-use Rattle.workshop.specs.Failures.{Reader, Writer, failures_if, has_write_failed}
+use Rattle.workshop.specs.Failures.{Writer, failures_if, has_write_failed}
 use Rattle.workshop.specs.Inputs.{Code, of_feed}
-use Rattle.workshop.specs.Loading.{Reads, ReadsProgram}
+use Rattle.workshop.specs.Loading.{Answering, Reads, ReadsProgram}
 
 -- what is told of a run and of some trials is written: all of it, or a beginning of it after a fault; the writer has failed exactly where
 -- that is answered
@@ -36,13 +36,8 @@ abbrev pub TriesThen : List ℕ → List Plain → ℕ → Result Code WorkshopF
 TriesThen feed trials steps (Ok code) before after result = TriesFeed code.0 feed trials steps before after result
 TriesThen feed trials steps (Err fault) before after result = (result ≡ Err fault) × (after ≡ before)
 
--- what an engine has that tries inputs
-pub record Trying : Type 0 where
-  pub program : Reader
-  pub out : Writer
-
 -- a program is read, and what was read decides what is told
-pub record Tries (from : Origin) (feed : List ℕ) (trials : List Plain) (steps : ℕ) (before after : Trying)
+pub record Tries (from : Origin) (feed : List ℕ) (trials : List Plain) (steps : ℕ) (before after : Answering)
     (result : Result (Unit {0}) WorkshopFault) : Type 0 where
   pub code : Result Code WorkshopFault
   pub reads : Reads (ReadsProgram from) before.program after.program code

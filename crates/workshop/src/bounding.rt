@@ -1,8 +1,9 @@
 //! The engine that tells the most cycles of a routine.
 
 ghost use Rattle.std.specs.Prelude.{◌≡◌};
-ghost use Rattle.workshop.specs.BoundRuns.{Bounds, BoundsRoutine, bounding, question, told_of};
+ghost use Rattle.workshop.specs.BoundRuns.{Bounds, BoundsRoutine, question, told_of};
 ghost use Rattle.workshop.specs.Failures.{reader, writer};
+ghost use Rattle.workshop.specs.Loading.{answering};
 
 use crate::fault::WorkshopFault;
 use crate::origin::Origin;
@@ -39,8 +40,8 @@ pub fn bound_program<P: Read, W: Write>(
     out: &mut W,
 ) -> Result<Bounded, WorkshopFault>
     ensures { Bounds origin (question routine.now loops.now kept.now)
-        (bounding (reader P.told P.left P.failures program.old) (writer W.told W.written W.failures out.old))
-        (bounding (reader P.told P.left P.failures program.new) (writer W.told W.written W.failures out.new)) result }
+        (answering (reader P.told P.left P.failures program.old) (writer W.told W.written W.failures out.old))
+        (answering (reader P.told P.left P.failures program.new) (writer W.told W.written W.failures out.new)) result }
 {
     let (rope, symbols, _) = origin.read(alloc, program)?;
     bound_routine(alloc, &rope, &symbols, routine, loops, kept, out)

@@ -6,7 +6,7 @@ ghost use Rattle.diagnostics.specs.Report.{refused_file, report};
 ghost use Rattle.certain.specs.Doubted.{doubted};
 ghost use Rattle.yayul.specs.Program.{program};
 ghost use Rattle.yayul.specs.declared.language.Language.TheVariants as Language;
-ghost use Rattle.workshop.specs.Checks.{Checks, TellsTally, cautions, doubts_in, feed_reported, reported};
+ghost use Rattle.workshop.specs.Checks.{Checks, TellsTally, cautions, checking, doubts_in, feed_reported, reported};
 ghost use Rattle.workshop.specs.Failures.{reader, writer};
 ghost use Rattle.workshop.specs.Faults.{number_of};
 ghost use Rattle.workshop.specs.declared.fault.WorkshopFault.TheVariants as WorkshopFault;
@@ -59,16 +59,8 @@ pub fn check_source<S: Read, W: Write>(
     out: &mut W,
 ) -> Result<Tally, WorkshopFault>
     ensures { Checks (reported notation language name.now unused)
-        (record {
-          input = reader S.told S.left S.failures source.old;
-          out = writer W.told W.written W.failures
-              out.old;
-        })
-        (record {
-          input = reader S.told S.left S.failures source.new;
-          out = writer W.told W.written W.failures
-              out.new;
-        }) result }
+        (checking (reader S.told S.left S.failures source.old) (writer W.told W.written W.failures out.old))
+        (checking (reader S.told S.left S.failures source.new) (writer W.told W.written W.failures out.new)) result }
 {
     let (text, tally) = read_report(alloc, notation, language, name, unused, source)?;
     write_all(out, &text)?;
@@ -88,9 +80,8 @@ pub fn check_feed<F: Read, W: Write>(
     out: &mut W,
 ) -> Result<usize, WorkshopFault>
     ensures { Checks (feed_reported notation name.now)
-        (record { input = reader F.told F.left F.failures feed.old; out = writer W.told W.written W.failures out.old })
-        (record { input = reader F.told F.left F.failures feed.new; out = writer W.told W.written W.failures out.new })
-        result }
+        (checking (reader F.told F.left F.failures feed.old) (writer W.told W.written W.failures out.old))
+        (checking (reader F.told F.left F.failures feed.new) (writer W.told W.written W.failures out.new)) result }
 {
     let (lines, count) = read_feed_report(alloc, notation, name, feed)?;
     write_all(out, &lines)?;

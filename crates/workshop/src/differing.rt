@@ -2,7 +2,7 @@
 
 ghost use Rattle.std.specs.Prelude.{◌≡◌, ◌-◌, ◌≤◌, ◌^◌, IfOk};
 ghost use Rattle.differ.specs.DifferText.{named};
-ghost use Rattle.workshop.specs.DifferRuns.{DifferRun, TellsBeside, TellsDiffer, named_of};
+ghost use Rattle.workshop.specs.DifferRuns.{DifferRun, TellsBeside, TellsDiffer, named_of, pairing};
 ghost use Rattle.workshop.specs.Failures.{reader, writer};
 ghost use Rattle.workshop.specs.Loading.{program_and_feed};
 ghost use Rattle.workshop.specs.Runs.{running};
@@ -46,20 +46,14 @@ pub fn differ_program<P: Read, F: Read, Q: Read, G: Read, W: Write>(
 ) -> Result<(), WorkshopFault>
     requires { steps ≤ 2 ^ 40 - 2 }
     ensures { TellsDiffer origin other_origin steps why last.new
-        (record {
-          one = program_and_feed (reader P.told P.left P.failures program.old)
-              (reader F.told F.left F.failures feed.old);
-          other = program_and_feed (reader Q.told Q.left Q.failures other.old)
-              (reader G.told G.left G.failures other_feed.old);
-          out = writer W.told W.written W.failures out.old;
-        })
-        (record {
-          one = program_and_feed (reader P.told P.left P.failures program.new)
-              (reader F.told F.left F.failures feed.new);
-          other = program_and_feed (reader Q.told Q.left Q.failures other.new)
-              (reader G.told G.left G.failures other_feed.new);
-          out = writer W.told W.written W.failures out.new;
-        }) result }
+        (pairing
+        (program_and_feed (reader P.told P.left P.failures program.old) (reader F.told F.left F.failures feed.old))
+        (program_and_feed (reader Q.told Q.left Q.failures other.old) (reader G.told G.left G.failures other_feed.old))
+        (writer W.told W.written W.failures out.old))
+        (pairing
+        (program_and_feed (reader P.told P.left P.failures program.new) (reader F.told F.left F.failures feed.new))
+        (program_and_feed (reader Q.told Q.left Q.failures other.new) (reader G.told G.left G.failures other_feed.new))
+        (writer W.told W.written W.failures out.new)) result }
 {
     *last = Side::One;
     let loaded = load(alloc, origin, program, feed)?;

@@ -7,6 +7,7 @@ ghost use Rattle.workshop.specs.Failures.{reader, writer};
 ghost use Rattle.workshop.specs.Inputs.{assembled};
 ghost use Rattle.workshop.specs.Loading.{Reads, ReadsText, program_and_feed};
 ghost use Rattle.workshop.specs.Notings.{EndsNoted, ReadsNamed, ReadsNamedImage, RunsNoted, named_of};
+ghost use Rattle.workshop.specs.Notings.{out_and_notes, running_noted};
 ghost use Rattle.workshop.specs.NotedProgress.{TellsNoted, TellsRead};
 ghost use Rattle.workshop.specs.Progress.{TellsWritten, run_text, telling};
 ghost use Rattle.workshop.specs.Runs.{Makes, summary_of};
@@ -55,24 +56,13 @@ pub fn run_with_notes<P: Read, F: Read, W: Write, T: Write, N: Write>(
 ) -> Result<Summary, WorkshopFault>
     requires { steps ≤ 2 ^ 40 - 2 }
     ensures runs { RunsNoted notation origin steps
-        (record {
-          files = program_and_feed (reader P.told P.left P.failures program.old)
-              (reader F.told F.left F.failures feed.old);
-          texts = record {
-            out = writer W.told W.written W.failures out.old;
-            notes = writer N.told N.written N.failures
-                notes.old;
-          };
-        })
-        (record {
-          files = program_and_feed (reader P.told P.left P.failures program.new)
-              (reader F.told F.left F.failures feed.new);
-          texts = record {
-            out = writer W.told W.written W.failures out.new;
-            notes = writer N.told N.written N.failures
-                notes.new;
-          };
-        }) result }
+        (running_noted
+        (program_and_feed (reader P.told P.left P.failures program.old) (reader F.told F.left F.failures feed.old))
+        (out_and_notes (writer W.told W.written W.failures out.old) (writer N.told N.written N.failures notes.old)))
+        (running_noted
+        (program_and_feed (reader P.told P.left P.failures program.new) (reader F.told F.left F.failures feed.new))
+        (out_and_notes (writer W.told W.written W.failures out.new) (writer N.told N.written N.failures notes.new)))
+        result }
     ensures handed_on { W.told ≡ true → 0 < steps → OnOk result (W.handed_on out.new ≡ W.written out.new) }
     ensures progress { TellsRead origin steps
         (program_and_feed (reader P.told P.left P.failures program.old) (reader F.told F.left F.failures feed.old))
@@ -174,16 +164,9 @@ pub(crate) fn run_then_note<W: Write, T: Write, N: Write>(
     requires none { (scenario : Scenario) → Counted notebook.named scenario 0 notebook }
     ensures ends { EndsNoted (notes_text notation names.now notebook.named processor.old.scenario steps)
         processor.old.scenario steps
-        (record {
-          out = writer W.told W.written W.failures out.old;
-          notes = writer N.told N.written N.failures
-              notes.old;
-        })
-        (record {
-          out = writer W.told W.written W.failures out.new;
-          notes = writer N.told N.written N.failures
-              notes.new;
-        }) result }
+        (out_and_notes (writer W.told W.written W.failures out.old) (writer N.told N.written N.failures notes.old))
+        (out_and_notes (writer W.told W.written W.failures out.new) (writer N.told N.written N.failures notes.new))
+        result }
     ensures handed_on { W.told ≡ true → 0 < steps → OnOk result (W.handed_on out.new ≡ W.written out.new) }
     ensures progress { TellsNoted (run_text processor.old.scenario) steps
         (telling (writer W.told W.written W.failures out.old) (writer T.told T.written T.failures progress.old))

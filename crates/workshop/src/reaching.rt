@@ -1,6 +1,7 @@
 //! The engine that shows what is reached.
 
 ghost use Rattle.workshop.specs.Failures.{reader, writer};
+ghost use Rattle.workshop.specs.Loading.{answering};
 ghost use Rattle.std.specs.Prelude.{IfOk};
 ghost use Rattle.reach.specs.Marks.{AreReached};
 ghost use Rattle.reach.specs.Named.{with_named};
@@ -31,16 +32,8 @@ pub fn reach_program<P: Read, W: Write>(
     out: &mut W,
 ) -> Result<(), WorkshopFault>
     ensures { Reaches origin shows_roots
-        (record {
-          program = reader P.told P.left P.failures program.old;
-          out = writer W.told W.written W.failures
-              out.old;
-        })
-        (record {
-          program = reader P.told P.left P.failures program.new;
-          out = writer W.told W.written W.failures
-              out.new;
-        }) result }
+        (answering (reader P.told P.left P.failures program.old) (writer W.told W.written W.failures out.old))
+        (answering (reader P.told P.left P.failures program.new) (writer W.told W.written W.failures out.new)) result }
 {
     let addressing = read_addressing(alloc, origin, program)?;
     write_reached(alloc, &addressing, shows_roots, out)

@@ -3,6 +3,7 @@
 ghost use Rattle.std.specs.Prelude.{◌≡◌, ◌-◌, ◌≤◌, ◌^◌, Ok, IfOk};
 ghost use Rattle.feed.specs.Feed.{inputs};
 ghost use Rattle.workshop.specs.Failures.{reader, writer};
+ghost use Rattle.workshop.specs.Loading.{answering};
 ghost use Rattle.workshop.specs.Tries.{Tries, TriesFeed, WritesTrials};
 
 use crate::fault::WorkshopFault;
@@ -31,16 +32,8 @@ pub fn try_program<P: Read, W: Write>(
 ) -> Result<(), WorkshopFault>
     requires { steps ≤ 2 ^ 40 - 2 }
     ensures { Tries origin feed.now trials.now steps
-        (record {
-          program = reader P.told P.left P.failures program.old;
-          out = writer W.told W.written W.failures
-              out.old;
-        })
-        (record {
-          program = reader P.told P.left P.failures program.new;
-          out = writer W.told W.written W.failures
-              out.new;
-        }) result }
+        (answering (reader P.told P.left P.failures program.old) (writer W.told W.written W.failures out.old))
+        (answering (reader P.told P.left P.failures program.new) (writer W.told W.written W.failures out.new)) result }
 {
     let (rope, _, _) = origin.read(alloc, program)?;
     try_feed(alloc, rope, feed, trials, steps, out)

@@ -2,6 +2,7 @@
 
 ghost use Rattle.std.specs.Prelude.{◌≡◌, ◌-◌, ◌≤◌, ◌^◌};
 ghost use Rattle.workshop.specs.Failures.{reader, writer};
+ghost use Rattle.workshop.specs.Loading.{answering};
 ghost use Rattle.workshop.specs.NoteTries.{TriesNotes, TriesNotesFeed, WritesNotes};
 ghost use Rattle.whatif.specs.Changes.{note_trials_text};
 
@@ -31,16 +32,8 @@ pub fn try_notes<P: Read, W: Write>(
 ) -> Result<(), WorkshopFault>
     requires { steps ≤ 2 ^ 40 - 2 }
     ensures { TriesNotes origin feed.now trials.now steps
-        (record {
-          program = reader P.told P.left P.failures program.old;
-          out = writer W.told W.written W.failures
-              out.old;
-        })
-        (record {
-          program = reader P.told P.left P.failures program.new;
-          out = writer W.told W.written W.failures
-              out.new;
-        }) result }
+        (answering (reader P.told P.left P.failures program.old) (writer W.told W.written W.failures out.old))
+        (answering (reader P.told P.left P.failures program.new) (writer W.told W.written W.failures out.new)) result }
 {
     let code = read_named(alloc, origin, program)?;
     try_feed(alloc, code, feed, trials, steps, out)
