@@ -19,7 +19,7 @@ use words::{Buffer, ReadAhead, Std, Write, read_text, write_all};
 use workshop::{
     Bounded, Counted, Language, LineForm, Side, Summary, WorkshopFault, access_program,
     bound_program, cover_program, debug_program, delays_program, differ_program, reach_program,
-    reach_run, read_trials, run_and_tell, run_to_hole, run_until_idle, run_with_notes,
+    reach_run, read_trials, run_program, run_to_hole, run_until_idle, run_with_notes,
     tell_commands_end, trace_program, try_notes, try_program, write_end,
 };
 
@@ -85,7 +85,7 @@ fn run_told(rt: &HostRuntime, asked: &Run<'_>) -> Result<Summary, WorkshopFault>
         } else if asked.until_idle {
             run_until_idle(alloc, origin, file, feed, steps, out, told)
         } else {
-            run_and_tell(alloc, origin, file, feed, steps, out, told)
+            run_program(alloc, origin, file, feed, steps, out, told)
         }
     })
 }

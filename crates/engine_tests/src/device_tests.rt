@@ -8,8 +8,8 @@ use std::process::Abort;
 use test_devices::{FaultyReader, FaultyWriter, Trouble};
 use words::{Buffer, Read, Write};
 use workshop::{
-    Compared, Language, Version, WorkshopFault, asm_engine, compare_engine, debug_engine,
-    debug_image_engine, run_engine, run_image_engine, sums_engine, upgrade_engine, words_engine,
+    Compared, Language, Origin, Unheard, Version, WorkshopFault, asm_engine, compare_engine,
+    debug_program, run_program, sums_engine, upgrade_engine, words_engine,
 };
 
 /// The engines.
@@ -62,16 +62,12 @@ impl<R: Read, W: Write> Devices<R, W> {
                 &mut self.listing,
                 two,
             ),
-            Engine::Run => match run_engine(alloc, first, second, 10, out) {
-                Ok(_) => Ok(()),
-                Err(fault) => Err(fault),
-            },
-            Engine::RunImage => match run_image_engine(alloc, first, two, second, 10, out) {
-                Ok(_) => Ok(()),
-                Err(fault) => Err(fault),
-            },
-            Engine::Debug => debug_engine(alloc, first, second, third, out),
-            Engine::DebugImage => debug_image_engine(alloc, first, two, second, third, out),
+            Engine::Run => run_ten(alloc, source(), first, second, out),
+            Engine::RunImage => run_ten(alloc, Origin::Image(two), first, second, out),
+            Engine::Debug => debug_program(alloc, source(), first, second, third, out),
+            Engine::DebugImage => {
+                debug_program(alloc, Origin::Image(two), first, second, third, out)
+            }
             Engine::Upgrade => upgrade_engine(alloc, first, out),
             Engine::Words => words_engine(alloc, first, two, Bank::try_new(2), out),
             Engine::Compare => match compare_engine(
@@ -89,6 +85,23 @@ impl<R: Read, W: Write> Devices<R, W> {
             Engine::Sums => sums_engine(alloc, first, two, out),
         }
     }
+}
+
+/// A source of the standard language.
+fn source() -> Origin {
+    Origin::Source(Language::Standard)
+}
+
+/// Runs a program for ten steps.
+fn run_ten<P: Read, F: Read, W: Write>(
+    alloc: Global,
+    origin: Origin,
+    program: &mut P,
+    feed: &mut F,
+    out: &mut W,
+) -> Result<(), WorkshopFault> {
+    run_program(alloc, origin, program, feed, 10, out, &mut Unheard)?;
+    Ok(())
 }
 
 /// Devices over memory.

@@ -11,8 +11,8 @@ use std::process::Abort;
 use std::test::Fail;
 use words::Buffer;
 use workshop::{
-    LineForm, Origin, Unheard, Version, asm_engine, cover_program, debug_engine, follow_source,
-    open_session, run_engine, run_with_notes, trace_program, upgrade_engine,
+    LineForm, Origin, Unheard, Version, asm_engine, cover_program, debug_program, follow_source,
+    open_session, run_program, run_with_notes, trace_program, upgrade_engine,
 };
 use yayul::{Language, assemble};
 
@@ -83,9 +83,31 @@ fn always_out_of_memory(rt: HostRuntime) -> Result<(), Fail> {
         b"run 4\n".as_slice(),
     );
     let mut out = Buffer::new(alloc);
-    assert!(rt; debug_engine(alloc, &mut source, &mut feed, &mut commands, &mut out).is_ok());
+    let origin = || Origin::Source(Language::Standard);
+    assert!(rt;
+        debug_program(
+            alloc,
+            origin(),
+            &mut source,
+            &mut feed,
+            &mut commands,
+            &mut out
+        )
+        .is_ok()
+    );
     let (mut source, mut feed) = (FIVE_PLUS_FIVE, b"".as_slice());
-    assert!(rt; run_engine(alloc, &mut source, &mut feed, 4, &mut out).is_ok());
+    assert!(rt;
+        run_program(
+            alloc,
+            origin(),
+            &mut source,
+            &mut feed,
+            4,
+            &mut out,
+            &mut Unheard
+        )
+        .is_ok()
+    );
     let (mut source, mut image) = (FIVE_PLUS_FIVE, Buffer::new(alloc));
     assert!(rt;
         asm_engine(

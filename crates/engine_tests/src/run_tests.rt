@@ -6,8 +6,8 @@ use rope::RopeFault;
 use std::alloc::AllocError;
 use test_devices::{FaultyReader, FaultyWriter, Trouble};
 use words::Buffer;
-use workshop::{Summary, WorkshopFault, report, run_engine, write_end};
-use yayul::Fault;
+use workshop::{Origin, Summary, Unheard, WorkshopFault, report, run_program, write_end};
+use yayul::{Fault, Language};
 
 fn source_fault(line: u32, number: u8) -> WorkshopFault {
     WorkshopFault::Source(Fault { line, number })
@@ -41,8 +41,9 @@ fn source_is_told_before_the_feed_is_read(rt: HostRuntime) {
     let mut out = Buffer::new(rt.alloc());
     let mut source: &[u8] = b" SETLOC 4000\n FROB 100\n";
     let mut feed = FaultyReader::new(b"", Some(0));
+    let origin = Origin::Source(Language::Standard);
     assert_eq!(rt;
-        run_engine(rt.alloc(), &mut source, &mut feed, 4, &mut out),
+        run_program(rt.alloc(), origin, &mut source, &mut feed, 4, &mut out, &mut Unheard),
         Err(source_fault(2, 15))
     );
 }

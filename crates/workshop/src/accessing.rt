@@ -26,7 +26,7 @@ use words::{Read, Write, WriteFailed};
 /// written. Memory for the counts is taken once, before the first step. After a write that failed a beginning of the
 /// text was written.
 ///
-/// It is told after each 2^20 steps how many were made, as `run_and_tell` tells it.
+/// It is told after each 2^20 steps how many were made, as `run_program` tells it.
 pub fn access_program<P: Read, F: Read, W: Write, T: Write>(
     alloc: Global,
     origin: Origin,

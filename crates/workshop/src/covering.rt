@@ -31,7 +31,7 @@ use yayul::{Language, Symbols};
 /// written. Memory for the figures is taken once, before the first step. After a write that failed a beginning of the
 /// text was written.
 ///
-/// It is told after each 2^20 steps how many were made, as `run_and_tell` tells it.
+/// It is told after each 2^20 steps how many were made, as `run_program` tells it.
 pub fn cover_program<P: Read, F: Read, W: Write, T: Write>(
     alloc: Global,
     notation: Notation,

@@ -16,7 +16,6 @@ use crate::origin::Origin;
 use cpu::{Machine, Processor};
 use debugger::{debug_session, extended_session};
 use replay::{Call, Observer, Session, SlotKeeper, follow};
-use rope::Version;
 use std::alloc::Global;
 use words::{Read, Write};
 use yayul::{Language, SourceRows, Symbols};
@@ -80,50 +79,6 @@ fn open_loaded(alloc: Global, loaded: Loaded) -> Result<(Opened, SourceRows), Wo
         symbols: loaded.symbols,
     };
     Ok((opened, loaded.rows))
-}
-
-/// Assembles the source, reads the feed, and answers the commands: see `debug_program`.
-pub fn debug_engine<S: Read, F: Read, R: Read, W: Write>(
-    alloc: Global,
-    source: &mut S,
-    feed: &mut F,
-    commands: &mut R,
-    out: &mut W,
-) -> Result<(), WorkshopFault>
-    ensures { DebugsProgram (Origin.Source Standard)
-        (in_session (reader S.told S.left S.failures source.old) (reader F.told F.left F.failures feed.old)
-        (reader R.told R.left R.failures commands.old) (writer W.told W.written W.failures out.old))
-        (in_session (reader S.told S.left S.failures source.new) (reader F.told F.left F.failures feed.new)
-        (reader R.told R.left R.failures commands.new) (writer W.told W.written W.failures out.new)) result }
-{
-    debug_program(
-        alloc,
-        Origin::Source(Language::Standard),
-        source,
-        feed,
-        commands,
-        out,
-    )
-}
-
-/// Reads a rope image of a version to its end, reads the feed, and answers the commands over the words of the image:
-/// see
-/// `debug_program`. There are no symbols.
-pub fn debug_image_engine<I: Read, F: Read, R: Read, W: Write>(
-    alloc: Global,
-    image: &mut I,
-    version: Version,
-    feed: &mut F,
-    commands: &mut R,
-    out: &mut W,
-) -> Result<(), WorkshopFault>
-    ensures { DebugsProgram (Origin.Image version)
-        (in_session (reader I.told I.left I.failures image.old) (reader F.told F.left F.failures feed.old)
-        (reader R.told R.left R.failures commands.old) (writer W.told W.written W.failures out.old))
-        (in_session (reader I.told I.left I.failures image.new) (reader F.told F.left F.failures feed.new)
-        (reader R.told R.left R.failures commands.new) (writer W.told W.written W.failures out.new)) result }
-{
-    debug_program(alloc, Origin::Image(version), image, feed, commands, out)
 }
 
 /// Reads a program and then a feed, and answers the commands over a session of them: see `debug_session`.

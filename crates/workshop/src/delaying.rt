@@ -23,7 +23,7 @@ use words::{Read, Write, WriteFailed};
 /// The first fault of the program is answered, else that of the feed, else that memory ran out, and then nothing is
 /// written. Memory is taken once, before the first step. After a write that failed a beginning of the text was written.
 ///
-/// It is told after each 2^20 steps how many were made, as `run_and_tell` tells it.
+/// It is told after each 2^20 steps how many were made, as `run_program` tells it.
 pub fn delays_program<P: Read, F: Read, W: Write, T: Write>(
     alloc: Global,
     origin: Origin,

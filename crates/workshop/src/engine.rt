@@ -11,20 +11,16 @@ ghost use Rattle.workshop.specs.Runs.{Runs, Makes, outputs_after, running, summa
 ghost use Rattle.workshop.specs.Loading.{program_and_feed};
 ghost use Rattle.cpu.specs.Next.{next};
 ghost use Rattle.cpu.specs.Run.{outs, run};
-ghost use Rattle.yayul.specs.declared.language.Language.TheVariants.{Standard};
 ghost use Rattle.cpu.specs.State.{FitsRun, Scenario};
 
 use crate::fault::WorkshopFault;
 use crate::inputs::load;
 use crate::origin::Origin;
-use crate::progress::Unheard;
 use crate::stepper::{Stepper, run_all};
 use cpu::{Machine, Output, Processor, write_channel_line};
-use rope::Version;
 use space::{Chan, Eras};
 use std::alloc::Global;
 use words::{Read, Word, Write, WriteFailed};
-use yayul::Language;
 
 /// What a run has come to.
 #[derive(Clone, Copy, PartialEq, Eq, Debug, Drop)]
@@ -65,81 +61,15 @@ pub fn may_run(steps: u64) -> bool
     steps <= MOST_STEPS
 }
 
-/// Assembles the source, reads the feed, and runs the program for some steps: see `run_program`.
-pub fn run_engine<S: Read, F: Read, W: Write>(
-    alloc: Global,
-    source: &mut S,
-    feed: &mut F,
-    steps: u64,
-    out: &mut W,
-) -> Result<Summary, WorkshopFault>
-    requires { steps ≤ 2 ^ 40 - 2 }
-    ensures runs { Runs (Origin.Source Standard) steps
-        (running (reader S.told S.left S.failures source.old) (reader F.told F.left F.failures feed.old)
-        (writer W.told W.written W.failures out.old))
-        (running (reader S.told S.left S.failures source.new) (reader F.told F.left F.failures feed.new)
-        (writer W.told W.written W.failures out.new)) result }
-    ensures handed_on { W.told ≡ true → 0 < steps → OnOk result (W.handed_on out.new ≡ W.written out.new) }
-{
-    run_program(
-        alloc,
-        Origin::Source(Language::Standard),
-        source,
-        feed,
-        steps,
-        out,
-    )
-}
-
-/// Reads a rope image of a version to its end, reads the feed, and runs the words of the image for some steps: see
-/// `run_program`.
-pub fn run_image_engine<I: Read, F: Read, W: Write>(
-    alloc: Global,
-    image: &mut I,
-    version: Version,
-    feed: &mut F,
-    steps: u64,
-    out: &mut W,
-) -> Result<Summary, WorkshopFault>
-    requires { steps ≤ 2 ^ 40 - 2 }
-    ensures runs { Runs (Origin.Image version) steps
-        (running (reader I.told I.left I.failures image.old) (reader F.told F.left F.failures feed.old)
-        (writer W.told W.written W.failures out.old))
-        (running (reader I.told I.left I.failures image.new) (reader F.told F.left F.failures feed.new)
-        (writer W.told W.written W.failures out.new)) result }
-    ensures handed_on { W.told ≡ true → 0 < steps → OnOk result (W.handed_on out.new ≡ W.written out.new) }
-{
-    run_program(alloc, Origin::Image(version), image, feed, steps, out)
-}
-
 /// Reads a program and then a feed, and runs the program for some steps: the line of each output is written, as
 /// `7 CH 010 00012` with the cycles, the channel and the word.
 ///
 /// A source and a feed have at most 8,388,608 bytes each. The first fault of the program is answered, else that of the
 /// feed, and then nothing is written. Lines are handed on while it goes, and all of them where it has made its steps.
-pub fn run_program<P: Read, F: Read, W: Write>(
-    alloc: Global,
-    origin: Origin,
-    program: &mut P,
-    feed: &mut F,
-    steps: u64,
-    out: &mut W,
-) -> Result<Summary, WorkshopFault>
-    requires { steps ≤ 2 ^ 40 - 2 }
-    ensures runs { Runs origin steps
-        (running (reader P.told P.left P.failures program.old) (reader F.told F.left F.failures feed.old)
-        (writer W.told W.written W.failures out.old))
-        (running (reader P.told P.left P.failures program.new) (reader F.told F.left F.failures feed.new)
-        (writer W.told W.written W.failures out.new)) result }
-    ensures handed_on { W.told ≡ true → 0 < steps → OnOk result (W.handed_on out.new ≡ W.written out.new) }
-{
-    run_and_tell(alloc, origin, program, feed, steps, out, &mut Unheard)
-}
-
-/// Reads a program and then a feed, and runs the program for some steps, as `run_program` does; and tells after each
-/// 2^20 steps how many were made, as `agcws: STEPS 1048576`. A write that fails there is no fault of the run: nothing
-/// more is told.
-pub fn run_and_tell<P: Read, F: Read, W: Write, T: Write>(
+///
+/// It tells after each 2^20 steps how many were made, as `agcws: STEPS 1048576`. A write that fails there is no fault of
+/// the run: nothing more is told.
+pub fn run_program<P: Read, F: Read, W: Write, T: Write>(
     alloc: Global,
     origin: Origin,
     program: &mut P,

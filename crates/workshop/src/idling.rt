@@ -16,7 +16,7 @@ use idle::steps_until_idle;
 use std::alloc::Global;
 use words::{Read, Write};
 
-/// Reads a program and then a feed, and runs the program until it idles, at most for so many steps, as `run_and_tell`
+/// Reads a program and then a feed, and runs the program until it idles, at most for so many steps, as `run_program`
 /// does. When it idles `idle::steps_until_idle` says. Its steps are made twice: to find the last, before anything is
 /// written, and to write what they put out.
 pub fn run_until_idle<P: Read, F: Read, W: Write, T: Write>(

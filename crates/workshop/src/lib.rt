@@ -50,15 +50,12 @@ pub use covering::cover_program;
 pub use crossing::{crossed_words_engine, xref_engine};
 pub use debugger::{debug_session, extended_session};
 pub use debugging::{
-    Opened, debug_engine, debug_extended, debug_image_engine, debug_program, follow_source,
-    open_program, open_session,
+    Opened, debug_extended, debug_program, follow_source, open_program, open_session,
 };
 pub use delaying::delays_program;
 pub use differing::{Side, differ_program};
 pub use ending::write_end;
-pub use engine::{
-    MOST_STEPS, Summary, may_run, run_and_tell, run_engine, run_image_engine, run_program,
-};
+pub use engine::{MOST_STEPS, Summary, may_run, run_program};
 pub use expect::{Asked, Expectation, Refusal as TextRefusal, expectation_in};
 pub use expecting::{Judged, judge_program};
 pub use explain::{

@@ -36,7 +36,7 @@ pub(crate) struct NamedCode {
     pub(crate) named: NamedPlaces,
 }
 
-/// Reads a program and then a feed, and runs the program for some steps, as `run_and_tell` does; and writes then what
+/// Reads a program and then a feed, and runs the program for some steps, as `run_program` does; and writes then what
 /// has happened in these steps that is seldom meant, as `NOTE QUOTIENT   02,4004  10100  DV D               STEP 5
 /// CYCLES 13 TIMES 1`, or as JSON in an object.
 ///

@@ -31,7 +31,7 @@ use words::{Read, Write, WriteFailed};
 /// failed a beginning of the lines was written. Lines are handed on while it goes, and all of them where it has made
 /// its steps.
 ///
-/// It is told after each 2^20 steps how many were made, as `run_and_tell` tells it.
+/// It is told after each 2^20 steps how many were made, as `run_program` tells it.
 pub fn trace_program<P: Read, F: Read, W: Write, T: Write>(
     alloc: Global,
     origin: Origin,
