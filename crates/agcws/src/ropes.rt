@@ -12,11 +12,10 @@ use std::cell::Cell;
 use words::{MOST_BYTES, Std, read_text};
 use workshop::holed_words::holed_words_engine;
 use workshop::{
-    Compared, Form, Language, Symbols, Version, WorkshopFault, align_engine, carry_engine,
-    compare_banks_engine, compare_engine, compare_only_engine, crossed_words_engine,
-    damages_engine, find_engine, form_sums_engine, mended_engine, named_source_engine,
-    named_words_engine, octals_engine, parity_engine, read_names, report, report_where,
-    source_engine, sums_engine, upgrade_engine, words_engine,
+    Compared, Form, Language, NamedText, RopeText, Symbols, Version, WorkshopFault, align_engine,
+    carry_engine, compare_banks_engine, compare_engine, compare_only_engine, damages_engine,
+    find_engine, mended_engine, named_text_engine, named_words_engine, parity_engine, read_names,
+    report, report_where, show_engine, upgrade_engine,
 };
 
 /// `agcws upgrade OLD NEW`. The file NEW is made at the first write, so that a refused image leaves none. A path of the
@@ -59,11 +58,19 @@ fn write_words(rt: &HostRuntime, words: &Words<'_>) -> Result<(), WorkshopFault>
     if let Shown::Holed(source) = words.shown {
         return write_holed_words(rt, source, words);
     }
+    let text = match words.shown {
+        Shown::Source => RopeText::Source(bank),
+        Shown::Octals => RopeText::Octals(bank),
+        _ => RopeText::Words(bank),
+    };
+    write_shown(rt, image, text)
+}
+
+/// Writes what is to be shown of the words of an image.
+fn write_shown(rt: &HostRuntime, image: &Image<'_>, text: RopeText) -> Result<(), WorkshopFault> {
     let mut file = opened_image(rt, image)?;
-    with_stdout(rt, |out| match words.shown {
-        Shown::Source => source_engine(rt.alloc(), &mut file, image.version, bank, out),
-        Shown::Octals => octals_engine(rt.alloc(), &mut file, image.version, bank, out),
-        _ => words_engine(rt.alloc(), &mut file, image.version, bank, out),
+    with_stdout(rt, |out| {
+        show_engine(rt.alloc(), &mut file, image.version, text, out)
     })
 }
 
@@ -78,14 +85,17 @@ fn write_named_words(
     let mut table = opened(rt, table)?;
     let mut file = opened_image(rt, &words.image)?;
     let names = read_names(rt.alloc(), &mut table)?;
-    with_stdout(rt, |out| match words.shown {
-        Shown::NamedSource(_) => {
-            named_source_engine(rt.alloc(), &names, &mut file, version, bank, out)
+    let text = match words.shown {
+        Shown::NamedSource(_) => NamedText::Source,
+        Shown::Crossed(_) => NamedText::Uses,
+        _ => {
+            return with_stdout(rt, |out| {
+                named_words_engine(rt.alloc(), names, &mut file, version, bank, out)
+            });
         }
-        Shown::Crossed(_) => {
-            crossed_words_engine(rt.alloc(), &names, &mut file, version, bank, out)
-        }
-        _ => named_words_engine(rt.alloc(), names, &mut file, version, bank, out),
+    };
+    with_stdout(rt, |out| {
+        named_text_engine(rt.alloc(), text, &names, &mut file, version, bank, out)
     })
 }
 
@@ -330,19 +340,13 @@ fn of_compared<'a>(read: Compared, old: &'a str, new: &'a str) -> &'a str {
 
 /// `agcws sums [--rope VERSION] .. ROPE`.
 pub fn show_sums(rt: &HostRuntime, image: &Image<'_>) -> Result<u8, WorkshopFault> {
-    let mut file = opened_image(rt, image)?;
-    with_stdout(rt, |out| {
-        sums_engine(rt.alloc(), &mut file, image.version, out)
-    })?;
+    write_shown(rt, image, RopeText::Sums)?;
     Ok(DONE)
 }
 
 /// `agcws sums --forms [--rope VERSION] ROPE`.
 pub fn show_sums_of_both_forms(rt: &HostRuntime, image: &Image<'_>) -> Result<u8, WorkshopFault> {
-    let mut file = opened_image(rt, image)?;
-    with_stdout(rt, |out| {
-        form_sums_engine(rt.alloc(), &mut file, image.version, out)
-    })?;
+    write_shown(rt, image, RopeText::FormSums)?;
     Ok(DONE)
 }
 

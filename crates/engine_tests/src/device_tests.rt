@@ -8,8 +8,8 @@ use std::process::Abort;
 use test_devices::{FaultyReader, FaultyWriter, Trouble};
 use words::{Buffer, Read, Write};
 use workshop::{
-    Compared, Language, Origin, Unheard, Version, WorkshopFault, asm_engine, compare_engine,
-    debug_program, run_program, sums_engine, upgrade_engine, words_engine,
+    Compared, Language, Origin, RopeText, Unheard, Version, WorkshopFault, asm_engine,
+    compare_engine, debug_program, run_program, show_engine, upgrade_engine,
 };
 
 /// The engines.
@@ -69,7 +69,10 @@ impl<R: Read, W: Write> Devices<R, W> {
                 debug_program(alloc, Origin::Image(two), first, second, third, out)
             }
             Engine::Upgrade => upgrade_engine(alloc, first, out),
-            Engine::Words => words_engine(alloc, first, two, Bank::try_new(2), out),
+            Engine::Words => {
+                let text = RopeText::Words(Bank::try_new(2));
+                show_engine(alloc, first, two, text, out)
+            }
             Engine::Compare => match compare_engine(
                 alloc,
                 first,
@@ -82,7 +85,7 @@ impl<R: Read, W: Write> Devices<R, W> {
                 Ok(_) => Ok(()),
                 Err(fault) => Err(fault),
             },
-            Engine::Sums => sums_engine(alloc, first, two, out),
+            Engine::Sums => show_engine(alloc, first, two, RopeText::Sums, out),
         }
     }
 }

@@ -43,7 +43,15 @@ fn source_is_told_before_the_feed_is_read(rt: HostRuntime) {
     let mut feed = FaultyReader::new(b"", Some(0));
     let origin = Origin::Source(Language::Standard);
     assert_eq!(rt;
-        run_program(rt.alloc(), origin, &mut source, &mut feed, 4, &mut out, &mut Unheard),
+        run_program(
+            rt.alloc(),
+            origin,
+            &mut source,
+            &mut feed,
+            4,
+            &mut out,
+            &mut Unheard
+        ),
         Err(source_fault(2, 15))
     );
 }

@@ -1,6 +1,8 @@
 -- What is seen of an engine's readers and writers, which of them has failed, and how much was read, by an engine's answer.
 use Rattle.std.specs.Prelude.{ℕ, ◌+◌, Bool, true, false, if◌then◌else◌, List, Result, Ok, Err}
 use Rattle.words.specs.Devices.{one_more}
+use Rattle.words.specs.declared.device.Read as read
+use Rattle.words.specs.declared.device.Write as write
 use Rattle.workshop.specs.declared.fault.WorkshopFault.{WorkshopFault}
 use Rattle.workshop.specs.declared.fault.WorkshopFault.TheVariants.{NoMemory, ReadFailed, WriteFailed, TooLong}
 use Rattle.feed.specs.Feed.{most_bytes}
@@ -17,12 +19,12 @@ pub record Writer : Type 0 where
   pub written : List ℕ
   pub failures : ℕ
 
--- what is seen of a device that tells so, with what it tells, and its count of failures
-abbrev pub reader : {D : Type 0} → Bool → (D → List ℕ) → (D → ℕ) → D → Reader
-reader told left failures device = record { told = told; left = left device; failures = failures device }
+-- what is seen of a device, by the ghost members of its type
+abbrev pub reader : {D : Type 0} → read.Ghosts D → D → Reader
+reader seen device = record { told = seen.told; left = seen.left device; failures = seen.failures device }
 
-abbrev pub writer : {D : Type 0} → Bool → (D → List ℕ) → (D → ℕ) → D → Writer
-writer told written failures device = record { told = told; written = written device; failures = failures device }
+abbrev pub writer : {D : Type 0} → write.Ghosts D → D → Writer
+writer seen device = record { told = seen.told; written = seen.written device; failures = seen.failures device }
 
 -- the fault that a failed read gives
 abbrev pub is_read_failed : WorkshopFault → Bool

@@ -5,6 +5,11 @@ use Rattle.rope.specs.Places.{Words}
 use Rattle.rope.specs.Dumps.{ReadsDump}
 use Rattle.rope.specs.Reading.{ReadsImage, has_read_failed}
 use Rattle.rope.specs.declared.spelling.Version.{Version}
+use Rattle.audit.specs.FormNames.{form_lines}
+use Rattle.audit.specs.Octals.{octals_text}
+use Rattle.audit.specs.SourceLines.{source_text}
+use Rattle.audit.specs.Sums.{sum_lines}
+use Rattle.audit.specs.WordLines.{word_lines}
 use Rattle.rope.specs.declared.fault.RopeFault.{RopeFault}
 use Rattle.audit.specs.Damages.{count_of, damages}
 use Rattle.audit.specs.Mended.{mended_source}
@@ -18,6 +23,8 @@ use Rattle.workshop.specs.declared.fault.WorkshopFault.{WorkshopFault}
 use Rattle.workshop.specs.declared.fault.WorkshopFault.TheVariants.{NoMemory, WriteFailed}
 use Rattle.workshop.specs.declared.ropes.Compared.{Compared}
 use Rattle.workshop.specs.declared.ropes.Compared.TheVariants as compared
+use Rattle.workshop.specs.declared.ropes.RopeText.{RopeText}
+use Rattle.workshop.specs.declared.ropes.RopeText.TheVariants as shown
 use Rattle.workshop.specs.Failures.{Reader, Writer}
 use Rattle.workshop.specs.Faults.{of_rope_fault}
 use Rattle.workshop.specs.Inputs.{assembled}
@@ -37,6 +44,14 @@ WritesText text before after (Ok x) = (before.told ≡ true → after.written �
 WritesText text before after (Err WriteFailed) =
     (before.told ≡ true → WritesBeginning before.written after.written text) × (after.failures ≡ one_more before.failures)
 WritesText text before after (Err _) = ⊥
+
+-- what is shown of the words of an image of a version
+abbrev pub shown_text : RopeText → Version → Words → List ℕ
+shown_text (shown.Words bank) version words = word_lines words bank
+shown_text (shown.Source bank) version words = source_text words bank
+shown_text (shown.Octals bank) version words = octals_text words bank
+shown_text shown.Sums version words = sum_lines words
+shown_text shown.FormSums version words = form_lines version words
 
 -- where an image was read a text of its words is written, and after a fault nothing
 abbrev pub ShowsThen : (Words → List ℕ) → Result Words RopeFault → Writer → Writer → Result (Unit {0}) WorkshopFault → Type 0

@@ -39,12 +39,10 @@ pub fn access_program<P: Read, F: Read, W: Write, T: Write>(
 ) -> Result<bool, WorkshopFault>
     requires { steps ≤ 2 ^ 40 - 2 }
     ensures counts { CountsAccesses (option_map (λ text. text.now) place.entry) origin steps
-        (running (reader P.told P.left P.failures program.old) (reader F.told F.left F.failures feed.old)
-        (writer W.told W.written W.failures out.old))
-        (running (reader P.told P.left P.failures program.new) (reader F.told F.left F.failures feed.new)
-        (writer W.told W.written W.failures out.new)) result }
-    ensures progress { TellsCounted steps (writer T.told T.written T.failures progress.old)
-        (writer T.told T.written T.failures progress.new) result }
+        (running (reader P.Read program.old) (reader F.Read feed.old) (writer W.Write out.old))
+        (running (reader P.Read program.new) (reader F.Read feed.new) (writer W.Write out.new)) result }
+    ensures progress { TellsCounted steps (writer T.Write progress.old)
+        (writer T.Write progress.new) result }
 {
     let loaded = load(alloc, origin, program, feed)?;
     access(alloc, loaded, place, steps, out, progress)
@@ -62,9 +60,9 @@ fn access<W: Write, T: Write>(
 ) -> Result<bool, WorkshopFault>
     requires { steps ≤ 2 ^ 40 - 2 }
     ensures counts { CountsRun (option_map (λ text. text.now) place.entry) loaded.symbols (scenario_of loaded) steps
-        (writer W.told W.written W.failures out.old) (writer W.told W.written W.failures out.new) result }
-    ensures progress { TellsCounted steps (writer T.told T.written T.failures progress.old)
-        (writer T.told T.written T.failures progress.new) result }
+        (writer W.Write out.old) (writer W.Write out.new) result }
+    ensures progress { TellsCounted steps (writer T.Write progress.old)
+        (writer T.Write progress.new) result }
 {
     let Some(view) = view_asked(&loaded.symbols, place) else {
         return Ok(false);
@@ -91,9 +89,9 @@ fn count<W: Write, T: Write>(
     requires few { steps ≤ 2 ^ 40 - 2 }
     requires none { Counts tally.old.view processor.old.scenario 0 tally.old }
     ensures counts { Counted tally.old.view names.now processor.old.scenario steps
-        (writer W.told W.written W.failures out.old) (writer W.told W.written W.failures out.new) result }
-    ensures progress { TellsCounted steps (writer T.told T.written T.failures progress.old)
-        (writer T.told T.written T.failures progress.new) result }
+        (writer W.Write out.old) (writer W.Write out.new) result }
+    ensures progress { TellsCounted steps (writer T.Write progress.old)
+        (writer T.Write progress.new) result }
 {
     count_all(tally, processor, steps, progress);
     write_accesses(tally, names, processor.rope(), out)?;

@@ -32,7 +32,7 @@ pub(crate) fn read_addressing<P: Read>(
     program: &mut P,
 ) -> Result<Addressing, WorkshopFault>
     ensures { Reads (ReadsAddressing origin)
-        (reader P.told P.left P.failures program.old) (reader P.told P.left P.failures program.new) result }
+        (reader P.Read program.old) (reader P.Read program.new) result }
 {
     match origin {
         Origin::Source(language) => read_addressing_source(alloc, language, program),
@@ -50,7 +50,7 @@ fn read_addressing_source<P: Read>(
     program: &mut P,
 ) -> Result<Addressing, WorkshopFault>
     ensures { Reads (λ old new. ReadsText (addressing_of language (assembled language old)) old new)
-        (reader P.told P.left P.failures program.old) (reader P.told P.left P.failures program.new) result }
+        (reader P.Read program.old) (reader P.Read program.new) result }
 {
     let (rope, symbols, rows) = read_program(alloc, language, program)?.split_all();
     let Some(places) = AddressedPlaces::of(alloc, language, &symbols, &rows, &rope) else {
@@ -70,7 +70,7 @@ fn read_unaddressed<P: Read>(
     program: &mut P,
 ) -> Result<Addressing, WorkshopFault>
     ensures { Reads (λ old new. ReadsUnaddressed origin old new)
-        (reader P.told P.left P.failures program.old) (reader P.told P.left P.failures program.new) result }
+        (reader P.Read program.old) (reader P.Read program.new) result }
 {
     let (rope, rows) = read_subject(alloc, Notation::Text, origin, program)?;
     Ok(Addressing {

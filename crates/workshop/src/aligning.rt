@@ -34,10 +34,8 @@ pub fn align_engine<A: Read, B: Read, W: Write>(
     out: &mut W,
 ) -> Result<(), WorkshopFault>
     ensures { Aligns alignment_lines old_version new_version
-        (comparing (reader A.told A.left A.failures old.old) (reader B.told B.left B.failures new.old)
-        (writer W.told W.written W.failures out.old))
-        (comparing (reader A.told A.left A.failures old.new) (reader B.told B.left B.failures new.new)
-        (writer W.told W.written W.failures out.new)) last.new result }
+        (comparing (reader A.Read old.old) (reader B.Read new.old) (writer W.Write out.old))
+        (comparing (reader A.Read old.new) (reader B.Read new.new) (writer W.Write out.new)) last.new result }
 {
     *last = Compared::Old;
     let words = Rope::read(alloc, old, old_version)?;
@@ -59,10 +57,8 @@ pub fn carry_engine<A: Read, B: Read, W: Write>(
     out: &mut W,
 ) -> Result<(), WorkshopFault>
     ensures { Aligns (λ _ _ renaming pairing. carried_lines renaming pairing names.now) old_version new_version
-        (comparing (reader A.told A.left A.failures old.old) (reader B.told B.left B.failures new.old)
-        (writer W.told W.written W.failures out.old))
-        (comparing (reader A.told A.left A.failures old.new) (reader B.told B.left B.failures new.new)
-        (writer W.told W.written W.failures out.new)) last.new result }
+        (comparing (reader A.Read old.old) (reader B.Read new.old) (writer W.Write out.old))
+        (comparing (reader A.Read old.new) (reader B.Read new.new) (writer W.Write out.new)) last.new result }
 {
     *last = Compared::Old;
     let words = Rope::read(alloc, old, old_version)?;
@@ -86,10 +82,8 @@ pub fn find_engine<S: Read, R: Read, W: Write>(
     out: &mut W,
 ) -> Result<(), WorkshopFault>
     ensures { Finds language version
-        (comparing (reader S.told S.left S.failures source.old) (reader R.told R.left R.failures image.old)
-        (writer W.told W.written W.failures out.old))
-        (comparing (reader S.told S.left S.failures source.new) (reader R.told R.left R.failures image.new)
-        (writer W.told W.written W.failures out.new)) last.new result }
+        (comparing (reader S.Read source.old) (reader R.Read image.old) (writer W.Write out.old))
+        (comparing (reader S.Read source.new) (reader R.Read image.new) (writer W.Write out.new)) last.new result }
 {
     *last = Compared::Old;
     let program = read_program(alloc, language, source)?;
@@ -105,8 +99,8 @@ fn tell_alignment<W: Write>(
     new: &Rope,
     out: &mut W,
 ) -> Result<(), WorkshopFault>
-    ensures { TellsAligned alignment_lines old.now new.now (writer W.told W.written W.failures out.old)
-        (writer W.told W.written W.failures out.new) result }
+    ensures { TellsAligned alignment_lines old.now new.now (writer W.Write out.old)
+        (writer W.Write out.new) result }
 {
     let Ok(alignment) = align(alloc, old, new, LEAST_RUN) else {
         return Err(WorkshopFault::NoMemory);
@@ -123,7 +117,7 @@ fn tell_carried<W: Write>(
     out: &mut W,
 ) -> Result<(), WorkshopFault>
     ensures { TellsAligned (λ _ _ renaming pairing. carried_lines renaming pairing names.now) old.now new.now
-        (writer W.told W.written W.failures out.old) (writer W.told W.written W.failures out.new) result }
+        (writer W.Write out.old) (writer W.Write out.new) result }
 {
     let Ok(alignment) = align(alloc, old, new, LEAST_RUN) else {
         return Err(WorkshopFault::NoMemory);
@@ -138,8 +132,8 @@ fn tell_found<W: Write>(
     rope: &Rope,
     out: &mut W,
 ) -> Result<(), WorkshopFault>
-    ensures { TellsAligned found_lines passage.now rope.now (writer W.told W.written W.failures out.old)
-        (writer W.told W.written W.failures out.new) result }
+    ensures { TellsAligned found_lines passage.now rope.now (writer W.Write out.old)
+        (writer W.Write out.new) result }
 {
     let Ok(alignment) = align(alloc, passage, rope, LEAST_RUN) else {
         return Err(WorkshopFault::NoMemory);

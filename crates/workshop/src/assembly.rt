@@ -30,10 +30,8 @@ pub fn asm_engine<S: Read, I: Write, L: Write>(
     version: Version,
 ) -> Result<(), WorkshopFault>
     ensures { Assembles language version
-        (assembling (reader S.told S.left S.failures source.old) (writer I.told I.written I.failures image.old)
-        (writer L.told L.written L.failures listing.old))
-        (assembling (reader S.told S.left S.failures source.new) (writer I.told I.written I.failures image.new)
-        (writer L.told L.written L.failures listing.new)) result }
+        (assembling (reader S.Read source.old) (writer I.Write image.old) (writer L.Write listing.old))
+        (assembling (reader S.Read source.new) (writer I.Write image.new) (writer L.Write listing.new)) result }
 {
     let program = read_program(alloc, language, source)?;
     write_program(program.rope(), &program, image, listing, version)
@@ -52,10 +50,8 @@ pub fn asm_with_check_words<S: Read, I: Write, L: Write>(
     version: Version,
 ) -> Result<Option<Bank>, WorkshopFault>
     ensures { AssemblesChecked language version
-        (assembling (reader S.told S.left S.failures source.old) (writer I.told I.written I.failures image.old)
-        (writer L.told L.written L.failures listing.old))
-        (assembling (reader S.told S.left S.failures source.new) (writer I.told I.written I.failures image.new)
-        (writer L.told L.written L.failures listing.new)) result }
+        (assembling (reader S.Read source.old) (writer I.Write image.old) (writer L.Write listing.old))
+        (assembling (reader S.Read source.new) (writer I.Write image.new) (writer L.Write listing.new)) result }
 {
     let program = read_program(alloc, language, source)?;
     let mut rope = program.rope().copied(alloc)?;
@@ -75,10 +71,8 @@ fn write_program<I: Write, L: Write>(
     version: Version,
 ) -> Result<(), WorkshopFault>
     ensures { (unread read : Reader) → WritesProgram version words.now program.now
-        (assembling unread (writer I.told I.written I.failures image.old)
-        (writer L.told L.written L.failures listing.old))
-        (assembling read (writer I.told I.written I.failures image.new)
-        (writer L.told L.written L.failures listing.new)) result }
+        (assembling unread (writer I.Write image.old) (writer L.Write listing.old))
+        (assembling read (writer I.Write image.new) (writer L.Write listing.new)) result }
 {
     words.write(image, version)?;
     Ok(program.list(listing)?)

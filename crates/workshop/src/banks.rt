@@ -42,9 +42,8 @@ pub fn compare_banks_engine<R: Read, W: Write>(
     out: &mut W,
 ) -> Result<u32, WorkshopFault>
     ensures { ComparesBanks wordings.now holes source.now version
-        (showing (reader R.told R.left R.failures image.old) (writer W.told W.written W.failures out.old))
-        (showing (reader R.told R.left R.failures image.new) (writer W.told W.written W.failures out.new)) last.new
-        result }
+        (showing (reader R.Read image.old) (writer W.Write out.old))
+        (showing (reader R.Read image.new) (writer W.Write out.new)) last.new result }
 {
     *last = Compared::Old;
     let (program, other) = assemble_assumed(alloc, wordings, holes, source)?;
@@ -83,7 +82,7 @@ fn compare_banks<W: Write>(
     out: &mut W,
 ) -> Result<u32, WorkshopFault>
     ensures { WritesBanks wordings.now source.now program other.now words.now
-        (writer W.told W.written W.failures out.old) (writer W.told W.written W.failures out.new) result }
+        (writer W.Write out.old) (writer W.Write out.new) result }
 {
     let (rope, rows) = program.split_rows();
     let mut around = rope.copied(alloc)?;

@@ -40,8 +40,8 @@ pub fn bound_program<P: Read, W: Write>(
     out: &mut W,
 ) -> Result<Bounded, WorkshopFault>
     ensures { Bounds origin (question routine.now loops.now kept.now)
-        (answering (reader P.told P.left P.failures program.old) (writer W.told W.written W.failures out.old))
-        (answering (reader P.told P.left P.failures program.new) (writer W.told W.written W.failures out.new)) result }
+        (answering (reader P.Read program.old) (writer W.Write out.old))
+        (answering (reader P.Read program.new) (writer W.Write out.new)) result }
 {
     let (rope, symbols, _) = origin.read(alloc, program)?;
     bound_routine(alloc, &rope, &symbols, routine, loops, kept, out)
@@ -58,7 +58,7 @@ fn bound_routine<W: Write>(
     out: &mut W,
 ) -> Result<Bounded, WorkshopFault>
     ensures { BoundsRoutine rope.now symbols.now (question routine.now loops.now kept.now)
-        (writer W.told W.written W.failures out.old) (writer W.told W.written W.failures out.new) result }
+        (writer W.Write out.old) (writer W.Write out.new) result }
 {
     let Some(site) = routine_named(symbols, routine) else {
         return Ok(Bounded::NotNamed);

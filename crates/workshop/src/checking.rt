@@ -59,8 +59,8 @@ pub fn check_source<S: Read, W: Write>(
     out: &mut W,
 ) -> Result<Tally, WorkshopFault>
     ensures { Checks (reported notation language name.now unused)
-        (checking (reader S.told S.left S.failures source.old) (writer W.told W.written W.failures out.old))
-        (checking (reader S.told S.left S.failures source.new) (writer W.told W.written W.failures out.new)) result }
+        (checking (reader S.Read source.old) (writer W.Write out.old))
+        (checking (reader S.Read source.new) (writer W.Write out.new)) result }
 {
     let (text, tally) = read_report(alloc, notation, language, name, unused, source)?;
     write_all(out, &text)?;
@@ -80,8 +80,8 @@ pub fn check_feed<F: Read, W: Write>(
     out: &mut W,
 ) -> Result<usize, WorkshopFault>
     ensures { Checks (feed_reported notation name.now)
-        (checking (reader F.told F.left F.failures feed.old) (writer W.told W.written W.failures out.old))
-        (checking (reader F.told F.left F.failures feed.new) (writer W.told W.written W.failures out.new)) result }
+        (checking (reader F.Read feed.old) (writer W.Write out.old))
+        (checking (reader F.Read feed.new) (writer W.Write out.new)) result }
 {
     let (lines, count) = read_feed_report(alloc, notation, name, feed)?;
     write_all(out, &lines)?;
@@ -95,8 +95,8 @@ pub fn write_tally<W: Write>(
     tally: &Tally,
     out: &mut W,
 ) -> Result<(), WorkshopFault>
-    ensures { TellsTally notation tally.now (writer W.told W.written W.failures out.old)
-        (writer W.told W.written W.failures out.new) result }
+    ensures { TellsTally notation tally.now (writer W.Write out.old)
+        (writer W.Write out.new) result }
 {
     let text = match counts(alloc, notation, tally.errors, tally.warnings) {
         Ok(text) => text,
@@ -131,7 +131,7 @@ fn read_report<S: Read>(
     source: &mut S,
 ) -> Result<(Vec<u8>, Tally), WorkshopFault>
     ensures { Reads (λ old new. ReadsText (reported notation language name.now unused old) old new)
-        (reader S.told S.left S.failures source.old) (reader S.told S.left S.failures source.new)
+        (reader S.Read source.old) (reader S.Read source.new)
         (result_map_both (λ r. (r.0.items, r.1)) (λ fault. fault) result) }
 {
     let text = read_text(alloc, source, MOST_BYTES)?;
@@ -222,7 +222,7 @@ fn read_feed_report<F: Read>(
     feed: &mut F,
 ) -> Result<(Vec<u8>, usize), WorkshopFault>
     ensures { Reads (λ old new. ReadsText (feed_reported notation name.now old) old new)
-        (reader F.told F.left F.failures feed.old) (reader F.told F.left F.failures feed.new)
+        (reader F.Read feed.old) (reader F.Read feed.new)
         (result_map_both (λ r. (r.0.items, r.1)) (λ fault. fault) result) }
 {
     let text = read_text(alloc, feed, MOST_BYTES)?;

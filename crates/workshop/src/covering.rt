@@ -44,12 +44,10 @@ pub fn cover_program<P: Read, F: Read, W: Write, T: Write>(
 ) -> Result<(), WorkshopFault>
     requires { steps ≤ 2 ^ 40 - 2 }
     ensures covers { Covers notation origin steps
-        (running (reader P.told P.left P.failures program.old) (reader F.told F.left F.failures feed.old)
-        (writer W.told W.written W.failures out.old))
-        (running (reader P.told P.left P.failures program.new) (reader F.told F.left F.failures feed.new)
-        (writer W.told W.written W.failures out.new)) result }
-    ensures progress { TellsProfile steps (writer T.told T.written T.failures progress.old)
-        (writer T.told T.written T.failures progress.new) result }
+        (running (reader P.Read program.old) (reader F.Read feed.old) (writer W.Write out.old))
+        (running (reader P.Read program.new) (reader F.Read feed.new) (writer W.Write out.new)) result }
+    ensures progress { TellsProfile steps (writer T.Write progress.old)
+        (writer T.Write progress.new) result }
 {
     let (rope, rows) = read_subject(alloc, notation, origin, program)?;
     let mut processor = Processor::new(rope, read_feed(alloc, feed)?);
@@ -64,7 +62,7 @@ pub(crate) fn read_subject<P: Read>(
     program: &mut P,
 ) -> Result<(Rope, Shown), WorkshopFault>
     ensures { Reads (ReadsSubject notation origin)
-        (reader P.told P.left P.failures program.old) (reader P.told P.left P.failures program.new) result }
+        (reader P.Read program.old) (reader P.Read program.new) result }
 {
     match origin {
         Origin::Source(language) => read_source(alloc, notation, language, program),
@@ -84,7 +82,7 @@ fn read_source<P: Read>(
     program: &mut P,
 ) -> Result<(Rope, Shown), WorkshopFault>
     ensures { Reads (λ old new. ReadsText (subject_of notation (assembled language old)) old new)
-        (reader P.told P.left P.failures program.old) (reader P.told P.left P.failures program.new) result }
+        (reader P.Read program.old) (reader P.Read program.new) result }
 {
     let (rope, symbols, rows) = read_program(alloc, language, program)?.split_all();
     let Ok(names) = names_shown(alloc, notation, symbols) else {
@@ -115,7 +113,7 @@ fn read_named_image<P: Read>(
     program: &mut P,
 ) -> Result<(Rope, Shown), WorkshopFault>
     ensures { Reads (λ old new. ReadsImaged version (Some names) old new)
-        (reader P.told P.left P.failures program.old) (reader P.told P.left P.failures program.new) result }
+        (reader P.Read program.old) (reader P.Read program.new) result }
 {
     let Ok(names) = PlaceNames::new(alloc, names) else {
         return Err(WorkshopFault::NoMemory);
@@ -136,9 +134,9 @@ fn cover<W: Write, T: Write>(
 ) -> Result<(), WorkshopFault>
     requires { steps ≤ 2 ^ 40 - 2 }
     ensures covers { CoversRun notation rows.now processor.old.scenario steps
-        (writer W.told W.written W.failures out.old) (writer W.told W.written W.failures out.new) result }
-    ensures progress { TellsProfile steps (writer T.told T.written T.failures progress.old)
-        (writer T.told T.written T.failures progress.new) result }
+        (writer W.Write out.old) (writer W.Write out.new) result }
+    ensures progress { TellsProfile steps (writer T.Write progress.old)
+        (writer T.Write progress.new) result }
 {
     let Ok(mut tally) = Tally::new(alloc) else {
         return Err(WorkshopFault::NoMemory);

@@ -36,9 +36,8 @@ pub fn open_session<S: Read, F: Read>(
     feed: &mut F,
 ) -> Result<Opened, WorkshopFault>
     ensures opens { Opens (Origin.Source Standard)
-        (program_and_feed (reader S.told S.left S.failures source.old) (reader F.told F.left F.failures feed.old))
-        (program_and_feed (reader S.told S.left S.failures source.new) (reader F.told F.left F.failures feed.new))
-        result }
+        (program_and_feed (reader S.Read source.old) (reader F.Read feed.old))
+        (program_and_feed (reader S.Read source.new) (reader F.Read feed.new)) result }
     ensures start { IfOk result (λ o. o.session.n ≡ 0) }
 {
     open_program(alloc, Origin::Source(Language::Standard), source, feed)
@@ -56,9 +55,8 @@ pub fn open_program<P: Read, F: Read>(
     feed: &mut F,
 ) -> Result<Opened, WorkshopFault>
     ensures opens { Opens origin
-        (program_and_feed (reader P.told P.left P.failures program.old) (reader F.told F.left F.failures feed.old))
-        (program_and_feed (reader P.told P.left P.failures program.new) (reader F.told F.left F.failures feed.new))
-        result }
+        (program_and_feed (reader P.Read program.old) (reader F.Read feed.old))
+        (program_and_feed (reader P.Read program.new) (reader F.Read feed.new)) result }
     ensures start { IfOk result (λ o. o.session.n ≡ 0) }
 {
     let loaded = load(alloc, origin, program, feed)?;
@@ -95,10 +93,10 @@ pub fn debug_program<P: Read, F: Read, R: Read, W: Write>(
     out: &mut W,
 ) -> Result<(), WorkshopFault>
     ensures { DebugsProgram origin
-        (in_session (reader P.told P.left P.failures program.old) (reader F.told F.left F.failures feed.old)
-        (reader R.told R.left R.failures commands.old) (writer W.told W.written W.failures out.old))
-        (in_session (reader P.told P.left P.failures program.new) (reader F.told F.left F.failures feed.new)
-        (reader R.told R.left R.failures commands.new) (writer W.told W.written W.failures out.new)) result }
+        (in_session (reader P.Read program.old) (reader F.Read feed.old)
+        (reader R.Read commands.old) (writer W.Write out.old))
+        (in_session (reader P.Read program.new) (reader F.Read feed.new)
+        (reader R.Read commands.new) (writer W.Write out.new)) result }
 {
     let mut opened = open_program(alloc, origin, program, feed)?;
     debug_session(alloc, &mut opened.session, &opened.symbols, commands, out)?;
@@ -115,10 +113,10 @@ pub fn debug_extended<P: Read, F: Read, R: Read, W: Write>(
     out: &mut W,
 ) -> Result<(), WorkshopFault>
     ensures { DebugsExtended origin
-        (in_session (reader P.told P.left P.failures program.old) (reader F.told F.left F.failures feed.old)
-        (reader R.told R.left R.failures commands.old) (writer W.told W.written W.failures out.old))
-        (in_session (reader P.told P.left P.failures program.new) (reader F.told F.left F.failures feed.new)
-        (reader R.told R.left R.failures commands.new) (writer W.told W.written W.failures out.new)) result }
+        (in_session (reader P.Read program.old) (reader F.Read feed.old)
+        (reader R.Read commands.old) (writer W.Write out.old))
+        (in_session (reader P.Read program.new) (reader F.Read feed.new)
+        (reader R.Read commands.new) (writer W.Write out.new)) result }
 {
     let loaded = load(alloc, origin, program, feed)?;
     let (mut begun, rows) = open_loaded(alloc, loaded)?;
@@ -157,8 +155,8 @@ pub fn follow_source<S: Read, F: Read, H: Fn(&Machine) -> bool, O: Observer>(
     ensures fault { S.told ≡ true → F.told ≡ true
         → IfErr result (λ fault. Tells (prepared (S.left source.old) (F.left feed.old)) (Err fault)) }
     ensures follows { Follows
-        (program_and_feed (reader S.told S.left S.failures source.old) (reader F.told F.left F.failures feed.old))
-        (program_and_feed (reader S.told S.left S.failures source.new) (reader F.told F.left F.failures feed.new))
+        (program_and_feed (reader S.Read source.old) (reader F.Read feed.old))
+        (program_and_feed (reader S.Read source.new) (reader F.Read feed.new))
         observer.old observer.new result }
 {
     let mut opened = open_session(alloc, source, feed)?;

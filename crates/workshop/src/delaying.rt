@@ -35,12 +35,10 @@ pub fn delays_program<P: Read, F: Read, W: Write, T: Write>(
 ) -> Result<(), WorkshopFault>
     requires { steps ≤ 2 ^ 40 - 2 }
     ensures delays { TellsDelays origin steps
-        (running (reader P.told P.left P.failures program.old) (reader F.told F.left F.failures feed.old)
-        (writer W.told W.written W.failures out.old))
-        (running (reader P.told P.left P.failures program.new) (reader F.told F.left F.failures feed.new)
-        (writer W.told W.written W.failures out.new)) result }
-    ensures progress { TellsProfile steps (writer T.told T.written T.failures progress.old)
-        (writer T.told T.written T.failures progress.new) result }
+        (running (reader P.Read program.old) (reader F.Read feed.old) (writer W.Write out.old))
+        (running (reader P.Read program.new) (reader F.Read feed.new) (writer W.Write out.new)) result }
+    ensures progress { TellsProfile steps (writer T.Write progress.old)
+        (writer T.Write progress.new) result }
 {
     let loaded = load(alloc, origin, program, feed)?;
     delays(alloc, loaded, steps, out, progress)
@@ -56,9 +54,9 @@ fn delays<W: Write, T: Write>(
 ) -> Result<(), WorkshopFault>
     requires { steps ≤ 2 ^ 40 - 2 }
     ensures delays { DelaysRun loaded.symbols (scenario_of loaded) steps
-        (writer W.told W.written W.failures out.old) (writer W.told W.written W.failures out.new) result }
-    ensures progress { TellsProfile steps (writer T.told T.written T.failures progress.old)
-        (writer T.told T.written T.failures progress.new) result }
+        (writer W.Write out.old) (writer W.Write out.new) result }
+    ensures progress { TellsProfile steps (writer T.Write progress.old)
+        (writer T.Write progress.new) result }
 {
     let Ok(names) = PlaceNames::new(alloc, loaded.symbols) else {
         return Err(WorkshopFault::NoMemory);

@@ -46,14 +46,10 @@ pub fn differ_program<P: Read, F: Read, Q: Read, G: Read, W: Write>(
 ) -> Result<(), WorkshopFault>
     requires { steps ≤ 2 ^ 40 - 2 }
     ensures { TellsDiffer origin other_origin steps why last.new
-        (pairing
-        (program_and_feed (reader P.told P.left P.failures program.old) (reader F.told F.left F.failures feed.old))
-        (program_and_feed (reader Q.told Q.left Q.failures other.old) (reader G.told G.left G.failures other_feed.old))
-        (writer W.told W.written W.failures out.old))
-        (pairing
-        (program_and_feed (reader P.told P.left P.failures program.new) (reader F.told F.left F.failures feed.new))
-        (program_and_feed (reader Q.told Q.left Q.failures other.new) (reader G.told G.left G.failures other_feed.new))
-        (writer W.told W.written W.failures out.new)) result }
+        (pairing (program_and_feed (reader P.Read program.old) (reader F.Read feed.old))
+        (program_and_feed (reader Q.Read other.old) (reader G.Read other_feed.old)) (writer W.Write out.old))
+        (pairing (program_and_feed (reader P.Read program.new) (reader F.Read feed.new))
+        (program_and_feed (reader Q.Read other.new) (reader G.Read other_feed.new)) (writer W.Write out.new)) result }
 {
     *last = Side::One;
     let loaded = load(alloc, origin, program, feed)?;
@@ -83,10 +79,8 @@ fn differ_beside<Q: Read, G: Read, W: Write>(
 ) -> Result<(), WorkshopFault>
     requires { steps ≤ 2 ^ 40 - 2 }
     ensures { TellsBeside origin (named_of loaded) steps why
-        (running (reader Q.told Q.left Q.failures other.old) (reader G.told G.left G.failures feed.old)
-        (writer W.told W.written W.failures out.old))
-        (running (reader Q.told Q.left Q.failures other.new) (reader G.told G.left G.failures feed.new)
-        (writer W.told W.written W.failures out.new)) result }
+        (running (reader Q.Read other.old) (reader G.Read feed.old) (writer W.Write out.old))
+        (running (reader Q.Read other.new) (reader G.Read feed.new) (writer W.Write out.new)) result }
 {
     let beside = load(alloc, origin, other, feed)?;
     differ(alloc, loaded, beside, steps, why, out)
@@ -103,7 +97,7 @@ fn differ<W: Write>(
 ) -> Result<(), WorkshopFault>
     requires { steps ≤ 2 ^ 40 - 2 }
     ensures { DifferRun (named_of loaded) (named_of beside) steps why
-        (writer W.told W.written W.failures out.old) (writer W.told W.written W.failures out.new) result }
+        (writer W.Write out.old) (writer W.Write out.new) result }
 {
     let Ok(mut one) = named_run(alloc, loaded) else {
         return Err(WorkshopFault::NoMemory);

@@ -80,17 +80,14 @@ pub fn run_program<P: Read, F: Read, W: Write, T: Write>(
 ) -> Result<Summary, WorkshopFault>
     requires { steps ≤ 2 ^ 40 - 2 }
     ensures runs { Runs origin steps
-        (running (reader P.told P.left P.failures program.old) (reader F.told F.left F.failures feed.old)
-        (writer W.told W.written W.failures out.old))
-        (running (reader P.told P.left P.failures program.new) (reader F.told F.left F.failures feed.new)
-        (writer W.told W.written W.failures out.new)) result }
+        (running (reader P.Read program.old) (reader F.Read feed.old) (writer W.Write out.old))
+        (running (reader P.Read program.new) (reader F.Read feed.new) (writer W.Write out.new)) result }
     ensures handed_on { W.told ≡ true → 0 < steps → OnOk result (W.handed_on out.new ≡ W.written out.new) }
     ensures progress { TellsLoaded loaded_text origin steps
-        (program_and_feed (reader P.told P.left P.failures program.old) (reader F.told F.left F.failures feed.old))
-        (program_and_feed (reader P.told P.left P.failures program.new) (reader F.told F.left F.failures feed.new))
-        (telling (writer W.told W.written W.failures out.old) (writer T.told T.written T.failures progress.old))
-        (telling (writer W.told W.written W.failures out.new) (writer T.told T.written T.failures progress.new))
-        result }
+        (program_and_feed (reader P.Read program.old) (reader F.Read feed.old))
+        (program_and_feed (reader P.Read program.new) (reader F.Read feed.new))
+        (telling (writer W.Write out.old) (writer T.Write progress.old))
+        (telling (writer W.Write out.new) (writer T.Write progress.new)) result }
 {
     let loaded = load(alloc, origin, program, feed)?;
     let mut processor = Processor::new(loaded.rope, loaded.feed);
@@ -110,13 +107,12 @@ pub(crate) fn run<W: Write, T: Write>(
 ) -> Result<Summary, WorkshopFault>
     requires { steps ≤ 2 ^ 40 - 2 }
     ensures makes { Makes processor.old.scenario steps
-        (writer W.told W.written W.failures out.old) (writer W.told W.written W.failures out.new) result }
+        (writer W.Write out.old) (writer W.Write out.new) result }
     ensures scenario { OnOk result (processor.new.scenario ≡ processor.old.scenario) }
     ensures handed_on { W.told ≡ true → 0 < steps → OnOk result (W.handed_on out.new ≡ W.written out.new) }
     ensures progress { TellsWritten (run_text processor.old.scenario) steps
-        (telling (writer W.told W.written W.failures out.old) (writer T.told T.written T.failures progress.old))
-        (telling (writer W.told W.written W.failures out.new) (writer T.told T.written T.failures progress.new))
-        result }
+        (telling (writer W.Write out.old) (writer T.Write progress.old))
+        (telling (writer W.Write out.new) (writer T.Write progress.new)) result }
 {
     let mut machine = Machine::start();
     let mut written = OutputLines { count: 0 };

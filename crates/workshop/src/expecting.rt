@@ -57,10 +57,8 @@ pub fn judge_program<P: Read, F: Read, W: Write>(
     requires steps { tests.now.steps ≤ 2 ^ 40 - 2 }
     requires short { tests.now.line + length tests.now.tests.now ≤ 2 ^ 20 }
     ensures { Judges (task_of tests.now)
-        (running (reader P.told P.left P.failures program.old) (reader F.told F.left F.failures feed.old)
-        (writer W.told W.written W.failures out.old))
-        (running (reader P.told P.left P.failures program.new) (reader F.told F.left F.failures feed.new)
-        (writer W.told W.written W.failures out.new)) result }
+        (running (reader P.Read program.old) (reader F.Read feed.old) (writer W.Write out.old))
+        (running (reader P.Read program.new) (reader F.Read feed.new) (writer W.Write out.new)) result }
 {
     let (text, program) = read_source(alloc, program)?;
     let feed = read_feed(alloc, feed)?;
@@ -70,7 +68,7 @@ pub fn judge_program<P: Read, F: Read, W: Write>(
 /// Reads a source whole, and assembles it.
 fn read_source<S: Read>(alloc: Global, source: &mut S) -> Result<(Vec<u8>, Program), WorkshopFault>
     ensures { Reads (λ old new. ReadsText (read_of old) old new)
-        (reader S.told S.left S.failures source.old) (reader S.told S.left S.failures source.new)
+        (reader S.Read source.old) (reader S.Read source.new)
         (result_map_both (λ r. (r.0.items, r.1)) (λ fault. fault) result) }
 {
     let text = read_text(alloc, source, MOST_BYTES)?;
@@ -90,7 +88,7 @@ fn judge_source<W: Write>(
     requires steps { tests.now.steps ≤ 2 ^ 40 - 2 }
     requires short { tests.now.line + length tests.now.tests.now ≤ 2 ^ 20 }
     ensures { JudgesRun (task_of tests.now) (text.now, program) feed
-        (writer W.told W.written W.failures out.old) (writer W.told W.written W.failures out.new) result }
+        (writer W.Write out.old) (writer W.Write out.new) result }
 {
     let Ok(named) = program.named_places(alloc) else {
         return Err(WorkshopFault::NoMemory);
@@ -160,7 +158,7 @@ fn judge_claims<W: Write>(
     ensures { JudgesClaims (task_of tests.now)
         (record { text = text.now; lines = rows.now; symbols = names.now; named = named })
         processor.old.scenario claims.now
-        (writer W.told W.written W.failures out.old) (writer W.told W.written W.failures out.new) result }
+        (writer W.Write out.old) (writer W.Write out.new) result }
 {
     let mut machine = Machine::start();
     let Ok(watches) = judge(alloc, processor, &mut machine, claims, tests.steps) else {

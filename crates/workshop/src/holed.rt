@@ -33,9 +33,8 @@ pub fn asm_with_holes<I: Write, L: Write>(
     version: Version,
 ) -> Result<(), WorkshopFault>
     ensures { AssemblesWithHoles version (option_map (λ r. r.now) filling.entry) source.now
-        (printing (writer I.told I.written I.failures image.old) (writer L.told L.written L.failures listing.old))
-        (printing (writer I.told I.written I.failures image.new) (writer L.told L.written L.failures listing.new))
-        result }
+        (printing (writer I.Write image.old) (writer L.Write listing.old))
+        (printing (writer I.Write image.new) (writer L.Write listing.new)) result }
 {
     let (program, other) = assemble_with_holes(alloc, source)?;
     match filling {
@@ -58,9 +57,8 @@ pub fn asm_filled_with_check_words<I: Write, L: Write>(
     version: Version,
 ) -> Result<Option<Bank>, WorkshopFault>
     ensures { AssemblesFilledChecked version filling.now source.now
-        (printing (writer I.told I.written I.failures image.old) (writer L.told L.written L.failures listing.old))
-        (printing (writer I.told I.written I.failures image.new) (writer L.told L.written L.failures listing.new))
-        result }
+        (printing (writer I.Write image.old) (writer L.Write listing.old))
+        (printing (writer I.Write image.new) (writer L.Write listing.new)) result }
 {
     let (program, other) = assemble_with_holes(alloc, source)?;
     fill_and_sum(alloc, &program, &other, filling, image, listing, version)
@@ -79,9 +77,8 @@ fn fill_and_sum<I: Write, L: Write>(
     version: Version,
 ) -> Result<Option<Bank>, WorkshopFault>
     ensures { PrintsSummed version program.now other.now (filled program.now.rope other.now from.now)
-        (printing (writer I.told I.written I.failures image.old) (writer L.told L.written L.failures listing.old))
-        (printing (writer I.told I.written I.failures image.new) (writer L.told L.written L.failures listing.new))
-        result }
+        (printing (writer I.Write image.old) (writer L.Write listing.old))
+        (printing (writer I.Write image.new) (writer L.Write listing.new)) result }
 {
     let mut words = filled(alloc, program.rope(), other, from)?;
     print_summed(&mut words, program, other, image, listing, version)
@@ -98,9 +95,8 @@ fn print_summed<I: Write, L: Write>(
     version: Version,
 ) -> Result<Option<Bank>, WorkshopFault>
     ensures { PrintsWithRoom version program.now other.now words.old
-        (printing (writer I.told I.written I.failures image.old) (writer L.told L.written L.failures listing.old))
-        (printing (writer I.told I.written I.failures image.new) (writer L.told L.written L.failures listing.new))
-        result }
+        (printing (writer I.Write image.old) (writer L.Write listing.old))
+        (printing (writer I.Write image.new) (writer L.Write listing.new)) result }
 {
     if let Err(NoRoom { bank }) = add_check_words(words) {
         return Ok(Some(bank));
@@ -121,9 +117,8 @@ fn fill_and_print<I: Write, L: Write>(
     version: Version,
 ) -> Result<(), WorkshopFault>
     ensures { FillsAndPrints version program.now other.now from.now
-        (printing (writer I.told I.written I.failures image.old) (writer L.told L.written L.failures listing.old))
-        (printing (writer I.told I.written I.failures image.new) (writer L.told L.written L.failures listing.new))
-        result }
+        (printing (writer I.Write image.old) (writer L.Write listing.old))
+        (printing (writer I.Write image.new) (writer L.Write listing.new)) result }
 {
     let words = filled(alloc, program.rope(), other, from)?;
     print_filled(&words, program, other, image, listing, version)
@@ -139,9 +134,8 @@ fn print_filled<I: Write, L: Write>(
     version: Version,
 ) -> Result<(), WorkshopFault>
     ensures { PrintsFilled version program.now other.now words.now
-        (printing (writer I.told I.written I.failures image.old) (writer L.told L.written L.failures listing.old))
-        (printing (writer I.told I.written I.failures image.new) (writer L.told L.written L.failures listing.new))
-        result }
+        (printing (writer I.Write image.old) (writer L.Write listing.old))
+        (printing (writer I.Write image.new) (writer L.Write listing.new)) result }
 {
     words.write(image, version)?;
     list_holes(words, program, other, listing)
@@ -155,7 +149,7 @@ fn list_holes<L: Write>(
     listing: &mut L,
 ) -> Result<(), WorkshopFault>
     ensures { WritesText (listing_with program.now other.now words.now)
-        (writer L.told L.written L.failures listing.old) (writer L.told L.written L.failures listing.new) result }
+        (writer L.Write listing.old) (writer L.Write listing.new) result }
 {
     program.list(listing)?;
     Ok(write_holes(program.rope(), other, words, listing)?)

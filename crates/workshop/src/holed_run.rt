@@ -43,10 +43,8 @@ pub fn run_to_hole<F: Read, W: Write, E: Write>(
 ) -> Result<HoledSummary, WorkshopFault>
     requires { steps ≤ 2 ^ 40 - 2 }
     ensures { RunsToHole source.now steps
-        (holed_running (reader F.told F.left F.failures feed.old)
-        (stopping (writer W.told W.written W.failures out.old) (writer E.told E.written E.failures errors.old)))
-        (holed_running (reader F.told F.left F.failures feed.new)
-        (stopping (writer W.told W.written W.failures out.new) (writer E.told E.written E.failures errors.new)))
+        (holed_running (reader F.Read feed.old) (stopping (writer W.Write out.old) (writer E.Write errors.old)))
+        (holed_running (reader F.Read feed.new) (stopping (writer W.Write out.new) (writer E.Write errors.new)))
         result }
 {
     let (program, other) = assemble_with_holes(alloc, source)?;
@@ -65,9 +63,8 @@ fn run_holed<W: Write, E: Write>(
 ) -> Result<HoledSummary, WorkshopFault>
     requires { steps ≤ 2 ^ 40 - 2 }
     ensures { RunsHoled program other.now feed steps
-        (stopping (writer W.told W.written W.failures out.old) (writer E.told E.written E.failures errors.old))
-        (stopping (writer W.told W.written W.failures out.new) (writer E.told E.written E.failures errors.new))
-        result }
+        (stopping (writer W.Write out.old) (writer E.Write errors.old))
+        (stopping (writer W.Write out.new) (writer E.Write errors.new)) result }
 {
     let (rope, _, rows) = program.split_all();
     let mut processor = Processor::new(rope, feed);
@@ -99,7 +96,7 @@ fn tell_hole<E: Write>(
 ) -> Result<HoledSummary, WorkshopFault>
     requires { IfSome found.now (λ hole. hole.steps < 2 ^ 40) }
     ensures { TellsFound rows.now words.now found.now summary.now
-        (writer E.told E.written E.failures errors.old) (writer E.told E.written E.failures errors.new) result }
+        (writer E.Write errors.old) (writer E.Write errors.new) result }
 {
     let Some(hole) = found else {
         return Ok(HoledSummary {

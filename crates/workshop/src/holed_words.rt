@@ -29,9 +29,8 @@ pub fn holed_words_engine<R: Read, W: Write>(
     out: &mut W,
 ) -> Result<(), WorkshopFault>
     ensures { ShowsHoled source.now version bank
-        (showing (reader R.told R.left R.failures image.old) (writer W.told W.written W.failures out.old))
-        (showing (reader R.told R.left R.failures image.new) (writer W.told W.written W.failures out.new))
-        result }
+        (showing (reader R.Read image.old) (writer W.Write out.old))
+        (showing (reader R.Read image.new) (writer W.Write out.new)) result }
 {
     let (program, other) = assemble_with_holes(alloc, source)?;
     show_with_holes(alloc, program, &other, image, version, bank, out)
@@ -48,9 +47,8 @@ fn show_with_holes<R: Read, W: Write>(
     out: &mut W,
 ) -> Result<(), WorkshopFault>
     ensures { ShowsWithHoles version bank program other.now
-        (showing (reader R.told R.left R.failures image.old) (writer W.told W.written W.failures out.old))
-        (showing (reader R.told R.left R.failures image.new) (writer W.told W.written W.failures out.new))
-        result }
+        (showing (reader R.Read image.old) (writer W.Write out.old))
+        (showing (reader R.Read image.new) (writer W.Write out.new)) result }
 {
     let (words, symbols, _) = program.split_all();
     let Ok(names) = PlaceNames::new(alloc, symbols) else {

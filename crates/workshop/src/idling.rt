@@ -30,18 +30,14 @@ pub fn run_until_idle<P: Read, F: Read, W: Write, T: Write>(
 ) -> Result<Summary, WorkshopFault>
     requires { most ≤ 2 ^ 40 - 2 }
     ensures runs { RunsUntilIdle origin most
-        (running (reader P.told P.left P.failures program.old) (reader F.told F.left F.failures feed.old)
-        (writer W.told W.written W.failures out.old))
-        (running (reader P.told P.left P.failures program.new) (reader F.told F.left F.failures feed.new)
-        (writer W.told W.written W.failures out.new))
-        result }
+        (running (reader P.Read program.old) (reader F.Read feed.old) (writer W.Write out.old))
+        (running (reader P.Read program.new) (reader F.Read feed.new) (writer W.Write out.new)) result }
     ensures handed_on { W.told ≡ true → 0 < most → OnOk result (W.handed_on out.new ≡ W.written out.new) }
     ensures progress { TellsUntilIdle origin most
-        (program_and_feed (reader P.told P.left P.failures program.old) (reader F.told F.left F.failures feed.old))
-        (program_and_feed (reader P.told P.left P.failures program.new) (reader F.told F.left F.failures feed.new))
-        (telling (writer W.told W.written W.failures out.old) (writer T.told T.written T.failures progress.old))
-        (telling (writer W.told W.written W.failures out.new) (writer T.told T.written T.failures progress.new))
-        result }
+        (program_and_feed (reader P.Read program.old) (reader F.Read feed.old))
+        (program_and_feed (reader P.Read program.new) (reader F.Read feed.new))
+        (telling (writer W.Write out.old) (writer T.Write progress.old))
+        (telling (writer W.Write out.new) (writer T.Write progress.new)) result }
 {
     let loaded = load(alloc, origin, program, feed)?;
     let mut processor = Processor::new(loaded.rope, loaded.feed);

@@ -29,9 +29,8 @@ pub(crate) fn load<P: Read, F: Read>(
     feed: &mut F,
 ) -> Result<Loaded, WorkshopFault>
     ensures { Loads origin
-        (program_and_feed (reader P.told P.left P.failures program.old) (reader F.told F.left F.failures feed.old))
-        (program_and_feed (reader P.told P.left P.failures program.new) (reader F.told F.left F.failures feed.new))
-        result }
+        (program_and_feed (reader P.Read program.old) (reader F.Read feed.old))
+        (program_and_feed (reader P.Read program.new) (reader F.Read feed.new)) result }
 {
     let (rope, symbols, rows) = origin.read(alloc, program)?;
     let feed = read_feed(alloc, feed)?;
@@ -50,7 +49,7 @@ pub(crate) fn read_program<S: Read>(
     source: &mut S,
 ) -> Result<Program, WorkshopFault>
     ensures { Reads (λ old new. ReadsText (assembled language old) old new)
-        (reader S.told S.left S.failures source.old) (reader S.told S.left S.failures source.new) result }
+        (reader S.Read source.old) (reader S.Read source.new) result }
 {
     let text = read_text(alloc, source, MOST_BYTES)?;
     Ok(assemble(alloc, language, &text)?)
@@ -59,7 +58,7 @@ pub(crate) fn read_program<S: Read>(
 /// Reads a feed.
 pub(crate) fn read_feed<F: Read>(alloc: Global, feed: &mut F) -> Result<Feed, WorkshopFault>
     ensures { Reads ReadsInputs
-        (reader F.told F.left F.failures feed.old) (reader F.told F.left F.failures feed.new) result }
+        (reader F.Read feed.old) (reader F.Read feed.new) result }
 {
     Ok(feed::read(alloc, feed)?)
 }

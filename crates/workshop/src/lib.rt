@@ -47,7 +47,7 @@ pub use bounding::{Bounded, bound_program};
 pub use checking::{Tally, check_feed, check_source, unread_text, write_tally};
 pub use commands_end::{Counted, tell_commands_end};
 pub use covering::cover_program;
-pub use crossing::{crossed_words_engine, xref_engine};
+pub use crossing::xref_engine;
 pub use debugger::{debug_session, extended_session};
 pub use debugging::{
     Opened, debug_extended, debug_program, follow_source, open_program, open_session,
@@ -66,7 +66,7 @@ pub use fault::{WorkshopFault, report};
 pub use holed::{asm_filled_with_check_words, asm_with_holes};
 pub use holed_run::{HoledSummary, run_to_hole};
 pub use idling::run_until_idle;
-pub use naming::{named_source_engine, read_names};
+pub use naming::{NamedText, named_text_engine, read_names};
 pub use near_names::near_in;
 pub use noting::run_with_notes;
 pub use origin::Origin;
@@ -75,9 +75,8 @@ pub use reaching::reach_program;
 pub use refused::report_where;
 pub use rope::{Form, InForm, Rope, Version};
 pub use ropes::{
-    Compared, compare_engine, compare_only_engine, damages_engine, form_sums_engine, mended_engine,
-    named_words_engine, octals_engine, parity_engine, source_engine, sums_engine, upgrade_engine,
-    words_engine,
+    Compared, RopeText, compare_engine, compare_only_engine, damages_engine, mended_engine,
+    named_words_engine, parity_engine, show_engine, upgrade_engine,
 };
 pub use run_reaching::reach_run;
 pub use say::LineForm;

@@ -56,20 +56,16 @@ pub fn run_with_notes<P: Read, F: Read, W: Write, T: Write, N: Write>(
 ) -> Result<Summary, WorkshopFault>
     requires { steps ≤ 2 ^ 40 - 2 }
     ensures runs { RunsNoted notation origin steps
-        (running_noted
-        (program_and_feed (reader P.told P.left P.failures program.old) (reader F.told F.left F.failures feed.old))
-        (out_and_notes (writer W.told W.written W.failures out.old) (writer N.told N.written N.failures notes.old)))
-        (running_noted
-        (program_and_feed (reader P.told P.left P.failures program.new) (reader F.told F.left F.failures feed.new))
-        (out_and_notes (writer W.told W.written W.failures out.new) (writer N.told N.written N.failures notes.new)))
-        result }
+        (running_noted (program_and_feed (reader P.Read program.old) (reader F.Read feed.old))
+        (out_and_notes (writer W.Write out.old) (writer N.Write notes.old)))
+        (running_noted (program_and_feed (reader P.Read program.new) (reader F.Read feed.new))
+        (out_and_notes (writer W.Write out.new) (writer N.Write notes.new))) result }
     ensures handed_on { W.told ≡ true → 0 < steps → OnOk result (W.handed_on out.new ≡ W.written out.new) }
     ensures progress { TellsRead origin steps
-        (program_and_feed (reader P.told P.left P.failures program.old) (reader F.told F.left F.failures feed.old))
-        (program_and_feed (reader P.told P.left P.failures program.new) (reader F.told F.left F.failures feed.new))
-        (telling (writer W.told W.written W.failures out.old) (writer T.told T.written T.failures progress.old))
-        (telling (writer W.told W.written W.failures out.new) (writer T.told T.written T.failures progress.new))
-        result }
+        (program_and_feed (reader P.Read program.old) (reader F.Read feed.old))
+        (program_and_feed (reader P.Read program.new) (reader F.Read feed.new))
+        (telling (writer W.Write out.old) (writer T.Write progress.old))
+        (telling (writer W.Write out.new) (writer T.Write progress.new)) result }
 {
     let code = read_named(alloc, origin, program)?;
     let feed = read_feed(alloc, feed)?;
@@ -99,7 +95,7 @@ pub(crate) fn read_named<P: Read>(
     program: &mut P,
 ) -> Result<NamedCode, WorkshopFault>
     ensures { Reads (ReadsNamed origin)
-        (reader P.told P.left P.failures program.old) (reader P.told P.left P.failures program.new) result }
+        (reader P.Read program.old) (reader P.Read program.new) result }
 {
     match origin {
         Origin::Source(language) => read_named_source(alloc, language, program),
@@ -115,7 +111,7 @@ fn read_unnamed<P: Read>(
     program: &mut P,
 ) -> Result<NamedCode, WorkshopFault>
     ensures { Reads (λ old new. ReadsNamedImage version old new)
-        (reader P.told P.left P.failures program.old) (reader P.told P.left P.failures program.new) result }
+        (reader P.Read program.old) (reader P.Read program.new) result }
 {
     let Ok(named) = NamedPlaces::nothing(alloc) else {
         return Err(WorkshopFault::NoMemory);
@@ -135,7 +131,7 @@ fn read_named_source<P: Read>(
     program: &mut P,
 ) -> Result<NamedCode, WorkshopFault>
     ensures { Reads (λ old new. ReadsText (named_of (assembled language old)) old new)
-        (reader P.told P.left P.failures program.old) (reader P.told P.left P.failures program.new) result }
+        (reader P.Read program.old) (reader P.Read program.new) result }
 {
     let assembled = read_program(alloc, language, program)?;
     let Ok(named) = assembled.named_places(alloc) else {
@@ -164,14 +160,12 @@ pub(crate) fn run_then_note<W: Write, T: Write, N: Write>(
     requires none { (scenario : Scenario) → Counted notebook.named scenario 0 notebook }
     ensures ends { EndsNoted (notes_text notation names.now notebook.named processor.old.scenario steps)
         processor.old.scenario steps
-        (out_and_notes (writer W.told W.written W.failures out.old) (writer N.told N.written N.failures notes.old))
-        (out_and_notes (writer W.told W.written W.failures out.new) (writer N.told N.written N.failures notes.new))
-        result }
+        (out_and_notes (writer W.Write out.old) (writer N.Write notes.old))
+        (out_and_notes (writer W.Write out.new) (writer N.Write notes.new)) result }
     ensures handed_on { W.told ≡ true → 0 < steps → OnOk result (W.handed_on out.new ≡ W.written out.new) }
     ensures progress { TellsNoted (run_text processor.old.scenario) steps
-        (telling (writer W.told W.written W.failures out.old) (writer T.told T.written T.failures progress.old))
-        (telling (writer W.told W.written W.failures out.new) (writer T.told T.written T.failures progress.new))
-        result }
+        (telling (writer W.Write out.old) (writer T.Write progress.old))
+        (telling (writer W.Write out.new) (writer T.Write progress.new)) result }
     ensures meter { processor.new.meter ≤ processor.old.meter + 2 * steps }
 {
     let mut machine = Machine::start();
@@ -204,7 +198,7 @@ fn run_noting<W: Write, T: Write>(
     requires lines { noting.old.lines ≡ 0 }
     requires start { machine.old ≡ start }
     ensures makes { Makes processor.old.scenario steps
-        (writer W.told W.written W.failures out.old) (writer W.told W.written W.failures out.new) result }
+        (writer W.Write out.old) (writer W.Write out.new) result }
     ensures scenario { processor.new.scenario ≡ processor.old.scenario }
     ensures end { OnOk result (machine.new ≡ run processor.old.scenario steps) }
     ensures named { OnOk result (noting.new.notebook.named ≡ noting.old.notebook.named) }
@@ -212,9 +206,8 @@ fn run_noting<W: Write, T: Write>(
     ensures summary { IfOk result (λ summary. summary ≡ summary_of processor.old.scenario steps) }
     ensures handed_on { W.told ≡ true → 0 < steps → OnOk result (W.handed_on out.new ≡ W.written out.new) }
     ensures progress { TellsWritten (run_text processor.old.scenario) steps
-        (telling (writer W.told W.written W.failures out.old) (writer T.told T.written T.failures progress.old))
-        (telling (writer W.told W.written W.failures out.new) (writer T.told T.written T.failures progress.new))
-        result }
+        (telling (writer W.Write out.old) (writer T.Write progress.old))
+        (telling (writer W.Write out.new) (writer T.Write progress.new)) result }
     ensures meter { processor.new.meter ≤ processor.old.meter + steps }
 {
     run_all(noting, processor, machine, steps, out, progress)?;

@@ -30,7 +30,7 @@ impl Origin {
         file: &mut R,
     ) -> Result<(Rope, Symbols, SourceRows), WorkshopFault>
         ensures { Reads (ReadsProgram self)
-            (reader R.told R.left R.failures file.old) (reader R.told R.left R.failures file.new) result }
+            (reader R.Read file.old) (reader R.Read file.new) result }
     {
         match self {
             Origin::Source(language) => Ok(read_program(alloc, language, file)?.split_all()),

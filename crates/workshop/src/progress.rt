@@ -42,8 +42,8 @@ pub(crate) fn tell<T: Write>(
     steps: u64,
     progress: &mut T,
 ) -> Result<(), WriteFailed>
-    ensures { TellsNext steps (writer T.told T.written T.failures progress.old)
-        (writer T.told T.written T.failures progress.new) told result }
+    ensures { TellsNext steps (writer T.Write progress.old)
+        (writer T.Write progress.new) told result }
 {
     told?;
     if steps % STEPS_BETWEEN_FLUSHES == 0 {

@@ -32,8 +32,8 @@ pub fn reach_program<P: Read, W: Write>(
     out: &mut W,
 ) -> Result<(), WorkshopFault>
     ensures { Reaches origin shows_roots
-        (answering (reader P.told P.left P.failures program.old) (writer W.told W.written W.failures out.old))
-        (answering (reader P.told P.left P.failures program.new) (writer W.told W.written W.failures out.new)) result }
+        (answering (reader P.Read program.old) (writer W.Write out.old))
+        (answering (reader P.Read program.new) (writer W.Write out.new)) result }
 {
     let addressing = read_addressing(alloc, origin, program)?;
     write_reached(alloc, &addressing, shows_roots, out)
@@ -46,8 +46,8 @@ fn write_reached<W: Write>(
     shows_roots: bool,
     out: &mut W,
 ) -> Result<(), WorkshopFault>
-    ensures { ReachesText program.now shows_roots (writer W.told W.written W.failures out.old)
-        (writer W.told W.written W.failures out.new) result }
+    ensures { ReachesText program.now shows_roots (writer W.Write out.old)
+        (writer W.Write out.new) result }
 {
     let Ok(led) = led(alloc, program, shows_roots) else {
         return Err(WorkshopFault::NoMemory);

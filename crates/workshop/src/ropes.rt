@@ -1,16 +1,12 @@
 //! The engines that read images: they show them as text, compare them, and upgrade them.
 
-ghost use Rattle.std.specs.Prelude.{ℕ, List};
-ghost use Rattle.audit.specs.FormNames.{form_lines};
-ghost use Rattle.audit.specs.Octals.{octals_text};
-ghost use Rattle.audit.specs.SourceLines.{source_text};
-ghost use Rattle.audit.specs.Sums.{sum_lines};
-ghost use Rattle.audit.specs.WordLines.{word_lines};
+ghost use Rattle.std.specs.Prelude.{◌≡◌, true};
+ghost use Rattle.words.specs.Devices.{Writes, failures_after};
 ghost use Rattle.names.specs.NamedLines.{named_lines};
 ghost use Rattle.rope.specs.Image.{image};
 ghost use Rattle.workshop.specs.Failures.{Reader, reader, writer};
 ghost use Rattle.workshop.specs.Ropes.{Compares, ComparesNext, ComparesOnly, Shows, ShowsMended, TellsDamages};
-ghost use Rattle.workshop.specs.Ropes.{comparing, showing};
+ghost use Rattle.workshop.specs.Ropes.{comparing, showing, shown_text};
 ghost use Rattle.workshop.specs.Ropes.{TellsParity, WritesCompared, WritesUncertain};
 
 use crate::fault::WorkshopFault;
@@ -25,7 +21,7 @@ use rope::{Dump, Rope, Version};
 use space::Bank;
 use std::alloc::Global;
 use trace::PlaceNames;
-use words::{Read, Write};
+use words::{Read, Write, WriteFailed};
 use yayul::{Language, Program, Symbols};
 
 /// Which of two that are compared.
@@ -37,28 +33,62 @@ pub enum Compared {
     New,
 }
 
-/// Reads a rope image of a version to its end, and writes a line for each word of a bank, or of all banks: its place,
-/// the word, and the instruction that it is.
+/// What is shown of the words of an image.
+#[derive(Clone, Copy)]
+pub enum RopeText {
+    /// A line for each word of a bank, or of all banks: its place, the word, and the instruction that it is.
+    Words(Option<Bank>),
+    /// A source that gives the words of a bank, or of all banks.
+    Source(Option<Bank>),
+    /// The octal words of a bank, or of all banks.
+    Octals(Option<Bank>),
+    /// A line for each bank: its number, and the sum of its words.
+    Sums,
+    /// A line for each bank: its number, the sums of its words in both orders of the bits, and in which forms the sum
+    /// is the bank's number or the complement of it.
+    FormSums,
+}
+
+/// Reads a rope image of a version to its end, and writes what is to be shown of its words.
 ///
 /// The first fault of the image is answered, and then nothing is written.
-pub fn words_engine<R: Read, W: Write>(
+pub fn show_engine<R: Read, W: Write>(
     alloc: Global,
     image: &mut R,
     version: Version,
-    bank: Option<Bank>,
+    text: RopeText,
     out: &mut W,
 ) -> Result<(), WorkshopFault>
-    ensures { Shows version (λ words. word_lines words bank)
-        (showing (reader R.told R.left R.failures image.old) (writer W.told W.written W.failures out.old))
-        (showing (reader R.told R.left R.failures image.new) (writer W.told W.written W.failures out.new))
-        result }
+    ensures { Shows version (shown_text text version)
+        (showing (reader R.Read image.old) (writer W.Write out.old))
+        (showing (reader R.Read image.new) (writer W.Write out.new)) result }
 {
     let rope = Rope::read(alloc, image, version)?;
-    Ok(write_words(&rope, bank, out)?)
+    Ok(write_shown(&rope, version, text, out)?)
+}
+
+/// Writes what is to be shown of the words of an image of a version.
+fn write_shown<W: Write>(
+    rope: &Rope,
+    version: Version,
+    text: RopeText,
+    out: &mut W,
+) -> Result<(), WriteFailed>
+    ensures written { W.told ≡ true → Writes (W.written out.old) (W.written out.new)
+        (shown_text text version rope.now) result }
+    ensures failures { W.failures out.new ≡ failures_after (W.failures out.old) result }
+{
+    match text {
+        RopeText::Words(bank) => write_words(rope, bank, out),
+        RopeText::Source(bank) => write_source(rope, bank, out),
+        RopeText::Octals(bank) => write_octals(rope, bank, out),
+        RopeText::Sums => write_sums(rope, out),
+        RopeText::FormSums => write_form_sums(rope, version, out),
+    }
 }
 
 /// Reads a rope image of a version to its end, and writes a line for each word of a bank, or of all banks, as
-/// `words_engine` does, with names for the places to which the words lead.
+/// `show_engine` does, with names for the places to which the words lead.
 ///
 /// That there is no memory for the names is answered before anything is read, else the first fault of the image; then
 /// nothing is written.
@@ -71,90 +101,14 @@ pub fn named_words_engine<R: Read, W: Write>(
     out: &mut W,
 ) -> Result<(), WorkshopFault>
     ensures { Shows version (λ words. named_lines names words bank)
-        (showing (reader R.told R.left R.failures image.old) (writer W.told W.written W.failures out.old))
-        (showing (reader R.told R.left R.failures image.new) (writer W.told W.written W.failures out.new))
-        result }
+        (showing (reader R.Read image.old) (writer W.Write out.old))
+        (showing (reader R.Read image.new) (writer W.Write out.new)) result }
 {
     let Ok(named) = PlaceNames::new(alloc, names) else {
         return Err(WorkshopFault::NoMemory);
     };
-    let rope = Rope::read(alloc, image, version)?;
-    Ok(write_named_words(&rope, &named, bank, out)?)
-}
-
-/// Reads a rope image of a version to its end, and writes a source that gives the words of a bank, or of all banks.
-///
-/// The first fault of the image is answered, and then nothing is written.
-pub fn source_engine<R: Read, W: Write>(
-    alloc: Global,
-    image: &mut R,
-    version: Version,
-    bank: Option<Bank>,
-    out: &mut W,
-) -> Result<(), WorkshopFault>
-    ensures { Shows version (λ words. source_text words bank)
-        (showing (reader R.told R.left R.failures image.old) (writer W.told W.written W.failures out.old))
-        (showing (reader R.told R.left R.failures image.new) (writer W.told W.written W.failures out.new))
-        result }
-{
-    let rope = Rope::read(alloc, image, version)?;
-    Ok(write_source(&rope, bank, out)?)
-}
-
-/// Reads a rope image of a version to its end, and writes a text of octal words of a bank, or of all banks.
-///
-/// The first fault of the image is answered, and then nothing is written.
-pub fn octals_engine<R: Read, W: Write>(
-    alloc: Global,
-    image: &mut R,
-    version: Version,
-    bank: Option<Bank>,
-    out: &mut W,
-) -> Result<(), WorkshopFault>
-    ensures { Shows version (λ words. octals_text words bank)
-        (showing (reader R.told R.left R.failures image.old) (writer W.told W.written W.failures out.old))
-        (showing (reader R.told R.left R.failures image.new) (writer W.told W.written W.failures out.new))
-        result }
-{
-    let rope = Rope::read(alloc, image, version)?;
-    Ok(write_octals(&rope, bank, out)?)
-}
-
-/// Reads a rope image of a version to its end, and writes a line for each bank: its number, and the sum of its words.
-///
-/// The first fault of the image is answered, and then nothing is written.
-pub fn sums_engine<R: Read, W: Write>(
-    alloc: Global,
-    rope: &mut R,
-    version: Version,
-    out: &mut W,
-) -> Result<(), WorkshopFault>
-    ensures { Shows version sum_lines
-        (showing (reader R.told R.left R.failures rope.old) (writer W.told W.written W.failures out.old))
-        (showing (reader R.told R.left R.failures rope.new) (writer W.told W.written W.failures out.new))
-        result }
-{
-    let words = Rope::read(alloc, rope, version)?;
-    Ok(write_sums(&words, out)?)
-}
-
-/// Reads a rope image of a version to its end, and writes a line for each bank: its number, the sums of its words in
-/// both orders of the bits, and in which forms the sum is the bank's number or the complement of it.
-///
-/// The first fault of the image is answered, and then nothing is written.
-pub fn form_sums_engine<R: Read, W: Write>(
-    alloc: Global,
-    rope: &mut R,
-    version: Version,
-    out: &mut W,
-) -> Result<(), WorkshopFault>
-    ensures { Shows version (form_lines version)
-        (showing (reader R.told R.left R.failures rope.old) (writer W.told W.written W.failures out.old))
-        (showing (reader R.told R.left R.failures rope.new) (writer W.told W.written W.failures out.new))
-        result }
-{
-    let rope = Rope::read(alloc, rope, version)?;
-    Ok(write_form_sums(&rope, version, out)?)
+    let words = Rope::read(alloc, image, version)?;
+    Ok(write_named_words(&words, &named, bank, out)?)
 }
 
 /// Reads a rope image of version 1 to its end, and writes the image of the same words in version 2.
@@ -166,9 +120,8 @@ pub fn upgrade_engine<R: Read, W: Write>(
     out: &mut W,
 ) -> Result<(), WorkshopFault>
     ensures { Shows Version.One (image Version.Two)
-        (showing (reader R.told R.left R.failures old.old) (writer W.told W.written W.failures out.old))
-        (showing (reader R.told R.left R.failures old.new) (writer W.told W.written W.failures out.new))
-        result }
+        (showing (reader R.Read old.old) (writer W.Write out.old))
+        (showing (reader R.Read old.new) (writer W.Write out.new)) result }
 {
     let rope = Rope::read(alloc, old, Version::One)?;
     Ok(rope.write(out, Version::Two)?)
@@ -189,10 +142,8 @@ pub fn compare_engine<A: Read, B: Read, W: Write>(
     out: &mut W,
 ) -> Result<u32, WorkshopFault>
     ensures { Compares old_version new_version
-        (comparing (reader A.told A.left A.failures old.old) (reader B.told B.left B.failures new.old)
-        (writer W.told W.written W.failures out.old))
-        (comparing (reader A.told A.left A.failures old.new) (reader B.told B.left B.failures new.new)
-        (writer W.told W.written W.failures out.new)) last.new result }
+        (comparing (reader A.Read old.old) (reader B.Read new.old) (writer W.Write out.old))
+        (comparing (reader A.Read old.new) (reader B.Read new.new) (writer W.Write out.new)) last.new result }
 {
     *last = Compared::Old;
     let words = Rope::read(alloc, old, old_version)?;
@@ -218,10 +169,8 @@ pub fn compare_only_engine<S: Read, R: Read, W: Write>(
     out: &mut W,
 ) -> Result<u32, WorkshopFault>
     ensures { ComparesOnly language version
-        (comparing (reader S.told S.left S.failures source.old) (reader R.told R.left R.failures image.old)
-        (writer W.told W.written W.failures out.old))
-        (comparing (reader S.told S.left S.failures source.new) (reader R.told R.left R.failures image.new)
-        (writer W.told W.written W.failures out.new)) last.new result }
+        (comparing (reader S.Read source.old) (reader R.Read image.old) (writer W.Write out.old))
+        (comparing (reader S.Read source.new) (reader R.Read image.new) (writer W.Write out.new)) last.new result }
 {
     *last = Compared::Old;
     let program = read_program(alloc, language, source)?;
@@ -239,8 +188,8 @@ fn compare_program<W: Write>(
     words: &Rope,
     out: &mut W,
 ) -> Result<u32, WorkshopFault>
-    ensures { WritesCompared language program words.now (writer W.told W.written W.failures out.old)
-        (writer W.told W.written W.failures out.new) result }
+    ensures { WritesCompared language program words.now (writer W.Write out.old)
+        (writer W.Write out.new) result }
 {
     match language {
         Language::Standard => Ok(write_differences(program.rope(), words, Extent::Filled, out)?),
@@ -255,8 +204,8 @@ fn compare_flight_program<W: Write>(
     words: &Rope,
     out: &mut W,
 ) -> Result<u32, WorkshopFault>
-    ensures { WritesUncertain program words.now (writer W.told W.written W.failures out.old)
-        (writer W.told W.written W.failures out.new) result }
+    ensures { WritesUncertain program words.now (writer W.Write out.old)
+        (writer W.Write out.new) result }
 {
     let (rope, rows) = program.split_rows();
     let Some(uncertain) = UncertainPlaces::of(alloc, &rows, &rope) else {
@@ -275,9 +224,8 @@ pub fn parity_engine<R: Read, W: Write>(
     out: &mut W,
 ) -> Result<u32, WorkshopFault>
     ensures { TellsParity
-        (showing (reader R.told R.left R.failures image.old) (writer W.told W.written W.failures out.old))
-        (showing (reader R.told R.left R.failures image.new) (writer W.told W.written W.failures out.new))
-        result }
+        (showing (reader R.Read image.old) (writer W.Write out.old))
+        (showing (reader R.Read image.new) (writer W.Write out.new)) result }
 {
     let bytes = Dump::read(alloc, image)?;
     Ok(write_parities(&bytes, out)?)
@@ -294,9 +242,8 @@ pub fn damages_engine<R: Read, W: Write>(
     out: &mut W,
 ) -> Result<u32, WorkshopFault>
     ensures { TellsDamages
-        (showing (reader R.told R.left R.failures image.old) (writer W.told W.written W.failures out.old))
-        (showing (reader R.told R.left R.failures image.new) (writer W.told W.written W.failures out.new))
-        result }
+        (showing (reader R.Read image.old) (writer W.Write out.old))
+        (showing (reader R.Read image.new) (writer W.Write out.new)) result }
 {
     let bytes = Dump::read(alloc, image)?;
     Ok(write_damages(&bytes, out)?)
@@ -312,9 +259,8 @@ pub fn mended_engine<R: Read, W: Write>(
     out: &mut W,
 ) -> Result<(), WorkshopFault>
     ensures { ShowsMended
-        (showing (reader R.told R.left R.failures image.old) (writer W.told W.written W.failures out.old))
-        (showing (reader R.told R.left R.failures image.new) (writer W.told W.written W.failures out.new))
-        result }
+        (showing (reader R.Read image.old) (writer W.Write out.old))
+        (showing (reader R.Read image.new) (writer W.Write out.new)) result }
 {
     let bytes = Dump::read(alloc, image)?;
     Ok(write_mended(&bytes, out)?)

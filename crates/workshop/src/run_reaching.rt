@@ -43,10 +43,8 @@ pub fn reach_run<P: Read, F: Read, W: Write>(
 ) -> Result<(), WorkshopFault>
     requires { steps ≤ 2 ^ 40 - 2 }
     ensures { Finds origin steps shows_roots
-        (running (reader P.told P.left P.failures program.old) (reader F.told F.left F.failures feed.old)
-        (writer W.told W.written W.failures out.old))
-        (running (reader P.told P.left P.failures program.new) (reader F.told F.left F.failures feed.new)
-        (writer W.told W.written W.failures out.new)) result }
+        (running (reader P.Read program.old) (reader F.Read feed.old) (writer W.Write out.old))
+        (running (reader P.Read program.new) (reader F.Read feed.new) (writer W.Write out.new)) result }
 {
     let addressing = read_addressing(alloc, origin, program)?;
     let processor = Processor::new(addressing.rope, read_feed(alloc, feed)?);
@@ -73,8 +71,7 @@ fn write_run_reached<W: Write>(
 ) -> Result<(), WorkshopFault>
     requires { steps ≤ 2 ^ 40 - 2 }
     ensures { FindsRun rows.now places.now processor.scenario steps shows_roots
-        (writer W.told W.written W.failures out.old)
-        (writer W.told W.written W.failures out.new) result }
+        (writer W.Write out.old) (writer W.Write out.new) result }
 {
     let mut processor = processor;
     let Ok(found) = found(alloc, &mut processor, places, steps, shows_roots) else {

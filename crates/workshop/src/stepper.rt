@@ -52,7 +52,7 @@ pub(crate) trait Stepper {
         ensures state { IfOk result (λ to. machine.new ≡ run processor.old.scenario to) }
         ensures stands { IfOk result (λ to. Stands (kept self.old) processor.old.scenario to self.new) }
         ensures written { WritesOn (text (kept self.old) processor.old.scenario) done stop
-            (writer W.told W.written W.failures out.old) (writer W.told W.written W.failures out.new) result }
+            (writer W.Write out.old) (writer W.Write out.new) result }
         ensures meter { metered ≡ true →
             IfOk result (λ to. processor.new.meter + done ≤ processor.old.meter + to) }
         ensures broken { metered ≡ true → OnErr result (processor.new.meter ≤ processor.old.meter + 1) };
@@ -81,9 +81,8 @@ pub(crate) fn run_all<S: Stepper, W: Write, T: Write>(
     ensures failures { W.failures out.new ≡ failures_after (W.failures out.old) result }
     ensures handed_on { W.told ≡ true → 0 < steps → OnOk result (W.handed_on out.new ≡ W.written out.new) }
     ensures progress { TellsSteps (S.text (S.kept stepper.old) processor.old.scenario) steps
-        (telling (writer W.told W.written W.failures out.old) (writer T.told T.written T.failures progress.old))
-        (telling (writer W.told W.written W.failures out.new) (writer T.told T.written T.failures progress.new))
-        result }
+        (telling (writer W.Write out.old) (writer T.Write progress.old))
+        (telling (writer W.Write out.new) (writer T.Write progress.new)) result }
     ensures meter { S.metered ≡ true → processor.new.meter ≤ processor.old.meter + steps }
 {
     let mut told = Ok(());
@@ -114,8 +113,8 @@ pub(crate) fn count_all<S: Stepper, T: Write>(
     ensures kept { S.kept stepper.new ≡ S.kept stepper.old }
     ensures stands { S.Stands (S.kept stepper.old) processor.old.scenario steps stepper.new }
     ensures cycles { result ≡ (run processor.old.scenario steps).cycles }
-    ensures progress { TellsAll steps (writer T.told T.written T.failures progress.old)
-        (writer T.told T.written T.failures progress.new) }
+    ensures progress { TellsAll steps (writer T.Write progress.old)
+        (writer T.Write progress.new) }
 {
     let mut machine = Machine::start();
     let _ = run_all(

@@ -45,17 +45,14 @@ pub fn trace_program<P: Read, F: Read, W: Write, T: Write>(
 ) -> Result<(), WorkshopFault>
     requires { steps ≤ 2 ^ 40 - 2 }
     ensures traces { Traces form origin first steps
-        (running (reader P.told P.left P.failures program.old) (reader F.told F.left F.failures feed.old)
-        (writer W.told W.written W.failures out.old))
-        (running (reader P.told P.left P.failures program.new) (reader F.told F.left F.failures feed.new)
-        (writer W.told W.written W.failures out.new)) result }
+        (running (reader P.Read program.old) (reader F.Read feed.old) (writer W.Write out.old))
+        (running (reader P.Read program.new) (reader F.Read feed.new) (writer W.Write out.new)) result }
     ensures handed_on { W.told ≡ true → 0 < steps → OnOk result (W.handed_on out.new ≡ W.written out.new) }
     ensures progress { TellsLoaded (traced_text form first) origin steps
-        (program_and_feed (reader P.told P.left P.failures program.old) (reader F.told F.left F.failures feed.old))
-        (program_and_feed (reader P.told P.left P.failures program.new) (reader F.told F.left F.failures feed.new))
-        (telling (writer W.told W.written W.failures out.old) (writer T.told T.written T.failures progress.old))
-        (telling (writer W.told W.written W.failures out.new) (writer T.told T.written T.failures progress.new))
-        result }
+        (program_and_feed (reader P.Read program.old) (reader F.Read feed.old))
+        (program_and_feed (reader P.Read program.new) (reader F.Read feed.new))
+        (telling (writer W.Write out.old) (writer T.Write progress.old))
+        (telling (writer W.Write out.new) (writer T.Write progress.new)) result }
 {
     let loaded = load(alloc, origin, program, feed)?;
     let Ok(names) = PlaceNames::new(alloc, loaded.symbols) else {
@@ -77,13 +74,12 @@ fn trace<W: Write, T: Write>(
     requires { steps ≤ 2 ^ 40 - 2 }
     ensures writes { WritesText
         (told_lines tracing.old.form tracing.old.names processor.old.scenario tracing.old.first steps)
-        (writer W.told W.written W.failures out.old) (writer W.told W.written W.failures out.new) result }
+        (writer W.Write out.old) (writer W.Write out.new) result }
     ensures handed_on { W.told ≡ true → 0 < steps → OnOk result (W.handed_on out.new ≡ W.written out.new) }
     ensures progress { TellsWritten
         (told_lines tracing.old.form tracing.old.names processor.old.scenario tracing.old.first) steps
-        (telling (writer W.told W.written W.failures out.old) (writer T.told T.written T.failures progress.old))
-        (telling (writer W.told W.written W.failures out.new) (writer T.told T.written T.failures progress.new))
-        result }
+        (telling (writer W.Write out.old) (writer T.Write progress.old))
+        (telling (writer W.Write out.new) (writer T.Write progress.new)) result }
 {
     let mut machine = Machine::start();
     run_all(tracing, processor, &mut machine, steps, out, progress)?;

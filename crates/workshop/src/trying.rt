@@ -32,8 +32,8 @@ pub fn try_program<P: Read, W: Write>(
 ) -> Result<(), WorkshopFault>
     requires { steps ≤ 2 ^ 40 - 2 }
     ensures { Tries origin feed.now trials.now steps
-        (answering (reader P.told P.left P.failures program.old) (writer W.told W.written W.failures out.old))
-        (answering (reader P.told P.left P.failures program.new) (writer W.told W.written W.failures out.new)) result }
+        (answering (reader P.Read program.old) (writer W.Write out.old))
+        (answering (reader P.Read program.new) (writer W.Write out.new)) result }
 {
     let (rope, _, _) = origin.read(alloc, program)?;
     try_feed(alloc, rope, feed, trials, steps, out)
@@ -57,7 +57,7 @@ fn try_feed<W: Write>(
 ) -> Result<(), WorkshopFault>
     requires { steps ≤ 2 ^ 40 - 2 }
     ensures { TriesFeed rope feed.now trials.now steps
-        (writer W.told W.written W.failures out.old) (writer W.told W.written W.failures out.new) result }
+        (writer W.Write out.old) (writer W.Write out.new) result }
 {
     match feed::read(alloc, &mut TextReader::new(feed)) {
         Ok(inputs) => {
@@ -79,7 +79,7 @@ fn try_all<W: Write>(
 ) -> Result<(), WorkshopFault>
     requires { steps ≤ 2 ^ 40 - 2 }
     ensures { WritesTrials processor.old.scenario trials.now steps
-        (writer W.told W.written W.failures out.old) (writer W.told W.written W.failures out.new) result }
+        (writer W.Write out.old) (writer W.Write out.new) result }
 {
     match try_inputs(alloc, processor, trials, steps, out) {
         Ok(()) => Ok(()),

@@ -32,8 +32,8 @@ pub fn try_notes<P: Read, W: Write>(
 ) -> Result<(), WorkshopFault>
     requires { steps ≤ 2 ^ 40 - 2 }
     ensures { TriesNotes origin feed.now trials.now steps
-        (answering (reader P.told P.left P.failures program.old) (writer W.told W.written W.failures out.old))
-        (answering (reader P.told P.left P.failures program.new) (writer W.told W.written W.failures out.new)) result }
+        (answering (reader P.Read program.old) (writer W.Write out.old))
+        (answering (reader P.Read program.new) (writer W.Write out.new)) result }
 {
     let code = read_named(alloc, origin, program)?;
     try_feed(alloc, code, feed, trials, steps, out)
@@ -50,7 +50,7 @@ fn try_feed<W: Write>(
 ) -> Result<(), WorkshopFault>
     requires { steps ≤ 2 ^ 40 - 2 }
     ensures { TriesNotesFeed code feed.now trials.now steps
-        (writer W.told W.written W.failures out.old) (writer W.told W.written W.failures out.new) result }
+        (writer W.Write out.old) (writer W.Write out.new) result }
 {
     match feed::read(alloc, &mut TextReader::new(feed)) {
         Ok(inputs) => {
@@ -73,7 +73,7 @@ fn try_all<W: Write>(
 ) -> Result<(), WorkshopFault>
     requires { steps ≤ 2 ^ 40 - 2 }
     ensures { WritesNotes (note_trials_text named.now processor.old.scenario trials.now steps)
-        (writer W.told W.written W.failures out.old) (writer W.told W.written W.failures out.new) result }
+        (writer W.Write out.old) (writer W.Write out.new) result }
 {
     match note_trials(alloc, named, processor, trials, steps) {
         Ok(text) => {

@@ -73,8 +73,8 @@ returns-in_err-made-clause-written g c =
     let p = err_from_is_err_and c.from_residual.result c.from_residual.ensures.1 in
     let text = g.S.Stepper.text (g.S.Stepper.kept c.args.stepper.now) c.args.processor.now.scenario in
     let broken : BreaksIn text c.loop-done-2.done c.min-stop.result
-    (writer g.W.Write.told g.W.Write.written g.W.Write.failures c.loop-done-2.out)
-    (writer g.W.Write.told g.W.Write.written g.W.Write.failures c.go_on.new.out) =
+    (writer g.W.Write c.loop-done-2.out)
+    (writer g.W.Write c.go_on.new.out) =
     rw (c.loop-done-2.invariant.kept, c.loop-done-2.invariant.scenario) at c.in_err-made.ensures.written in
     λ told. rw p.1 (beginning-along _ _ _ _ (broken.broken told _ (c.loop-done-2.invariant.written told))
     (begins_later text c.requires.grows.more (broken.made + 1) c.args.steps (omega (arith, broken.within))))
@@ -89,8 +89,8 @@ returns-in_err-made-clause-progress g c =
     let p = err_from_is_err_and c.from_residual.result c.from_residual.ensures.1 in
     let text = g.S.Stepper.text (g.S.Stepper.kept c.args.stepper.now) c.args.processor.now.scenario in
     let broken : BreaksIn text c.loop-done-2.done c.min-stop.result
-    (writer g.W.Write.told g.W.Write.written g.W.Write.failures c.loop-done-2.out)
-    (writer g.W.Write.told g.W.Write.written g.W.Write.failures c.go_on.new.out) =
+    (writer g.W.Write c.loop-done-2.out)
+    (writer g.W.Write c.go_on.new.out) =
     rw (c.loop-done-2.invariant.kept, c.loop-done-2.invariant.scenario) at c.in_err-made.ensures.written in
     let here = c.loop-done-2.invariant in
     rw p.1 (told_in_step text c.args.steps c.loop-done.done broken.made _ _ c.loop-done.told

@@ -18,8 +18,8 @@ invariant-loop-done g l =
       failures : g.W.Write.failures l.out ≡ g.W.Write.failures l.fn.out;
       within : l.done ≤ l.steps;
       handed_on : g.W.Write.told ≡ true → 0 < l.done → g.W.Write.handed_on l.out ≡ g.W.Write.written l.out;
-      tells : Tells l.done (writer g.T.Write.told g.T.Write.written g.T.Write.failures l.fn.progress)
-          (writer g.T.Write.told g.T.Write.written g.T.Write.failures l.progress) l.told;
+      tells : Tells l.done (writer g.T.Write l.fn.progress)
+          (writer g.T.Write l.progress) l.told;
       whole : l.done < l.steps → l.done % 2 ^ 20 ≡ 0;
       meter : g.S.Stepper.metered ≡ true → l.processor.meter ≤ l.fn.processor.meter + l.done;
     }

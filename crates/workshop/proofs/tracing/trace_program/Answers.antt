@@ -8,14 +8,12 @@ use Rattle.workshop.proofs.tracing.trace_program.Goals as goal
 pub returns-in_default-clause-traces : goal.returns-in_default-clause-traces
 returns-in_default-clause-traces g c =
     let before : Files = record {
-      program = reader g.P.Read.told g.P.Read.left g.P.Read.failures c.args.program.now;
-      feed = reader
-          g.F.Read.told g.F.Read.left g.F.Read.failures c.args.feed.now;
+      program = reader g.P.Read c.args.program.now;
+      feed = reader g.F.Read c.args.feed.now;
     } in
     let after : Files = record {
-      program = reader g.P.Read.told g.P.Read.left g.P.Read.failures c.load.new.program;
-      feed = reader
-          g.F.Read.told g.F.Read.left g.F.Read.failures c.load.new.feed;
+      program = reader g.P.Read c.load.new.program;
+      feed = reader g.F.Read c.load.new.feed;
     } in
     record {
       loaded = Err NoMemory;
@@ -27,14 +25,12 @@ returns-in_default-clause-traces g c =
 pub returns-in_default-clause-progress : goal.returns-in_default-clause-progress
 returns-in_default-clause-progress g c =
     let before : Files = record {
-      program = reader g.P.Read.told g.P.Read.left g.P.Read.failures c.args.program.now;
-      feed = reader
-          g.F.Read.told g.F.Read.left g.F.Read.failures c.args.feed.now;
+      program = reader g.P.Read c.args.program.now;
+      feed = reader g.F.Read c.args.feed.now;
     } in
     let after : Files = record {
-      program = reader g.P.Read.told g.P.Read.left g.P.Read.failures c.load.new.program;
-      feed = reader
-          g.F.Read.told g.F.Read.left g.F.Read.failures c.load.new.feed;
+      program = reader g.P.Read c.load.new.program;
+      feed = reader g.F.Read c.load.new.feed;
     } in
     record {
       loaded = Err NoMemory;
