@@ -16,7 +16,7 @@ ghost use Rattle.cpu.specs.State.{FitsRun, Scenario};
 use crate::fault::WorkshopFault;
 use crate::inputs::load;
 use crate::origin::Origin;
-use crate::stepper::{Stepper, run_all};
+use crate::stepper::{OutputLines, run_all};
 use cpu::{Machine, Output, Processor, write_channel_line};
 use space::{Chan, Eras};
 use std::alloc::Global;
@@ -67,8 +67,8 @@ pub fn may_run(steps: u64) -> bool
 /// A source and a feed have at most 8,388,608 bytes each. The first fault of the program is answered, else that of the
 /// feed, and then nothing is written. Lines are handed on while it goes, and all of them where it has made its steps.
 ///
-/// It tells after each 2^20 steps how many were made, as `agcws: STEPS 1048576`. A write that fails there is no fault of
-/// the run: nothing more is told.
+/// It tells after each 2^20 steps how many were made, as `agcws: STEPS 1048576`. A write that fails there is no fault
+/// of the run: nothing more is told.
 pub fn run_program<P: Read, F: Read, W: Write, T: Write>(
     alloc: Global,
     origin: Origin,
@@ -120,38 +120,6 @@ pub(crate) fn run<W: Write, T: Write>(
     Ok(Summary::of_run(steps, &machine, written.count))
 }
 
-/// How many lines of what steps put out were written.
-#[derive(Drop)]
-struct OutputLines {
-    count: u64,
-}
-
-impl Stepper for OutputLines {
-    ghost use Rattle.workshop.specs.Progress.{run_text};
-    ghost use Rattle.workshop.specs.Stepping.{CountsLines};
-
-    type Kept = ();
-
-    ghost kept = { λ _. tt };
-
-    ghost Stands = { λ _ scenario n written. CountsLines scenario n written.count };
-
-    ghost text = { λ _ scenario. run_text scenario };
-
-    fn go_on<W: Write>(
-        &mut self,
-        processor: &mut Processor,
-        machine: &mut Machine,
-        done: u64,
-        stop: u64,
-        out: &mut W,
-    ) -> Result<u64, WriteFailed> {
-        let (to, put) = processor.run_on(machine, done, stop);
-        write_put(put, &mut self.count, out)?;
-        Ok(to)
-    }
-}
-
 /// Hands on the lines that a writer holds back.
 pub(crate) fn hand_on<W: Write>(out: &mut W) -> Result<(), WriteFailed>
     ensures written { W.told ≡ true → W.written out.new ≡ W.written out.old }
@@ -191,7 +159,11 @@ pub(crate) fn step_and_write<W: Write>(
 /// Writes the line of what a step has put out, and counts it among the lines.
 #[inline(always)]
 #[tactic(auto, using(crate::proofs::RunSteps::lines_of_none, crate::proofs::RunSteps::lines_of_one))]
-fn write_put<W: Write>(put: Option<Output>, lines: &mut u64, out: &mut W) -> Result<(), WriteFailed>
+pub(crate) fn write_put<W: Write>(
+    put: Option<Output>,
+    lines: &mut u64,
+    out: &mut W,
+) -> Result<(), WriteFailed>
     requires room { lines.old < 2 ^ 63 }
     ensures count { OnOk result (lines.new ≡ lines.old + length (option_to_list put)) }
     ensures at_most_one { OnOk result (lines.new ≤ lines.old + 1) }

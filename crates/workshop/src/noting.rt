@@ -14,18 +14,18 @@ ghost use Rattle.workshop.specs.Runs.{Makes, summary_of};
 ghost use Rattle.cpu.specs.Run.{run};
 ghost use Rattle.cpu.specs.State.{Scenario, start};
 
-use crate::engine::{Summary, step_and_write};
+use crate::engine::Summary;
 use crate::fault::WorkshopFault;
 use crate::inputs::{read_feed, read_program};
 use crate::origin::Origin;
-use crate::stepper::{Stepper, run_all};
+use crate::stepper::{Noting, run_all};
 use cpu::{Machine, Processor};
 use json_text::Notation;
 use notes::{Notebook, write_notes};
 use rope::{Rope, Version};
 use std::alloc::Global;
 use trace::PlaceNames;
-use words::{Read, Write, WriteFailed};
+use words::{Read, Write};
 use yayul::{Language, NamedPlaces, Symbols};
 
 /// The words of a program, its symbols, and the places that its words name.
@@ -212,45 +212,4 @@ fn run_noting<W: Write, T: Write>(
 {
     run_all(noting, processor, machine, steps, out, progress)?;
     Ok(Summary::of_run(steps, machine, noting.lines))
-}
-
-/// What is noted of a run's steps, and how many lines of what they put out were written.
-#[derive(Drop)]
-struct Noting {
-    notebook: Notebook,
-    lines: u64,
-}
-
-impl Stepper for Noting {
-    ghost use Rattle.std.specs.Prelude.{true};
-    ghost use Rattle.notes.specs.Counted.{Counted};
-    ghost use Rattle.workshop.specs.Progress.{run_text};
-    ghost use Rattle.workshop.specs.Stepping.{CountsLines};
-
-    type Kept = NamedPlaces;
-
-    ghost metered = { true };
-
-    ghost kept = { λ noting. noting.notebook.named };
-
-    ghost Stands = { λ named scenario n noting. CountsLines scenario n noting.lines
-        × Counted named scenario n noting.notebook };
-
-    ghost text = { λ _ scenario. run_text scenario };
-
-    fn go_on<W: Write>(
-        &mut self,
-        processor: &mut Processor,
-        machine: &mut Machine,
-        done: u64,
-        stop: u64,
-        out: &mut W,
-    ) -> Result<u64, WriteFailed> {
-        self.notebook.note(processor, machine);
-        step_and_write(processor, machine, &mut self.lines, out)?;
-        let to = self
-            .notebook
-            .note_plain_steps(processor, machine, done + 1, stop);
-        Ok(to)
-    }
 }

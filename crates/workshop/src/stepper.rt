@@ -2,16 +2,22 @@
 
 ghost use Rattle.std.specs.Prelude.{◌≡◌, ◌+◌, ◌-◌, ◌<◌, ◌≤◌, ◌^◌, ℕ, Bool, List, [], true, false, IfOk, OnErr, OnOk};
 ghost use Rattle.words.specs.Devices.{Writes, failures_after};
+ghost use Rattle.cpu.specs.Next.{next};
 ghost use Rattle.cpu.specs.Run.{run};
-ghost use Rattle.cpu.specs.State.{Scenario, start};
+ghost use Rattle.cpu.specs.State.{FitsRun, Scenario, start};
+ghost use Rattle.say.specs.Said.{told_from};
 ghost use Rattle.workshop.specs.Failures.{writer};
 ghost use Rattle.workshop.specs.Progress.{TellsAll, telling};
 ghost use Rattle.workshop.specs.Stepping.{Grows, TellsSteps, WritesOn};
 
-use crate::engine::{STEPS_BETWEEN_FLUSHES, hand_on};
+use crate::engine::{STEPS_BETWEEN_FLUSHES, hand_on, step_and_write, write_put};
 use crate::progress::{Unheard, tell};
 use cpu::{Machine, Processor};
+use notes::Notebook;
+use say::{LineForm, tell_step};
+use trace::PlaceNames;
 use words::{Write, WriteFailed};
+use yayul::NamedPlaces;
 
 /// What makes the steps of a run, and of them what an engine tells: a text that is written while they are made, or
 /// figures.
@@ -126,4 +132,134 @@ pub(crate) fn count_all<S: Stepper, T: Write>(
         progress,
     );
     machine.cycles()
+}
+
+/// How many lines of what steps put out were written.
+#[derive(Drop)]
+pub(crate) struct OutputLines {
+    pub(crate) count: u64,
+}
+
+impl Stepper for OutputLines {
+    ghost use Rattle.workshop.specs.Progress.{run_text};
+    ghost use Rattle.workshop.specs.Stepping.{CountsLines};
+
+    type Kept = ();
+
+    ghost kept = { λ _. tt };
+
+    ghost Stands = { λ _ scenario n written. CountsLines scenario n written.count };
+
+    ghost text = { λ _ scenario. run_text scenario };
+
+    fn go_on<W: Write>(
+        &mut self,
+        processor: &mut Processor,
+        machine: &mut Machine,
+        done: u64,
+        stop: u64,
+        out: &mut W,
+    ) -> Result<u64, WriteFailed> {
+        let (to, put) = processor.run_on(machine, done, stop);
+        write_put(put, &mut self.count, out)?;
+        Ok(to)
+    }
+}
+
+/// What is noted of a run's steps, and how many lines of what they put out were written.
+#[derive(Drop)]
+pub(crate) struct Noting {
+    pub(crate) notebook: Notebook,
+    pub(crate) lines: u64,
+}
+
+impl Stepper for Noting {
+    ghost use Rattle.std.specs.Prelude.{true};
+    ghost use Rattle.notes.specs.Counted.{Counted};
+    ghost use Rattle.workshop.specs.Progress.{run_text};
+    ghost use Rattle.workshop.specs.Stepping.{CountsLines};
+
+    type Kept = NamedPlaces;
+
+    ghost metered = { true };
+
+    ghost kept = { λ noting. noting.notebook.named };
+
+    ghost Stands = { λ named scenario n noting. CountsLines scenario n noting.lines
+        × Counted named scenario n noting.notebook };
+
+    ghost text = { λ _ scenario. run_text scenario };
+
+    fn go_on<W: Write>(
+        &mut self,
+        processor: &mut Processor,
+        machine: &mut Machine,
+        done: u64,
+        stop: u64,
+        out: &mut W,
+    ) -> Result<u64, WriteFailed> {
+        self.notebook.note(processor, machine);
+        step_and_write(processor, machine, &mut self.lines, out)?;
+        let to = self
+            .notebook
+            .note_plain_steps(processor, machine, done + 1, stop);
+        Ok(to)
+    }
+}
+
+/// Writes the lines of steps from a first one on, in a form.
+#[derive(Drop)]
+pub(crate) struct Tracing {
+    pub(crate) form: LineForm,
+    pub(crate) names: PlaceNames,
+    pub(crate) first: u64,
+}
+
+impl Tracing {
+    /// Makes a step, and writes its line where lines are written from there on.
+    fn step_and_trace<W: Write>(
+        &self,
+        processor: &mut Processor,
+        machine: &mut Machine,
+        number: u64,
+        out: &mut W,
+    ) -> Result<(), WriteFailed>
+        requires cycles { machine.old.cycles ≤ 2 ^ 62 }
+        requires fits { FitsRun processor.old.scenario machine.old }
+        ensures scenario { processor.new.scenario ≡ processor.old.scenario }
+        ensures state { machine.new ≡ (next processor.old.scenario machine.old).0 }
+        ensures written { W.told ≡ true → Writes (W.written out.old) (W.written out.new)
+            (told_from self.now.form self.now.names processor.old.scenario self.now.first number machine.old) result }
+        ensures failures { W.failures out.new ≡ failures_after (W.failures out.old) result }
+    {
+        if number < self.first {
+            processor.step(machine);
+            return Ok(());
+        }
+        tell_step(self.form, &self.names, processor, machine, number, out)
+    }
+}
+
+impl Stepper for Tracing {
+    ghost use Rattle.say.specs.Said.{told_lines};
+
+    type Kept = Tracing;
+
+    ghost kept = { λ tracing. tracing };
+
+    ghost Stands = { λ _ _ _ _. Unit {0} };
+
+    ghost text = { λ tracing scenario. told_lines tracing.form tracing.names scenario tracing.first };
+
+    fn go_on<W: Write>(
+        &mut self,
+        processor: &mut Processor,
+        machine: &mut Machine,
+        done: u64,
+        stop: u64,
+        out: &mut W,
+    ) -> Result<u64, WriteFailed> {
+        self.step_and_trace(processor, machine, done + 1, out)?;
+        Ok(done + 1)
+    }
 }

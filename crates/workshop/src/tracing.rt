@@ -1,10 +1,7 @@
 //! The engine that traces a run.
 
 ghost use Rattle.std.specs.Prelude.{◌≡◌, ◌+◌, ◌-◌, ◌≤◌, ◌<◌, ◌^◌, true, OnOk};
-ghost use Rattle.words.specs.Devices.{Writes, failures_after};
-ghost use Rattle.cpu.specs.Next.{next};
-ghost use Rattle.cpu.specs.State.{FitsRun};
-ghost use Rattle.say.specs.Said.{told_from, told_lines};
+ghost use Rattle.say.specs.Said.{told_lines};
 ghost use Rattle.workshop.specs.Failures.{reader, writer};
 ghost use Rattle.workshop.specs.Progress.{TellsLoaded, TellsWritten, traced_text, telling};
 ghost use Rattle.workshop.specs.Ropes.{WritesText};
@@ -15,12 +12,12 @@ ghost use Rattle.workshop.specs.Runs.{running};
 use crate::fault::WorkshopFault;
 use crate::inputs::load;
 use crate::origin::Origin;
-use crate::stepper::{Stepper, run_all};
+use crate::stepper::{Tracing, run_all};
 use cpu::{Machine, Processor};
-use say::{LineForm, tell_step};
+use say::LineForm;
 use std::alloc::Global;
 use trace::PlaceNames;
-use words::{Read, Write, WriteFailed};
+use words::{Read, Write};
 
 /// Reads a program and then a feed, makes some steps, and writes a line for each of them from a first one on, in a
 /// form, as
@@ -84,61 +81,4 @@ fn trace<W: Write, T: Write>(
     let mut machine = Machine::start();
     run_all(tracing, processor, &mut machine, steps, out, progress)?;
     Ok(())
-}
-
-/// Writes the lines of steps from a first one on, in a form.
-#[derive(Drop)]
-struct Tracing {
-    form: LineForm,
-    names: PlaceNames,
-    first: u64,
-}
-
-impl Tracing {
-    /// Makes a step, and writes its line where lines are written from there on.
-    fn step_and_trace<W: Write>(
-        &self,
-        processor: &mut Processor,
-        machine: &mut Machine,
-        number: u64,
-        out: &mut W,
-    ) -> Result<(), WriteFailed>
-        requires cycles { machine.old.cycles ≤ 2 ^ 62 }
-        requires fits { FitsRun processor.old.scenario machine.old }
-        ensures scenario { processor.new.scenario ≡ processor.old.scenario }
-        ensures state { machine.new ≡ (next processor.old.scenario machine.old).0 }
-        ensures written { W.told ≡ true → Writes (W.written out.old) (W.written out.new)
-            (told_from self.now.form self.now.names processor.old.scenario self.now.first number machine.old) result }
-        ensures failures { W.failures out.new ≡ failures_after (W.failures out.old) result }
-    {
-        if number < self.first {
-            processor.step(machine);
-            return Ok(());
-        }
-        tell_step(self.form, &self.names, processor, machine, number, out)
-    }
-}
-
-impl Stepper for Tracing {
-    ghost use Rattle.say.specs.Said.{told_lines};
-
-    type Kept = Tracing;
-
-    ghost kept = { λ tracing. tracing };
-
-    ghost Stands = { λ _ _ _ _. Unit {0} };
-
-    ghost text = { λ tracing scenario. told_lines tracing.form tracing.names scenario tracing.first };
-
-    fn go_on<W: Write>(
-        &mut self,
-        processor: &mut Processor,
-        machine: &mut Machine,
-        done: u64,
-        stop: u64,
-        out: &mut W,
-    ) -> Result<u64, WriteFailed> {
-        self.step_and_trace(processor, machine, done + 1, out)?;
-        Ok(done + 1)
-    }
 }

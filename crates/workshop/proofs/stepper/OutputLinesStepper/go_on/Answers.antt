@@ -3,7 +3,7 @@ use Rattle.std.proofs.lemmas.Result.{err_from_is_err_and}
 use Rattle.workshop.specs.Progress.{run_text}
 use Rattle.workshop.proofs.RunSteps.{counts_to, text_last, text_silent, text_to}
 use Rattle.workshop.proofs.Slices.{breaks_by, extends_by}
-use Rattle.workshop.proofs.engine.OutputLinesStepper.go_on.Goals as goal
+use Rattle.workshop.proofs.stepper.OutputLinesStepper.go_on.Goals as goal
 
 pub returns-in_err-write_put-clause-written : goal.returns-in_err-write_put-clause-written
 returns-in_err-write_put-clause-written g c =

@@ -7,7 +7,7 @@ use Rattle.notes.specs.Counted.{Counted}
 use Rattle.workshop.specs.Progress.{run_text}
 use Rattle.workshop.proofs.RunSteps.{counts_after, counts_further, few_cycles, fits_after, state_more, text_after, text_silent}
 use Rattle.workshop.proofs.Slices.{breaks_by, extends_by}
-use Rattle.workshop.proofs.noting.NotingStepper.go_on.Goals as goal
+use Rattle.workshop.proofs.stepper.NotingStepper.go_on.Goals as goal
 
 pub note-requires-clause-fits : goal.note-requires-clause-fits
 note-requires-clause-fits g c = fits_after c.args.processor.now.scenario c.args.done _ c.requires.state

@@ -4,7 +4,7 @@ use Rattle.say.specs.Said.{told_lines}
 use Rattle.workshop.proofs.RunSteps.{few_cycles, fits_after, state_more}
 use Rattle.workshop.proofs.Slices.{breaks_by, extends_by}
 use Rattle.workshop.proofs.TracedSteps.{traced_more}
-use Rattle.workshop.proofs.tracing.TracingStepper.go_on.Goals as goal
+use Rattle.workshop.proofs.stepper.TracingStepper.go_on.Goals as goal
 
 pub step_and_trace-requires-clause-cycles : goal.step_and_trace-requires-clause-cycles
 step_and_trace-requires-clause-cycles g c =
