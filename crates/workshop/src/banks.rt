@@ -113,25 +113,8 @@ fn write_assumed<W: Write>(
     ensures count { IfOk result (λ count. count ≡ length (differing Filled rope.now around.now)) }
     ensures failures { W.failures out.new ≡ failures_after (W.failures out.old) result }
 {
-    let count = write_banks(uncertain, rope, other, around, out)?;
-    write_assumed_lines(wordings, places, rope, around, out)?;
-    Ok(count)
-}
-
-/// Writes a comparison of the words of a source with those of an image around its holes, and the accounts of the banks.
-fn write_banks<W: Write>(
-    uncertain: &UncertainPlaces,
-    rope: &Rope,
-    other: &Rope,
-    around: &Rope,
-    out: &mut W,
-) -> Result<u32, WriteFailed>
-    ensures written { W.told ≡ true → Writes (W.written out.old) (W.written out.new)
-        (banks_text uncertain.now rope.now other.now around.now) result }
-    ensures count { IfOk result (λ count. count ≡ length (differing Filled rope.now around.now)) }
-    ensures failures { W.failures out.new ≡ failures_after (W.failures out.old) result }
-{
     let count = write_comparison(uncertain, rope, around, out)?;
     write_accounts(uncertain, rope, other, around, out)?;
+    write_assumed_lines(wordings, places, rope, around, out)?;
     Ok(count)
 }
