@@ -12,9 +12,9 @@ use std::cell::Cell;
 use words::{MOST_BYTES, Std, read_text};
 use workshop::holed_words::holed_words_engine;
 use workshop::{
-    Compared, Form, Language, NamedText, RopeText, Symbols, Version, WorkshopFault, align_engine,
-    carry_engine, compare_banks_engine, compare_engine, compare_only_engine, damages_engine,
-    find_engine, mended_engine, named_text_engine, named_words_engine, parity_engine, read_names,
+    Compared, DumpText, Form, Language, NamedText, RopeText, Symbols, Version, WorkshopFault,
+    align_engine, carry_engine, compare_banks_engine, compare_engine, compare_only_engine,
+    dump_engine, find_engine, mended_engine, named_text_engine, named_words_engine, read_names,
     report, report_where, show_engine, upgrade_engine,
 };
 
@@ -352,9 +352,7 @@ pub fn show_sums_of_both_forms(rt: &HostRuntime, image: &Image<'_>) -> Result<u8
 
 /// `agcws damages [--form FORM] ROPE`.
 pub fn show_damages(rt: &HostRuntime, image: &Image<'_>) -> Result<u8, WorkshopFault> {
-    let mut file = opened_image(rt, image)?;
-    let count = with_stdout(rt, |out| damages_engine(rt.alloc(), &mut file, out))?;
-    Ok(status_of(count))
+    tell_dump(rt, image, DumpText::Damages)
 }
 
 /// `agcws damages --source [--form FORM] ROPE`.
@@ -366,7 +364,12 @@ pub fn show_mended(rt: &HostRuntime, image: &Image<'_>) -> Result<u8, WorkshopFa
 
 /// `agcws parity [--form FORM] ROPE`.
 pub fn show_parity(rt: &HostRuntime, image: &Image<'_>) -> Result<u8, WorkshopFault> {
+    tell_dump(rt, image, DumpText::Parities)
+}
+
+/// Writes what is to be told of the bytes of an image, and answers the exit status.
+fn tell_dump(rt: &HostRuntime, image: &Image<'_>, text: DumpText) -> Result<u8, WorkshopFault> {
     let mut file = opened_image(rt, image)?;
-    let count = with_stdout(rt, |out| parity_engine(rt.alloc(), &mut file, out))?;
+    let count = with_stdout(rt, |out| dump_engine(rt.alloc(), text, &mut file, out))?;
     Ok(status_of(count))
 }

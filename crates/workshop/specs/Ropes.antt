@@ -23,6 +23,8 @@ use Rattle.workshop.specs.declared.fault.WorkshopFault.{WorkshopFault}
 use Rattle.workshop.specs.declared.fault.WorkshopFault.TheVariants.{NoMemory, WriteFailed}
 use Rattle.workshop.specs.declared.ropes.Compared.{Compared}
 use Rattle.workshop.specs.declared.ropes.Compared.TheVariants as compared
+use Rattle.workshop.specs.declared.ropes.DumpText.{DumpText}
+use Rattle.workshop.specs.declared.ropes.DumpText.TheVariants as dump
 use Rattle.workshop.specs.declared.ropes.RopeText.{RopeText}
 use Rattle.workshop.specs.declared.ropes.RopeText.TheVariants as shown
 use Rattle.workshop.specs.Failures.{Reader, Writer}
@@ -151,29 +153,26 @@ pub record ReadsBytes (before after : Reader) (read : Result (List ℕ) RopeFaul
   pub bytes : before.told ≡ true → ReadsDump before.left after.left read
   pub failures : after.failures ≡ (if has_read_failed read then one_more before.failures else before.failures)
 
--- where the bytes of an image were read the words with a wrong parity are written, and how many there are is answered
-abbrev pub WritesParities : Result (List ℕ) RopeFault → Writer → Writer → Result ℕ WorkshopFault → Type 0
-WritesParities (Ok image) before after result =
-    WritesText (parities image) before after result × IfOk result (λ count. count ≡ length (wrong image))
-WritesParities (Err fault) before after result = (result ≡ Err (of_rope_fault fault)) × (after ≡ before)
+-- what is told of the bytes of an image, and what is counted: the words with a wrong parity, or of how many banks damages tell
+abbrev pub dump_text : DumpText → List ℕ → List ℕ
+dump_text dump.Parities image = parities image
+dump_text dump.Damages image = damages image
+
+abbrev pub dump_count : DumpText → List ℕ → ℕ
+dump_count dump.Parities image = length (wrong image)
+dump_count dump.Damages image = count_of image
+
+-- where the bytes of an image were read that is written, and the count is answered
+abbrev pub WritesDump : DumpText → Result (List ℕ) RopeFault → Writer → Writer → Result ℕ WorkshopFault → Type 0
+WritesDump text (Ok image) before after result =
+    WritesText (dump_text text image) before after result × IfOk result (λ count. count ≡ dump_count text image)
+WritesDump text (Err fault) before after result = (result ≡ Err (of_rope_fault fault)) × (after ≡ before)
 
 -- the bytes of an image are read, and what was read decides what is written
-pub record TellsParity (before after : Showing) (result : Result ℕ WorkshopFault) : Type 0 where
+pub record TellsDump (text : DumpText) (before after : Showing) (result : Result ℕ WorkshopFault) : Type 0 where
   pub read : Result (List ℕ) RopeFault
   pub reads : ReadsBytes before.image after.image read
-  pub next : WritesParities read before.out after.out result
-
--- where the bytes of an image were read what is damaged is written, and of how many banks that tells is answered
-abbrev pub WritesDamages : Result (List ℕ) RopeFault → Writer → Writer → Result ℕ WorkshopFault → Type 0
-WritesDamages (Ok image) before after result =
-    WritesText (damages image) before after result × IfOk result (λ count. count ≡ count_of image)
-WritesDamages (Err fault) before after result = (result ≡ Err (of_rope_fault fault)) × (after ≡ before)
-
--- the bytes of an image are read, and what was read decides what is written
-pub record TellsDamages (before after : Showing) (result : Result ℕ WorkshopFault) : Type 0 where
-  pub read : Result (List ℕ) RopeFault
-  pub reads : ReadsBytes before.image after.image read
-  pub next : WritesDamages read before.out after.out result
+  pub next : WritesDump text read before.out after.out result
 
 -- where the bytes of an image were read a source of its mended words is written
 abbrev pub WritesMended : Result (List ℕ) RopeFault → Writer → Writer → Result (Unit {0}) WorkshopFault → Type 0

@@ -75,8 +75,8 @@ pub use reaching::reach_program;
 pub use refused::report_where;
 pub use rope::{Form, InForm, Rope, Version};
 pub use ropes::{
-    Compared, RopeText, compare_engine, compare_only_engine, damages_engine, mended_engine,
-    named_words_engine, parity_engine, show_engine, upgrade_engine,
+    Compared, DumpText, RopeText, compare_engine, compare_only_engine, dump_engine, mended_engine,
+    named_words_engine, show_engine, upgrade_engine,
 };
 pub use run_reaching::reach_run;
 pub use say::LineForm;

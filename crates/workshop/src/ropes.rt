@@ -1,13 +1,13 @@
 //! The engines that read images: they show them as text, compare them, and upgrade them.
 
-ghost use Rattle.std.specs.Prelude.{◌≡◌, true};
+ghost use Rattle.std.specs.Prelude.{◌≡◌, true, IfOk};
 ghost use Rattle.words.specs.Devices.{Writes, failures_after};
 ghost use Rattle.names.specs.NamedLines.{named_lines};
 ghost use Rattle.rope.specs.Image.{image};
 ghost use Rattle.workshop.specs.Failures.{Reader, reader, writer};
-ghost use Rattle.workshop.specs.Ropes.{Compares, ComparesNext, ComparesOnly, Shows, ShowsMended, TellsDamages};
+ghost use Rattle.workshop.specs.Ropes.{Compares, ComparesNext, ComparesOnly, Shows, ShowsMended, TellsDump};
 ghost use Rattle.workshop.specs.Ropes.{comparing, showing, shown_text};
-ghost use Rattle.workshop.specs.Ropes.{TellsParity, WritesCompared, WritesUncertain};
+ghost use Rattle.workshop.specs.Ropes.{WritesCompared, WritesUncertain, dump_count, dump_text};
 
 use crate::fault::WorkshopFault;
 use crate::inputs::read_program;
@@ -214,39 +214,45 @@ fn compare_flight_program<W: Write>(
     Ok(write_comparison(&uncertain, &rope, words, out)?)
 }
 
-/// Reads the bytes of a rope image to their end, and writes a line for each word whose two bytes have an even number of
-/// one bits, and then how many such words there are, which it answers.
-///
-/// An image that is short or long is refused, and then nothing is written.
-pub fn parity_engine<R: Read, W: Write>(
-    alloc: Global,
-    image: &mut R,
-    out: &mut W,
-) -> Result<u32, WorkshopFault>
-    ensures { TellsParity
-        (showing (reader R.Read image.old) (writer W.Write out.old))
-        (showing (reader R.Read image.new) (writer W.Write out.new)) result }
-{
-    let bytes = Dump::read(alloc, image)?;
-    Ok(write_parities(&bytes, out)?)
+/// What is told of the bytes of an image, and counted.
+#[derive(Clone, Copy)]
+pub enum DumpText {
+    /// A line for each word whose two bytes have an even number of one bits, and then how many such words there are.
+    Parities,
+    /// What is damaged in it, bank by bank: what the words, their parities and the sums tell together; or in which ways
+    /// it stands otherwise. And then of how many banks or ways that tells, the parity of the whole image counted as
+    /// one.
+    Damages,
 }
 
-/// Reads the bytes of a rope image to their end, and writes what is damaged in it, bank by bank: what the words, their
-/// parities and the sums tell together; or in which ways it stands otherwise. Then it writes of how many banks or ways
-/// it told, the parity of the whole image counted as one, and answers that.
+/// Reads the bytes of a rope image to their end, and writes what is to be told of them; it answers the count that this
+/// ends with.
 ///
 /// An image that is short or long is refused, and then nothing is written.
-pub fn damages_engine<R: Read, W: Write>(
+pub fn dump_engine<R: Read, W: Write>(
     alloc: Global,
+    text: DumpText,
     image: &mut R,
     out: &mut W,
 ) -> Result<u32, WorkshopFault>
-    ensures { TellsDamages
+    ensures { TellsDump text
         (showing (reader R.Read image.old) (writer W.Write out.old))
         (showing (reader R.Read image.new) (writer W.Write out.new)) result }
 {
     let bytes = Dump::read(alloc, image)?;
-    Ok(write_damages(&bytes, out)?)
+    Ok(write_told(text, &bytes, out)?)
+}
+
+/// Writes what is to be told of the bytes of an image, and answers the count that this ends with.
+fn write_told<W: Write>(text: DumpText, bytes: &Dump, out: &mut W) -> Result<u32, WriteFailed>
+    ensures written { W.told ≡ true → Writes (W.written out.old) (W.written out.new) (dump_text text bytes.now) result }
+    ensures count { IfOk result (λ count. count ≡ dump_count text bytes.now) }
+    ensures failures { W.failures out.new ≡ failures_after (W.failures out.old) result }
+{
+    match text {
+        DumpText::Parities => write_parities(bytes, out),
+        DumpText::Damages => write_damages(bytes, out),
+    }
 }
 
 /// Reads the bytes of a rope image to their end, and writes a source that gives its words: where one bit alone can have
