@@ -17,10 +17,10 @@ use plans::{
 };
 use words::{Buffer, ReadAhead, Std, Write, read_text, write_all};
 use workshop::{
-    Bounded, Counted, Language, LineForm, Side, Summary, WorkshopFault, access_program,
+    Bounded, Counted, Language, LineForm, RunEnd, Side, Summary, WorkshopFault, access_program,
     bound_program, cover_program, debug_program, delays_program, differ_program, reach_program,
-    reach_run, read_trials, run_program, run_to_hole, run_until_idle, run_with_notes,
-    tell_commands_end, trace_program, try_notes, try_program, write_end,
+    reach_run, read_trials, run_program, run_to_hole, run_with_notes, tell_commands_end,
+    trace_program, try_notes, try_program, write_end,
 };
 
 /// `agcws run [--end] [--progress] [--until-idle | --notes [--json]] .. SRC FEED N`. All files are opened before
@@ -77,15 +77,18 @@ fn tell_hole(
 fn run_told(rt: &HostRuntime, asked: &Run<'_>) -> Result<Summary, WorkshopFault> {
     let (alloc, notation, steps) = (rt.alloc(), asked.notation, asked.steps.count());
     let mut progress = make_listener(rt, asked.tells_progress);
+    let end = if asked.until_idle {
+        RunEnd::Idle
+    } else {
+        RunEnd::Steps
+    };
     with_program(rt, &asked.program, |origin, file, feed, out| {
         let told = &mut progress;
         if asked.tells_notes {
             let notes = &mut Std::new(rt.stderr());
             run_with_notes(alloc, notation, origin, file, feed, steps, out, told, notes)
-        } else if asked.until_idle {
-            run_until_idle(alloc, origin, file, feed, steps, out, told)
         } else {
-            run_program(alloc, origin, file, feed, steps, out, told)
+            run_program(alloc, origin, file, feed, end, steps, out, told)
         }
     })
 }

@@ -8,7 +8,7 @@ use std::process::Abort;
 use test_devices::{FaultyReader, FaultyWriter, Trouble};
 use words::{Buffer, Read, Write};
 use workshop::{
-    Compared, Language, Origin, RopeText, Unheard, Version, WorkshopFault, asm_engine,
+    Compared, Language, Origin, RopeText, RunEnd, Unheard, Version, WorkshopFault, asm_engine,
     compare_engine, debug_program, run_program, show_engine, upgrade_engine,
 };
 
@@ -103,7 +103,8 @@ fn run_ten<P: Read, F: Read, W: Write>(
     feed: &mut F,
     out: &mut W,
 ) -> Result<(), WorkshopFault> {
-    run_program(alloc, origin, program, feed, 10, out, &mut Unheard)?;
+    let end = RunEnd::Steps;
+    run_program(alloc, origin, program, feed, end, 10, out, &mut Unheard)?;
     Ok(())
 }
 

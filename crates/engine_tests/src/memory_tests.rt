@@ -11,8 +11,8 @@ use std::process::Abort;
 use std::test::Fail;
 use words::Buffer;
 use workshop::{
-    LineForm, Origin, Unheard, Version, asm_engine, cover_program, debug_program, follow_source,
-    open_session, run_program, run_with_notes, trace_program, upgrade_engine,
+    LineForm, Origin, RunEnd, Unheard, Version, asm_engine, cover_program, debug_program,
+    follow_source, open_session, run_program, run_with_notes, trace_program, upgrade_engine,
 };
 use yayul::{Language, assemble};
 
@@ -102,6 +102,7 @@ fn always_out_of_memory(rt: HostRuntime) -> Result<(), Fail> {
             origin(),
             &mut source,
             &mut feed,
+            RunEnd::Steps,
             4,
             &mut out,
             &mut Unheard

@@ -6,7 +6,7 @@ use rope::RopeFault;
 use std::alloc::AllocError;
 use test_devices::{FaultyReader, FaultyWriter, Trouble};
 use words::Buffer;
-use workshop::{Origin, Summary, Unheard, WorkshopFault, report, run_program, write_end};
+use workshop::{Origin, RunEnd, Summary, Unheard, WorkshopFault, report, run_program, write_end};
 use yayul::{Fault, Language};
 
 fn source_fault(line: u32, number: u8) -> WorkshopFault {
@@ -48,6 +48,7 @@ fn source_is_told_before_the_feed_is_read(rt: HostRuntime) {
             origin,
             &mut source,
             &mut feed,
+            RunEnd::Steps,
             4,
             &mut out,
             &mut Unheard

@@ -3,7 +3,6 @@ pub mod Aligning
 pub mod Assemblies
 pub mod Banks
 pub mod Covers
-pub mod RunsUntilIdle
 pub mod AccessRuns
 pub mod DelayRuns
 pub mod DifferRuns

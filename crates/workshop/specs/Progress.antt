@@ -88,14 +88,14 @@ TellsWritten text steps before after (Err WriteFailed) = TellsMade text steps be
 TellsWritten text steps before after (Err _) = ⊥
 
 -- where a program and a feed were read the steps of their run are told, and after a fault nothing is
-abbrev pub TellsThen : {T : Type 0} → (Loaded → ℕ → List ℕ) → ℕ → Result Loaded WorkshopFault → Telling → Telling → Result T WorkshopFault
-    → Type 0
-TellsThen text steps (Ok l) before after result = TellsWritten (text l) steps before after result
+abbrev pub TellsThen : {T : Type 0} → (Loaded → ℕ → List ℕ) → (Loaded → ℕ) → Result Loaded WorkshopFault → Telling → Telling
+    → Result T WorkshopFault → Type 0
+TellsThen text steps (Ok l) before after result = TellsWritten (text l) (steps l) before after result
 TellsThen text steps (Err fault) before after result = after.progress ≡ before.progress
 
 -- a program and a feed are read, and what was read decides what is told
-pub record TellsLoaded {T : Type 0} (text : Loaded → ℕ → List ℕ) (from : Origin) (steps : ℕ) (old new : Files) (before after : Telling)
-    (result : Result T WorkshopFault) : Type 0 where
+pub record TellsLoaded {T : Type 0} (text : Loaded → ℕ → List ℕ) (from : Origin) (steps : Loaded → ℕ) (old new : Files)
+    (before after : Telling) (result : Result T WorkshopFault) : Type 0 where
   pub loaded : Result Loaded WorkshopFault
   pub loads : Loads from old new loaded
   pub next : TellsThen text steps loaded before after result

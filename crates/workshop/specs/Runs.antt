@@ -9,6 +9,9 @@ use Rattle.cpu.specs.Next.{next}
 use Rattle.cpu.specs.Run.{run, outs}
 use Rattle.cpu.specs.Effects.{next_address}
 use Rattle.cpu.specs.ChannelLines.{channel_lines}
+use Rattle.idle.specs.Idling.{steps_until_idle}
+use Rattle.workshop.specs.declared.engine.RunEnd.{RunEnd}
+use Rattle.workshop.specs.declared.engine.RunEnd.TheVariants as run_end
 use Rattle.workshop.specs.declared.engine.Summary.{Summary}
 use Rattle.workshop.specs.declared.fault.WorkshopFault.{WorkshopFault}
 use Rattle.workshop.specs.declared.fault.WorkshopFault.TheVariants.{WriteFailed}
@@ -53,10 +56,18 @@ Makes scenario steps before after (Err WriteFailed) =
     (before.told ≡ true → BreaksOff scenario steps before.written after.written) × (after.failures ≡ one_more before.failures)
 Makes scenario steps before after (Err _) = ⊥
 
+-- how many steps a run makes that ends so: all, or where it idles, of most steps at most
+abbrev pub steps_until : RunEnd → Scenario → ℕ → ℕ
+steps_until run_end.Steps scenario most = most
+steps_until run_end.Idle scenario most = steps_until_idle scenario most
+
+abbrev pub loaded_steps : RunEnd → ℕ → Loaded → ℕ
+loaded_steps end most l = steps_until end (scenario_of l) most
+
 -- where a program and a feed were read their run is made, and after a fault nothing is written
-abbrev pub RunsThen : ℕ → Result Loaded WorkshopFault → Writer → Writer → Result Summary WorkshopFault → Type 0
-RunsThen steps (Ok l) before after result = Makes (scenario_of l) steps before after result
-RunsThen steps (Err fault) before after result = (result ≡ Err fault) × (after ≡ before)
+abbrev pub RunsThen : RunEnd → ℕ → Result Loaded WorkshopFault → Writer → Writer → Result Summary WorkshopFault → Type 0
+RunsThen end most (Ok l) before after result = Makes (scenario_of l) (loaded_steps end most l) before after result
+RunsThen end most (Err fault) before after result = (result ≡ Err fault) × (after ≡ before)
 
 -- what an engine that runs has
 pub record Running : Type 0 where
@@ -67,7 +78,7 @@ abbrev pub running : Reader → Reader → Writer → Running
 running program feed out = record { files = program_and_feed program feed; out = out }
 
 -- a program and a feed are read, and what was read decides what runs
-pub record Runs (from : Origin) (steps : ℕ) (before after : Running) (result : Result Summary WorkshopFault) : Type 0 where
+pub record Runs (from : Origin) (end : RunEnd) (most : ℕ) (before after : Running) (result : Result Summary WorkshopFault) : Type 0 where
   pub loaded : Result Loaded WorkshopFault
   pub loads : Loads from before.files after.files loaded
-  pub next : RunsThen steps loaded before.out after.out result
+  pub next : RunsThen end most loaded before.out after.out result

@@ -7,7 +7,7 @@ ghost use Rattle.words.specs.Devices.{Writes, failures_after};
 ghost use Rattle.cpu.specs.ChannelLines.{channel_line, channel_lines};
 ghost use Rattle.workshop.specs.Failures.{reader, writer};
 ghost use Rattle.workshop.specs.Progress.{TellsLoaded, TellsWritten, loaded_text, run_text, telling};
-ghost use Rattle.workshop.specs.Runs.{Runs, Makes, outputs_after, running, summary_of};
+ghost use Rattle.workshop.specs.Runs.{Runs, Makes, loaded_steps, outputs_after, running, steps_until, summary_of};
 ghost use Rattle.workshop.specs.Loading.{program_and_feed};
 ghost use Rattle.cpu.specs.Next.{next};
 ghost use Rattle.cpu.specs.Run.{outs, run};
@@ -18,6 +18,7 @@ use crate::inputs::load;
 use crate::origin::Origin;
 use crate::stepper::{OutputLines, run_all};
 use cpu::{Machine, Output, Processor, write_channel_line};
+use idle::steps_until_idle;
 use space::{Chan, Eras};
 use std::alloc::Global;
 use words::{Read, Word, Write, WriteFailed};
@@ -61,8 +62,18 @@ pub fn may_run(steps: u64) -> bool
     steps <= MOST_STEPS
 }
 
-/// Reads a program and then a feed, and runs the program for some steps: the line of each output is written, as
-/// `7 CH 010 00012` with the cycles, the channel and the word.
+/// Where a run ends.
+#[derive(Clone, Copy)]
+pub enum RunEnd {
+    /// After all its steps.
+    Steps,
+    /// When it idles, as `idle::steps_until_idle` says, or after all its steps. These are made twice: to find the last,
+    /// before anything is written, and to write what they put out.
+    Idle,
+}
+
+/// Reads a program and then a feed, and runs the program for some steps, or until it idles: the line of each output is
+/// written, as `7 CH 010 00012` with the cycles, the channel and the word.
 ///
 /// A source and a feed have at most 8,388,608 bytes each. The first fault of the program is answered, else that of the
 /// feed, and then nothing is written. Lines are handed on while it goes, and all of them where it has made its steps.
@@ -74,16 +85,17 @@ pub fn run_program<P: Read, F: Read, W: Write, T: Write>(
     origin: Origin,
     program: &mut P,
     feed: &mut F,
+    end: RunEnd,
     steps: u64,
     out: &mut W,
     progress: &mut T,
 ) -> Result<Summary, WorkshopFault>
     requires { steps ≤ 2 ^ 40 - 2 }
-    ensures runs { Runs origin steps
+    ensures runs { Runs origin end steps
         (running (reader P.Read program.old) (reader F.Read feed.old) (writer W.Write out.old))
         (running (reader P.Read program.new) (reader F.Read feed.new) (writer W.Write out.new)) result }
     ensures handed_on { W.told ≡ true → 0 < steps → OnOk result (W.handed_on out.new ≡ W.written out.new) }
-    ensures progress { TellsLoaded loaded_text origin steps
+    ensures progress { TellsLoaded loaded_text origin (loaded_steps end steps)
         (program_and_feed (reader P.Read program.old) (reader F.Read feed.old))
         (program_and_feed (reader P.Read program.new) (reader F.Read feed.new))
         (telling (writer W.Write out.old) (writer T.Write progress.old))
@@ -91,7 +103,22 @@ pub fn run_program<P: Read, F: Read, W: Write, T: Write>(
 {
     let loaded = load(alloc, origin, program, feed)?;
     let mut processor = Processor::new(loaded.rope, loaded.feed);
-    run(&mut processor, steps, out, progress)
+    let made = steps_until(end, &mut processor, steps);
+    run(&mut processor, made, out, progress)
+}
+
+/// How many steps a run makes that ends so, of so many at most.
+fn steps_until(end: RunEnd, processor: &mut Processor, most: u64) -> u64
+    requires { most ≤ 2 ^ 40 - 2 }
+    ensures steps { result ≡ steps_until end processor.old.scenario most }
+    ensures within { result ≤ most }
+    ensures some { 0 < most → 0 < result }
+    ensures scenario { processor.new.scenario ≡ processor.old.scenario }
+{
+    match end {
+        RunEnd::Steps => most,
+        RunEnd::Idle => steps_until_idle(processor, most),
+    }
 }
 
 /// The most steps that are made before the lines written so far are handed on.

@@ -22,7 +22,6 @@ mod fault;
 mod holed;
 mod holed_run;
 pub mod holed_words;
-mod idling;
 mod inputs;
 pub mod laws;
 mod naming;
@@ -55,7 +54,7 @@ pub use debugging::{
 pub use delaying::delays_program;
 pub use differing::{Side, differ_program};
 pub use ending::write_end;
-pub use engine::{MOST_STEPS, Summary, may_run, run_program};
+pub use engine::{MOST_STEPS, RunEnd, Summary, may_run, run_program};
 pub use expect::{Asked, Expectation, Refusal as TextRefusal, expectation_in};
 pub use expecting::{Judged, judge_program};
 pub use explain::{
@@ -65,7 +64,6 @@ pub use explain::{
 pub use fault::{WorkshopFault, report};
 pub use holed::{asm_filled_with_check_words, asm_with_holes};
 pub use holed_run::{HoledSummary, run_to_hole};
-pub use idling::run_until_idle;
 pub use naming::{NamedText, named_text_engine, read_names};
 pub use near_names::near_in;
 pub use noting::run_with_notes;

@@ -45,7 +45,7 @@ pub fn trace_program<P: Read, F: Read, W: Write, T: Write>(
         (running (reader P.Read program.old) (reader F.Read feed.old) (writer W.Write out.old))
         (running (reader P.Read program.new) (reader F.Read feed.new) (writer W.Write out.new)) result }
     ensures handed_on { W.told ≡ true → 0 < steps → OnOk result (W.handed_on out.new ≡ W.written out.new) }
-    ensures progress { TellsLoaded (traced_text form first) origin steps
+    ensures progress { TellsLoaded (traced_text form first) origin (λ _. steps)
         (program_and_feed (reader P.Read program.old) (reader F.Read feed.old))
         (program_and_feed (reader P.Read program.new) (reader F.Read feed.new))
         (telling (writer W.Write out.old) (writer T.Write progress.old))
