@@ -1,11 +1,10 @@
 -- The text of a run's steps, as it is written slice by slice.
-use Rattle.std.proofs.Common.{◌≡◌, ℕ, zero, suc, ◌+◌, ◌-◌, ◌<◌, ◌≤◌, Bool, true, List, [], ◌++◌, Result, Ok, Err, refl, ap, ◌∙◌}
+use Rattle.std.proofs.Common.{◌≡◌, ℕ, zero, suc, ◌+◌, ◌-◌, ◌<◌, ◌≤◌, Bool, true, List, ◌++◌, refl, ap, ◌∙◌}
 use Rattle.std.proofs.Common.{arith, subst}
-use Rattle.words.specs.Devices.{IsBeginning, WritesBeginning, failures_after, one_more}
-use Rattle.words.specs.declared.device.WriteFailed.{WriteFailed}
+use Rattle.words.specs.Devices.{IsBeginning, WritesBeginning, one_more}
 use Rattle.words.proofs.Texts.{append-then, beginning-after, begins_along, whole_begins}
 use Rattle.workshop.specs.Failures.{Writer}
-use Rattle.workshop.specs.Stepping.{BreaksIn, Extends, Grows}
+use Rattle.workshop.specs.Stepping.{BreaksIn, Extends}
 
 -- a text that grows with each step begins with that of fewer steps
 begins_by : (text : ℕ → List ℕ) → ((k : ℕ) → IsBeginning (text k) (text (k + 1))) → (n k : ℕ) → IsBeginning (text n) (text (n + k))
@@ -40,12 +39,3 @@ breaks_by text stop n m before after part past within same more broken failures 
       broken = λ is_told old e. rw more (beginning-after old before.written after.written (text m) part (rw same e) (broken is_told));
       failures = failures;
     }
-
--- a text that stays empty
-pub grows_silent : (text : ℕ → List ℕ) → ((n : ℕ) → text n ≡ []) → Grows text
-grows_silent text silent = record { none = silent 0; more = λ n. rw (silent n, silent (n + 1)) (whole_begins []) }
-
--- a writer that counts no failures has not failed
-pub has_not_failed : (result : Result (Unit {0}) WriteFailed) → 0 ≡ failures_after 0 result → result ≡ Ok tt
-has_not_failed (Ok x) e = refl
-has_not_failed (Err e) h = absurd (omega (arith, h))

@@ -11,12 +11,12 @@ ghost use Rattle.workshop.specs.Runs.{running};
 use crate::fault::WorkshopFault;
 use crate::inputs::{Loaded, load};
 use crate::origin::Origin;
-use crate::stepper::{Stepper, count_all};
+use crate::stepper::{Counting, count_all};
 use access::{Tally, View, view_asked, write_accesses};
 use cpu::{Machine, Processor};
 use std::alloc::Global;
 use trace::PlaceNames;
-use words::{Read, Write, WriteFailed};
+use words::{Read, Write};
 
 /// Reads a program and then a feed, makes some steps, and writes how often each cell was read and written at each
 /// level; or where a cell is asked for, by which places. Answers whether there is this cell; where there is none no
@@ -98,8 +98,7 @@ fn count<W: Write, T: Write>(
     Ok(true)
 }
 
-impl Stepper for Tally {
-    ghost use Rattle.std.specs.Prelude.{[]};
+impl Counting for Tally {
     ghost use Rattle.access.specs.Tallies.{Counts};
 
     type Kept = View;
@@ -108,17 +107,7 @@ impl Stepper for Tally {
 
     ghost Stands = { λ view scenario n tally. Counts view scenario n tally };
 
-    ghost text = { λ _ _ _. [] };
-
-    fn go_on<W: Write>(
-        &mut self,
-        processor: &mut Processor,
-        machine: &mut Machine,
-        done: u64,
-        stop: u64,
-        _out: &mut W,
-    ) -> Result<u64, WriteFailed> {
+    fn count(&mut self, processor: &mut Processor, machine: &mut Machine, done: u64, stop: u64) {
         self.make_steps(processor, machine, done, stop);
-        Ok(stop)
     }
 }

@@ -14,7 +14,7 @@ ghost use Rattle.workshop.specs.Runs.{running};
 use crate::fault::WorkshopFault;
 use crate::inputs::{read_feed, read_program};
 use crate::origin::Origin;
-use crate::stepper::{Stepper, count_all};
+use crate::stepper::{Counting, count_all};
 use cover::{Figures, Shown, Tally, write_image_profile, write_source_profile};
 use cpu::{Machine, Processor};
 use json_text::Notation;
@@ -171,8 +171,7 @@ fn write_profile<W: Write>(
     }
 }
 
-impl Stepper for Tally {
-    ghost use Rattle.std.specs.Prelude.{[]};
+impl Counting for Tally {
     ghost use Rattle.cover.specs.Tallies.{Counts};
 
     type Kept = ();
@@ -181,17 +180,7 @@ impl Stepper for Tally {
 
     ghost Stands = { λ _ scenario n tally. Counts scenario n tally };
 
-    ghost text = { λ _ _ _. [] };
-
-    fn go_on<W: Write>(
-        &mut self,
-        processor: &mut Processor,
-        machine: &mut Machine,
-        done: u64,
-        stop: u64,
-        _out: &mut W,
-    ) -> Result<u64, WriteFailed> {
+    fn count(&mut self, processor: &mut Processor, machine: &mut Machine, done: u64, stop: u64) {
         self.make_steps(processor, machine, done, stop);
-        Ok(stop)
     }
 }

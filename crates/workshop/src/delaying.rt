@@ -10,12 +10,12 @@ ghost use Rattle.workshop.specs.Runs.{running};
 use crate::fault::WorkshopFault;
 use crate::inputs::{Loaded, load};
 use crate::origin::Origin;
-use crate::stepper::{Stepper, count_all};
+use crate::stepper::{Counting, count_all};
 use cpu::{Machine, Processor};
 use delays::{Delays, write_delays};
 use std::alloc::Global;
 use trace::PlaceNames;
-use words::{Read, Write, WriteFailed};
+use words::{Read, Write};
 
 /// Reads a program and then a feed, makes some steps, and writes how long each interrupt waited, and for how long none
 /// could come.
@@ -70,8 +70,7 @@ fn delays<W: Write, T: Write>(
     Ok(())
 }
 
-impl Stepper for Delays {
-    ghost use Rattle.std.specs.Prelude.{[]};
+impl Counting for Delays {
     ghost use Rattle.delays.specs.Tallies.{Measures};
 
     type Kept = ();
@@ -80,17 +79,7 @@ impl Stepper for Delays {
 
     ghost Stands = { λ _ scenario n delays. Measures scenario n delays };
 
-    ghost text = { λ _ _ _. [] };
-
-    fn go_on<W: Write>(
-        &mut self,
-        processor: &mut Processor,
-        machine: &mut Machine,
-        done: u64,
-        stop: u64,
-        _out: &mut W,
-    ) -> Result<u64, WriteFailed> {
+    fn count(&mut self, processor: &mut Processor, machine: &mut Machine, done: u64, stop: u64) {
         self.make_steps(processor, machine, done, stop);
-        Ok(stop)
     }
 }

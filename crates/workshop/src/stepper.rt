@@ -1,6 +1,6 @@
 //! Making the steps of a run slice by slice, whatever an engine makes of them.
 
-ghost use Rattle.std.specs.Prelude.{◌≡◌, ◌+◌, ◌-◌, ◌<◌, ◌≤◌, ◌^◌, ℕ, Bool, List, [], true, false, IfOk, OnErr, OnOk};
+ghost use Rattle.std.specs.Prelude.{◌≡◌, ◌+◌, ◌-◌, ◌<◌, ◌≤◌, ◌^◌, ℕ, Bool, List, true, false, IfOk, OnErr, OnOk};
 ghost use Rattle.words.specs.Devices.{Writes, failures_after};
 ghost use Rattle.cpu.specs.Next.{next};
 ghost use Rattle.cpu.specs.Run.{run};
@@ -11,7 +11,7 @@ ghost use Rattle.workshop.specs.Progress.{TellsAll, telling};
 ghost use Rattle.workshop.specs.Stepping.{Grows, TellsSteps, WritesOn};
 
 use crate::engine::{STEPS_BETWEEN_FLUSHES, hand_on, step_and_write, write_put};
-use crate::progress::{Unheard, tell};
+use crate::progress::tell;
 use cpu::{Machine, Processor};
 use notes::Notebook;
 use say::{LineForm, tell_step};
@@ -19,8 +19,7 @@ use trace::PlaceNames;
 use words::{Write, WriteFailed};
 use yayul::NamedPlaces;
 
-/// What makes the steps of a run, and of them what an engine tells: a text that is written while they are made, or
-/// figures.
+/// What makes the steps of a run, and writes a text of them meanwhile.
 pub(crate) trait Stepper {
     /// What no step changes of it.
     type Kept;
@@ -105,32 +104,53 @@ pub(crate) fn run_all<S: Stepper, W: Write, T: Write>(
     Ok(())
 }
 
-/// The same where nothing is written while the steps are made. Answers their cycles.
-pub(crate) fn count_all<S: Stepper, T: Write>(
-    stepper: &mut S,
+/// What makes the steps of a run and keeps figures of them, and writes nothing meanwhile.
+pub(crate) trait Counting {
+    /// What no step changes of it.
+    type Kept;
+
+    /// What no step changes of it.
+    ghost kept: { Self → Self.Kept };
+
+    /// How it stands after so many steps of a run.
+    ghost Stands: { Self.Kept → Scenario → ℕ → Self → Type 0 };
+
+    /// Makes more steps of a run of which some are done.
+    fn count(&mut self, processor: &mut Processor, machine: &mut Machine, done: u64, stop: u64)
+        requires within { done ≤ stop }
+        requires few { stop ≤ 2 ^ 40 }
+        requires state { machine.old ≡ run processor.old.scenario done }
+        requires stands { Stands (kept self.old) processor.old.scenario done self.old }
+        ensures scenario { processor.new.scenario ≡ processor.old.scenario }
+        ensures kept { kept self.new ≡ kept self.old }
+        ensures state { machine.new ≡ run processor.old.scenario stop }
+        ensures stands { Stands (kept self.old) processor.old.scenario stop self.new };
+}
+
+/// Makes some steps from the start slice by slice, and tells after each how many were made. Answers their cycles.
+pub(crate) fn count_all<C: Counting, T: Write>(
+    counting: &mut C,
     processor: &mut Processor,
     steps: u64,
     progress: &mut T,
 ) -> u64
     requires few { steps ≤ 2 ^ 40 - 2 }
-    requires none { S.Stands (S.kept stepper.old) processor.old.scenario 0 stepper.old }
-    requires silent { (n : ℕ) → S.text (S.kept stepper.old) processor.old.scenario n ≡ [] }
+    requires none { C.Stands (C.kept counting.old) processor.old.scenario 0 counting.old }
     ensures scenario { processor.new.scenario ≡ processor.old.scenario }
-    ensures kept { S.kept stepper.new ≡ S.kept stepper.old }
-    ensures stands { S.Stands (S.kept stepper.old) processor.old.scenario steps stepper.new }
+    ensures kept { C.kept counting.new ≡ C.kept counting.old }
+    ensures stands { C.Stands (C.kept counting.old) processor.old.scenario steps counting.new }
     ensures cycles { result ≡ (run processor.old.scenario steps).cycles }
-    ensures progress { TellsAll steps (writer T.Write progress.old)
-        (writer T.Write progress.new) }
+    ensures progress { TellsAll steps (writer T.Write progress.old) (writer T.Write progress.new) }
 {
     let mut machine = Machine::start();
-    let _ = run_all(
-        stepper,
-        processor,
-        &mut machine,
-        steps,
-        &mut Unheard,
-        progress,
-    );
+    let mut told = Ok(());
+    let mut done = 0;
+    while done < steps {
+        let end = steps.min(done + STEPS_BETWEEN_FLUSHES);
+        counting.count(processor, &mut machine, done, end);
+        told = tell(told, end, progress);
+        done = end;
+    }
     machine.cycles()
 }
 

@@ -6,13 +6,10 @@ use Rattle.cover.proofs.Counting.{adds_up, shown_add_up}
 use Rattle.workshop.proofs.Profiles.{text_is}
 use Rattle.workshop.proofs.covering.cover.Goals as goal
 
-pub count_all-cycles-requires-clause-silent : goal.count_all-cycles-requires-clause-silent
-count_all-cycles-requires-clause-silent g c = λ n. refl
-
 pub returns-in_err-write_profile-clause-covers : goal.returns-in_err-write_profile-clause-covers
 returns-in_err-write_profile-clause-covers g c =
     let p = err_from_is_err_and c.from_residual.result c.from_residual.ensures.1 in
-    let text = text_is c.args.notation c.args.processor.now.scenario c.args.steps c.count_all-cycles.new.stepper
+    let text = text_is c.args.notation c.args.processor.now.scenario c.args.steps c.count_all-cycles.new.counting
     (record { count = c.args.steps; cycles = c.count_all-cycles.result }) c.rope.result.now c.args.rows.now
     c.count_all-cycles.ensures.stands (ap (λ k. record { count = c.args.steps; cycles = k }) c.count_all-cycles.ensures.cycles)
     (c.rope.ensures ∙ ap (λ s. s.rope) c.count_all-cycles.ensures.scenario) in
@@ -27,7 +24,7 @@ returns-in_err-write_profile-clause-covers g c =
 
 pub returns-clause-covers : goal.returns-clause-covers
 returns-clause-covers g c =
-    let text = text_is c.args.notation c.args.processor.now.scenario c.args.steps c.count_all-cycles.new.stepper
+    let text = text_is c.args.notation c.args.processor.now.scenario c.args.steps c.count_all-cycles.new.counting
     (record { count = c.args.steps; cycles = c.count_all-cycles.result }) c.rope.result.now c.args.rows.now
     c.count_all-cycles.ensures.stands (ap (λ k. record { count = c.args.steps; cycles = k }) c.count_all-cycles.ensures.cycles)
     (c.rope.ensures ∙ ap (λ s. s.rope) c.count_all-cycles.ensures.scenario) in

@@ -13,13 +13,10 @@ use Rattle.workshop.proofs.delaying.delays.Goals as goal
 pub count_all-requires-clause-none : goal.count_all-requires-clause-none
 count_all-requires-clause-none g c = c.in-Ok-new.ensures c.new-processor.result.scenario
 
-pub count_all-requires-clause-silent : goal.count_all-requires-clause-silent
-count_all-requires-clause-silent g c = λ n. refl
-
 pub returns-in_err-write_delays-clause-delays : goal.returns-in_err-write_delays-clause-delays
 returns-in_err-write_delays-clause-delays g c =
     let p = err_from_is_err_and c.from_residual.result c.from_residual.ensures.1 in
-    let text = text_is c.in-Ok.names c.new-processor.result.scenario c.args.steps c.count_all.new.stepper c.rope.result.now
+    let text = text_is c.in-Ok.names c.new-processor.result.scenario c.args.steps c.count_all.new.counting c.rope.result.now
     c.count_all.ensures.stands (c.rope.ensures ∙ ap (λ s. s.rope) c.count_all.ensures.scenario) in
     let same : delays_text c.in-Ok.names c.new-processor.result.scenario c.args.steps
     ≡ delays_text c.args.loaded.symbols (scenario_of c.args.loaded) c.args.steps =
@@ -34,7 +31,7 @@ returns-in_err-write_delays-clause-delays g c =
 
 pub returns-clause-delays : goal.returns-clause-delays
 returns-clause-delays g c =
-    let text = text_is c.in-Ok.names c.new-processor.result.scenario c.args.steps c.count_all.new.stepper c.rope.result.now
+    let text = text_is c.in-Ok.names c.new-processor.result.scenario c.args.steps c.count_all.new.counting c.rope.result.now
     c.count_all.ensures.stands (c.rope.ensures ∙ ap (λ s. s.rope) c.count_all.ensures.scenario) in
     let same : delays_text c.in-Ok.names c.new-processor.result.scenario c.args.steps
     ≡ delays_text c.args.loaded.symbols (scenario_of c.args.loaded) c.args.steps =
