@@ -1,11 +1,11 @@
 //! Making the steps of a run slice by slice, whatever an engine makes of them.
 
-ghost use Rattle.std.specs.Prelude.{◌≡◌, ◌+◌, ◌-◌, ◌<◌, ◌≤◌, ◌^◌, ℕ, Bool, List, true, false, IfOk, OnErr, OnOk};
+ghost use Rattle.std.specs.Prelude.{◌≡◌, ◌+◌, ◌-◌, ◌<◌, ◌≤◌, ◌^◌, ℕ, nat_lt, Bool, List, true, false};
+ghost use Rattle.std.specs.Prelude.{IfOk, OnErr, OnOk};
 ghost use Rattle.words.specs.Devices.{Writes, failures_after};
 ghost use Rattle.cpu.specs.Next.{next};
 ghost use Rattle.cpu.specs.Run.{run};
 ghost use Rattle.cpu.specs.State.{FitsRun, Scenario, start};
-ghost use Rattle.say.specs.Said.{told_from};
 ghost use Rattle.workshop.specs.Failures.{writer};
 ghost use Rattle.workshop.specs.Progress.{TellsAll, telling};
 ghost use Rattle.workshop.specs.Stepping.{Grows, TellsSteps, WritesOn};
@@ -236,28 +236,22 @@ pub(crate) struct Tracing {
 }
 
 impl Tracing {
-    /// Makes a step, and writes its line where lines are written from there on.
-    fn step_and_trace<W: Write>(
-        &self,
-        processor: &mut Processor,
-        machine: &mut Machine,
-        number: u64,
-        out: &mut W,
-    ) -> Result<(), WriteFailed>
-        requires cycles { machine.old.cycles ≤ 2 ^ 62 }
-        requires fits { FitsRun processor.old.scenario machine.old }
-        ensures scenario { processor.new.scenario ≡ processor.old.scenario }
-        ensures state { machine.new ≡ (next processor.old.scenario machine.old).0 }
-        ensures written { W.told ≡ true → Writes (W.written out.old) (W.written out.new)
-            (told_from self.now.form self.now.names processor.old.scenario self.now.first number machine.old) result }
-        ensures failures { W.failures out.new ≡ failures_after (W.failures out.old) result }
+    /// Whether a step stands before the first whose line is written.
+    fn is_before(&self, number: u64) -> bool
+        ensures { result ≡ nat_lt number self.now.first }
     {
-        if number < self.first {
-            processor.step(machine);
-            return Ok(());
-        }
-        tell_step(self.form, &self.names, processor, machine, number, out)
+        number < self.first
     }
+}
+
+/// Makes a step, and writes nothing of it.
+fn step_silently(processor: &mut Processor, machine: &mut Machine)
+    requires cycles { machine.old.cycles ≤ 2 ^ 62 }
+    requires fits { FitsRun processor.old.scenario machine.old }
+    ensures scenario { processor.new.scenario ≡ processor.old.scenario }
+    ensures state { machine.new ≡ (next processor.old.scenario machine.old).0 }
+{
+    processor.step(machine);
 }
 
 impl Stepper for Tracing {
@@ -279,7 +273,12 @@ impl Stepper for Tracing {
         stop: u64,
         out: &mut W,
     ) -> Result<u64, WriteFailed> {
-        self.step_and_trace(processor, machine, done + 1, out)?;
-        Ok(done + 1)
+        let number = done + 1;
+        if self.is_before(number) {
+            step_silently(processor, machine);
+            return Ok(number);
+        }
+        tell_step(self.form, &self.names, processor, machine, number, out)?;
+        Ok(number)
     }
 }
