@@ -1,4 +1,4 @@
 use Rattle.workshop.proofs.accessing.TallyCounting.count.Goals as goal
 
 pub returns-clause-kept : goal.returns-clause-kept
-returns-clause-kept g c = c.make_steps.ensures.counts.keeps.same
+returns-clause-kept c = c.make_steps.ensures.counts.keeps.same
