@@ -1,5 +1,5 @@
 -- How often something happens, step by step.
-use Rattle.std.proofs.Common.{◌≡◌, ℕ, zero, suc, ◌+◌, ◌-◌, ◌++◌, ◌||◌, ◌<◌, append-nil, not, ◌≤◌, ◌^◌, ◌==◌, ◌&&◌, Bool, true}
+use Rattle.std.proofs.Common.{◌≡◌, ℕ, zero, suc, ◌+◌, ◌-◌, ◌++◌, ◌||◌, ◌<◌, append-nil, ◌≤◌, ◌^◌, ◌==◌, ◌&&◌, Bool, true}
 use Rattle.std.proofs.Common.{false, List, [], length, replicate, get_or, set, refl, sym, ap, ◌∙◌, inl, inr, None}
 use Rattle.std.proofs.Common.{arith, add-one, subst, if◌then◌else◌}
 use Rattle.std.proofs.lemmas.Bool.{cases_Bool, and_parts, eqb-true}
@@ -22,11 +22,9 @@ use Rattle.notes.specs.declared.kind.Kind.TheVariants.{Quotient, Skip, NoWord, I
 use Rattle.notes.specs.declared.kind.Kind.TheVariants.{Overwritten, Shared, FixedBank}
 use Rattle.cpu.specs.NextStep.{next_step}
 use Rattle.cpu.specs.declared.next_step.NextStep.{NextStep}
-use Rattle.cpu.specs.declared.next_step.NextStep.TheVariants as made
 use Rattle.notes.specs.declared.past.Past.{Past}
 use Rattle.notes.specs.Past.{no_past, past, past_by, seen}
 use Rattle.notes.specs.Notes.{happens, happens_in}
-use Rattle.notes.specs.Notes.{skips}
 use Rattle.notes.proofs.Divisions.{neither}
 use Rattle.notes.specs.RunNotes.{here, happens_at, kinds_text, step_text, text_after, times, times_from, told, where_of}
 use Rattle.notes.specs.declared.notebook.Told.{Told}

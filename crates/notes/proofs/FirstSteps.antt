@@ -1,8 +1,8 @@
 -- The steps in which some kind happens for the first time at its place, one after another.
 use Rattle.std.proofs.Common.{◌≡◌, ℕ, zero, suc, ◌+◌, ◌-◌, ◌<◌, ◌≤◌, Bool, true, false, List, [], ◌∷◌, ◌++◌, refl, sym, ap, ◌∙◌}
-use Rattle.std.proofs.Common.{arith, add-one, append_assoc, append-nil, drop, get_or, inl, inr, subst, if◌then◌else◌}
+use Rattle.std.proofs.Common.{arith, add-one, append_assoc, append-nil, drop, get_or, inl, inr, subst}
 use Rattle.std.proofs.lemmas.Bool.{cases_Bool}
-use Rattle.std.proofs.lemmas.Bool.Decides.{eqb_tells, nat_tests}
+use Rattle.std.proofs.lemmas.Bool.Decides.{eqb_tells}
 use Rattle.cpu.specs.State.{Scenario}
 use Rattle.yayul.specs.Named.{Named}
 use Rattle.notes.specs.declared.first_steps.FirstStep.{FirstStep}

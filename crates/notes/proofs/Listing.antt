@@ -1,8 +1,7 @@
 -- What is told at the steps of a list is what is told of a run.
-use Rattle.std.proofs.Common.{◌≡◌, ℕ, ◌+◌, ◌-◌, ◌<◌, ◌≤◌, ◌++◌, ◌==◌, ◌&&◌, Bool, true, false, List, [], ◌∷◌, refl, sym, ap, ◌∙◌, arith}
-use Rattle.std.proofs.Common.{inl, inr, if◌then◌else◌}
-use Rattle.std.proofs.lemmas.Bool.{cases_Bool}
-use Rattle.audit.proofs.PartTexts.{front, front_more}
+use Rattle.std.proofs.Common.{◌≡◌, ℕ, ◌+◌, ◌-◌, ◌≤◌, ◌==◌, ◌&&◌, Bool, true, false, List, [], refl, ap, ◌∙◌, arith}
+use Rattle.std.proofs.Common.{if◌then◌else◌}
+use Rattle.audit.proofs.PartTexts.{front}
 use Rattle.json_text.specs.declared.notation.Notation.{Notation}
 use Rattle.symbols.specs.Values.{SymbolTable}
 use Rattle.yayul.specs.Named.{Named}

@@ -1,5 +1,5 @@
 -- Steps of which nothing is told but that they reach another bank, and those of which nothing is.
-use Rattle.std.proofs.Common.{◌≡◌, ℕ, ◌+◌, ◌∙◌, ◌==◌, ◌&&◌, Bool, true, false, not, nat_lt, List, length, get_or, set, refl, sym, ap, subst}
+use Rattle.std.proofs.Common.{◌≡◌, ℕ, ◌+◌, ◌∙◌, ◌==◌, ◌&&◌, Bool, true, false, not, nat_lt, get_or, set, refl, sym, ap, subst}
 use Rattle.std.proofs.Common.{inl, inr, Option, Some, None, arith, if◌then◌else◌, ◌<◌, ◌||◌, nat_le}
 use Rattle.std.specs.Prelude.{codes, is_some}
 use Rattle.std.proofs.lemmas.Bool.{cases_Bool, and_parts, ltb-true}
@@ -9,7 +9,6 @@ use Rattle.std.proofs.lemmas.List.{set-get_or}
 use Rattle.space.specs.declared.place.Linear.{Linear}
 use Rattle.space.specs.declared.place.Linear.TheVariants.{Erasable, Fixed}
 use Rattle.rope.specs.Places.{Words, bank_words, banks, slot_at, stands}
-use Rattle.cpu.specs.declared.account.Account.{Account}
 use Rattle.cpu.specs.declared.account.Account.TheVariants.{Place}
 use Rattle.cpu.specs.NextStep.{next_step}
 use Rattle.cpu.specs.State.{State, Scenario}
@@ -19,8 +18,6 @@ use Rattle.cpu.specs.declared.next_step.NextStep.TheVariants as made
 use Rattle.yayul.specs.Named.{Named}
 use Rattle.cover.specs.Tallies.{account_number, IsAccount}
 use Rattle.notes.specs.declared.kind.Kind.{Kind}
-use Rattle.notes.specs.declared.kind.Kind.TheVariants.{Quotient, Skip, NoWord, InErasable, NoHandler, OtherBank, NotKept, MinusZero}
-use Rattle.notes.specs.declared.kind.Kind.TheVariants.{Overwritten, Shared, FixedBank}
 use Rattle.notes.specs.declared.past.Past.{Past}
 use Rattle.notes.specs.Past.{comes_by, is_lost, is_marked, is_passed, marked, past_by, reads_channel}
 use Rattle.notes.specs.Notes.{counts_minus_zero, divides, happens, happens_in, has_word, is_at_word, is_code_in_erasable, is_erasable}
@@ -28,7 +25,7 @@ use Rattle.notes.specs.Notes.{is_plain, is_plain_code, is_plain_step, is_quiet_s
 use Rattle.notes.specs.Notes.{is_named, is_way_back, reaches_other, skips}
 use Rattle.notes.proofs.Divisions.{basic_never, extracode_never, store_never_elsewhere}
 use Rattle.notes.specs.RunNotes.{here, where_of}
-use Rattle.notes.specs.Counted.{AreSmall, Book, counted_more, counts_of, firsts_by, is_first, left_after, Lists, Notes, seen_by, some_kind}
+use Rattle.notes.specs.Counted.{Book, counted_more, counts_of, firsts_by, is_first, left_after, Lists, Notes, some_kind}
 use Rattle.notes.specs.Counted.{taken, taken_at, Takes}
 use Rattle.notes.specs.Reached.{CountsPlain, only_bank}
 use Rattle.notes.specs.Waits.{Waits, waits_after}

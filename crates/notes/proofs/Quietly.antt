@@ -10,7 +10,7 @@ use Rattle.notes.specs.declared.kind.Kind.TheVariants.{Quotient, Skip, NoWord, I
 use Rattle.notes.specs.declared.kind.Kind.TheVariants.{Overwritten, Shared, FixedBank}
 use Rattle.notes.specs.declared.noted.Note.{Note}
 use Rattle.notes.specs.Notes.{is_quiet_step}
-use Rattle.notes.specs.Noted.{Noted, kind_noted, noted_by, noted_more, spot_of, step_notes, with_kind}
+use Rattle.notes.specs.Noted.{Noted, kind_noted, noted_more, spot_of, step_notes, with_kind}
 use Rattle.notes.proofs.Plain.{quiet_past, step_none}
 
 -- a kind that does not happen adds nothing

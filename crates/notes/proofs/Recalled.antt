@@ -1,13 +1,13 @@
 -- What is known of a word tells of each step that executes it.
-use Rattle.std.proofs.Common.{◌≡◌, ℕ, ◌+◌, ◌-◌, ◌*◌, ◌/◌, ◌^◌, ◌<◌, ◌≤◌, ◌==◌, ◌&&◌, ◌||◌, Bool, true, false, not, nat_le, nat_lt, List, length, get_or, set}
-use Rattle.std.proofs.Common.{replicate, Option, Some, None, refl, sym, ap, subst, arith, ◌∙◌, inl, inr, if◌then◌else◌, unwrap_or}
+use Rattle.std.proofs.Common.{◌≡◌, ℕ, ◌+◌, ◌-◌, ◌*◌, ◌/◌, ◌^◌, ◌<◌, ◌≤◌, ◌==◌, ◌&&◌, ◌||◌, Bool, true, false, not, nat_le, nat_lt, List}
+use Rattle.std.proofs.Common.{length, get_or, set, replicate, Option, Some, None, refl, sym, ap, subst, arith, ◌∙◌, inl, inr, if◌then◌else◌, unwrap_or}
 use Rattle.std.specs.Prelude.{codes, is_some}
-use Rattle.std.proofs.lemmas.Bool.{cases_Bool, and_parts, eqb-true, eqb-false, leb-true, le-ltb, lt-ltb, ltb-true}
+use Rattle.std.proofs.lemmas.Bool.{cases_Bool, and_parts, eqb-true, eqb-false, leb-true, le-ltb, ltb-true}
 use Rattle.std.proofs.lemmas.List.{get_or-set_other, get_or-set_same}
 use Rattle.std.proofs.lemmas.Nat.{div-mul-add}
 use Rattle.words.proofs.Replicated.{get_replicated}
-use Rattle.space.specs.Cells.{at, erasable_bank, fixed_bank, superbank}
-use Rattle.space.specs.Places.{place, selected_bank}
+use Rattle.space.specs.Cells.{at, erasable_bank}
+use Rattle.space.specs.Places.{place}
 use Rattle.space.specs.declared.place.Linear.{Linear}
 use Rattle.space.specs.declared.place.Linear.TheVariants.{Erasable, Fixed}
 use Rattle.rope.specs.Places.{Words, bank_words, place_number, stands}
@@ -22,7 +22,7 @@ use Rattle.notes.specs.declared.known.Way.{Way}
 use Rattle.notes.specs.declared.known.Way.TheVariants as way
 use Rattle.notes.specs.declared.past.Past.{Past}
 use Rattle.notes.specs.Known.{Knows, KnowsWord, is_calm, is_judged, leads_away, nothing_known, way_of}
-use Rattle.notes.specs.Notes.{counts_minus_zero, divides, is_at_word, is_ccs, is_elsewhere, is_named, is_plain, is_plain_code}
+use Rattle.notes.specs.Notes.{counts_minus_zero, divides, is_at_word, is_ccs, is_named, is_plain, is_plain_code}
 use Rattle.notes.specs.Notes.{leads_elsewhere, place_named, reaches_other, skips}
 use Rattle.notes.specs.Past.{comes_by, entered_at, is_passed, reads_channel}
 use Rattle.notes.proofs.Divisions.{neither, never_elsewhere, store_never_elsewhere}
@@ -93,7 +93,8 @@ calm_code rope s f calm =
     elim (cases_Bool f.extra) [
       | inl extra ↦
           let high : nat_le 0o12000 f.word ≡ true = rw extra at calm in
-          first_so f.extra _ _ extra (neither_is (reads_channel f) (divides rope s f) (reads_none f high) (divides_none rope s f extra high))
+          first_so f.extra _ _ extra
+          (neither_is (reads_channel f) (divides rope s f) (reads_none f high) (divides_none rope s f extra high))
       | inr basic ↦
           let both : (not (f.word == 0o50017) && not (is_judged f.word)) ≡ true = rw basic at calm in
           let parts = and_parts (not (f.word == 0o50017)) (not (is_judged f.word)) both in
@@ -210,6 +211,7 @@ kept_is_known named words new here there number known before is at low within kn
       | inr other ↦
           let held : get_or new (place_number bank offset) nothing_known ≡ get_or words (place_number bank offset) nothing_known =
           ap (λ ws. get_or ws (place_number bank offset) nothing_known) is
-          ∙ get_or-set_other words number (place_number bank offset) known nothing_known (eqb-false (place_number bank offset) number other) in
+          ∙ get_or-set_other words number (place_number bank offset) known nothing_known
+          (eqb-false (place_number bank offset) number other) in
           subst (KnowsThere named bank offset) (sym held) (before bank offset lt)
     ]

@@ -1,6 +1,6 @@
 -- What is known of a word, by its place and what its source names: whether something is told of it by what it finds, and by which bank
 -- register that it reaches another bank.
-use Rattle.std.specs.Prelude.{◌≡◌, ℕ, ◌+◌, ◌/◌, ◌<◌, ◌^◌, ◌==◌, ◌&&◌, ◌||◌, nat_le, nat_lt, Bool, true, false, not, List, Option, Some, None}
+use Rattle.std.specs.Prelude.{◌≡◌, ℕ, ◌/◌, ◌<◌, ◌^◌, ◌==◌, ◌&&◌, ◌||◌, nat_le, nat_lt, Bool, true, false, not, List, Option, Some, None}
 use Rattle.std.specs.Prelude.{get_or, if◌then◌else◌}
 use Rattle.space.specs.Cells.{at, erasable_bank, fixed_bank, superbank}
 use Rattle.space.specs.Places.{selected_bank}

@@ -57,8 +57,8 @@ pub(crate) enum Way {
     ByFixed(u16),
 }
 
-/// What is known of a word, under extracode or not: whether nothing is told of it whatever it finds, but that it reaches
-/// another bank, and by which bank register that is told.
+/// What is known of a word, under extracode or not: whether nothing is told of it whatever it finds, but that it
+/// reaches another bank, and by which bank register that is told.
 #[derive(Clone, Copy)]
 pub(crate) struct KnownWord {
     pub(crate) word: u16,
@@ -114,7 +114,8 @@ impl KnownWords {
         fetched: &Fetched,
     ) -> Option<bool>
         requires { Knows named.now self.now }
-        ensures plain { IfSome result (λ _. is_plain processor.now.scenario.rope machine.now past.now fetched.now ≡ true) }
+        ensures plain { IfSome result (λ _. is_plain processor.now.scenario.rope machine.now past.now fetched.now
+            ≡ true) }
         ensures reaches { IfSome result (λ reaches. reaches ≡ reaches_other named.now machine.now fetched.now) }
     {
         let Linear::Fixed(bank, offset) = fetched.place else {
@@ -227,7 +228,8 @@ fn is_untold(
     past: &Past,
     fetched: &Fetched,
 ) -> bool
-    ensures passed { result ≡ true → known.now.calm ≡ false → is_passed past.now (comes_by machine.now fetched.now) ≡ true }
+    ensures passed { result ≡ true → known.now.calm ≡ false
+        → is_passed past.now (comes_by machine.now fetched.now) ≡ true }
     ensures code { result ≡ true → known.now.calm ≡ false
         → is_plain_code processor.now.scenario.rope machine.now fetched.now ≡ true }
 {

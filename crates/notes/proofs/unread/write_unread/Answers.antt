@@ -1,6 +1,5 @@
-use Rattle.std.proofs.Common.{◌∙◌, refl, arith}
+use Rattle.std.proofs.Common.{◌∙◌, arith}
 use Rattle.std.proofs.lemmas.Result.{err_from_is_err_and}
-use Rattle.words.proofs.Texts.{append-nothing}
 use Rattle.audit.proofs.PartTexts.{begins_parts, front_ends, writes_more}
 use Rattle.notes.specs.Past.{channels}
 use Rattle.notes.specs.Unread.{unread_of, unread_text}

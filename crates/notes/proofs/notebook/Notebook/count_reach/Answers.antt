@@ -1,8 +1,7 @@
-use Rattle.std.proofs.Common.{◌≡◌, ◌≤◌, ◌^◌, Bool, true, ℕ, get_or, subst, sym}
+use Rattle.std.proofs.Common.{◌≤◌, ◌^◌, ℕ, get_or, subst, sym}
 use Rattle.cpu.specs.declared.account.Account.TheVariants.{Place}
 use Rattle.notes.specs.declared.kind.Kind.TheVariants.{OtherBank, FixedBank}
 use Rattle.notes.specs.Counted.{counts_of}
-use Rattle.notes.specs.Reached.{CountsPlain}
 use Rattle.notes.proofs.notebook.Notebook.count_reach.Goals as goal
 
 pub count_reached-requires-clause-erasable : goal.count_reached-requires-clause-erasable

@@ -1,4 +1,4 @@
-use Rattle.std.proofs.Common.{◌≡◌, ◌≤◌, ◌^◌, get_or, refl, subst, sym}
+use Rattle.std.proofs.Common.{◌≤◌, ◌^◌, get_or, refl, subst, sym}
 use Rattle.notes.specs.declared.kind.Kind.TheVariants.{OtherBank, FixedBank}
 use Rattle.notes.specs.Counted.{Book, counts_of}
 use Rattle.notes.proofs.Booked.{counts_reached}
