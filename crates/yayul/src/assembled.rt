@@ -1,18 +1,13 @@
 //! Assembled sources.
 
-ghost use Rattle.std.specs.Prelude.{◌≡◌, true, map, IfOk};
-ghost use Rattle.agc_text.specs.Lines.{lines};
+ghost use Rattle.std.specs.Prelude.{◌≡◌, true, IfOk};
 ghost use Rattle.words.specs.Devices.{Writes, failures_after};
-ghost use Rattle.yayul.specs.Layout.{start};
 ghost use Rattle.yayul.specs.Listing.{listing};
 ghost use Rattle.yayul.specs.Named.{named_places};
-ghost use Rattle.yayul.specs.Inside.Representation.{shown_by_mark, lines_show};
 ghost use Rattle.agc_text.specs.Tables.{value_in};
 
-use crate::language::Language;
-use crate::listing::{write_rows, write_symbols};
+use crate::listing::write_symbols;
 use crate::margin::NoMargin;
-use crate::mark::Marks;
 use crate::named::NamedPlaces;
 use crate::source_rows::SourceRows;
 use json_text::Notation;
@@ -27,55 +22,28 @@ use words::{Write, WriteFailed};
 pub struct Program {
     rope: Rope,
     symbols: Symbols,
-    language: Language,
-    source: Vec<u8>,
-    // What the listing shows beside each line.
-    marks: Marks,
+    rows: SourceRows,
 }
 
 impl Model for Program {
-    ghost use Rattle.std.specs.Prelude.{◌≡◌, map};
-    ghost use Rattle.agc_text.specs.Lines.{lines};
-    ghost use Rattle.yayul.specs.Layout.{start};
     ghost use Rattle.yayul.specs.Program.{Program as Assembled};
-    ghost use Rattle.yayul.specs.Inside.Representation.{program_code, shown_by_mark, lines_show};
+    ghost use Rattle.yayul.specs.Inside.Representation.{program_code};
 
     ghost Value = { Assembled };
 
     ghost coded = { program_code };
 
-    ghost view = { λ p. record {
-      rope = p.rope;
-      symbols = p.symbols;
-      source = record
-          { language = p.language; text = p.source.items };
-    } };
-
-    ghost invariant = { λ p. map shown_by_mark p.marks ≡ lines_show 1 (start p.language) (lines p.source.items) };
+    ghost view = { λ p. record { rope = p.rope; symbols = p.symbols; source = p.rows } };
 }
 
 impl Program {
-    pub(crate) fn new(
-        rope: Rope,
-        symbols: Symbols,
-        language: Language,
-        source: Vec<u8>,
-        marks: Marks,
-    ) -> Program
-        requires { map shown_by_mark marks ≡ lines_show 1 (start language) (lines source.items) }
-        ensures { result ≡ record {
-          rope = rope;
-          symbols = symbols;
-          source = record
-              { language = language; text = source.items };
-        } }
+    pub(crate) fn new(rope: Rope, symbols: Symbols, rows: SourceRows) -> Program
+        ensures { result ≡ record { rope = rope; symbols = symbols; source = rows } }
     {
         Program {
             rope,
             symbols,
-            language,
-            source,
-            marks,
+            rows,
         }
     }
 
@@ -106,8 +74,7 @@ impl Program {
         ensures rope { result.0 ≡ self.rope }
         ensures source { result.1 ≡ self.source }
     {
-        let (rope, _, rows) = self.split_all();
-        (rope, rows)
+        (self.rope, self.rows)
     }
 
     /// The words in their places, the symbols, and the lines of the source.
@@ -116,24 +83,14 @@ impl Program {
         ensures symbols { result.1 ≡ self.symbols }
         ensures source { result.2 ≡ self.source }
     {
-        (
-            self.rope,
-            self.symbols,
-            SourceRows::new(self.language, self.source, self.marks),
-        )
+        (self.rope, self.symbols, self.rows)
     }
 
     /// The places that its words name. An `Err` is that memory ran out.
     pub fn named_places(&self, alloc: Global) -> Result<NamedPlaces, AllocError>
         ensures { IfOk result (λ named. named ≡ named_places self.now) }
     {
-        NamedPlaces::of_lines(
-            alloc,
-            self.language,
-            &self.symbols,
-            &self.source,
-            self.marks.as_slice(),
-        )
+        self.rows.named_places(alloc, &self.symbols)
     }
 
     /// Writes the listing: a row for each line of the source, with its number, its place, its word and its text, and
@@ -145,14 +102,8 @@ impl Program {
             result }
         ensures failures { W.failures writer.new ≡ failures_after (W.failures writer.old) result }
     {
-        write_rows(
-            Notation::Text,
-            &self.rope,
-            &self.source,
-            self.marks.as_slice(),
-            &NoMargin,
-            writer,
-        )?;
+        self.rows
+            .write(Notation::Text, &self.rope, &NoMargin, writer)?;
         write_symbols(&self.symbols, writer)
     }
 }

@@ -14,6 +14,7 @@ use crate::language::Language;
 use crate::later::{first_fault, settle};
 use crate::layout::{Layout, Placing};
 use crate::mark::Marks;
+use crate::source_rows::SourceRows;
 use agc_text::next_line;
 use std::alloc::Global;
 use symbols::Symbols;
@@ -123,7 +124,10 @@ fn complete(
 {
     let rope = placing.complete(&symbols)?;
     match Vec::from_slice(alloc, source) {
-        Ok(text) => Ok(Program::new(rope, symbols, language, text, marks)),
+        Ok(text) => {
+            let rows = SourceRows::new(language, text, marks);
+            Ok(Program::new(rope, symbols, rows))
+        }
         Err(_) => Err(NO_MEMORY),
     }
 }
