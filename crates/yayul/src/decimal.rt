@@ -65,11 +65,18 @@ fn magnitude_of(number: Number) -> Numeral
     ensures { (n : ℕ) → number ≡ sized n → result ≡ at_most greatest_magnitude n }
 {
     match number {
-        Number::Small(number) => match u16::try_from(number) {
-            Ok(number) if number <= GREATEST_MAGNITUDE => Numeral::Is(Word::of_low_bits(number)),
-            _ => Numeral::TooLarge,
-        },
+        Number::Small(number) => word_of(u64::from(number)),
         Number::Large => Numeral::TooLarge,
+    }
+}
+
+// A number as a word, where it is at most the greatest magnitude.
+fn word_of(number: u64) -> Numeral
+    ensures { result ≡ at_most greatest_magnitude number }
+{
+    match u16::try_from(number) {
+        Ok(number) if number <= GREATEST_MAGNITUDE => Numeral::Is(Word::of_low_bits(number)),
+        _ => Numeral::TooLarge,
     }
 }
 
@@ -107,18 +114,7 @@ fn unit_of(count: usize) -> u64
     ensures some { 1 ≤ result }
     ensures few { result ≤ 10 ^ 9 }
 {
-    match count {
-        0 => 1,
-        1 => 10,
-        2 => 100,
-        3 => 1_000,
-        4 => 10_000,
-        5 => 100_000,
-        6 => 1_000_000,
-        7 => 10_000_000,
-        8 => 100_000_000,
-        _ => 1_000_000_000,
-    }
+    10_u64.pow(count as u32)
 }
 
 // The fraction that so many units of 1 are, times 2^14, to the nearest.
@@ -128,11 +124,5 @@ fn scaled(number: u64, unit: u64) -> Numeral
     requires few { unit ≤ 10 ^ 9 }
     ensures { result ≡ at_most greatest_magnitude (scaled number unit) }
 {
-    let magnitude = (number * 0o100000 + unit) / (2 * unit);
-    match u16::try_from(magnitude) {
-        Ok(magnitude) if magnitude <= GREATEST_MAGNITUDE => Numeral::Is(Word::of_low_bits(
-            magnitude,
-        )),
-        _ => Numeral::TooLarge,
-    }
+    word_of((number * 0o100000 + unit) / (2 * unit))
 }

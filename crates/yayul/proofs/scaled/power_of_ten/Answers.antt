@@ -1,0 +1,23 @@
+use Rattle.std.proofs.Common.{arith, ◌≤◌, ◌^◌}
+use Rattle.std.proofs.Math.Nat.{pow-le-pow_right, one-le-pow}
+use Rattle.yayul.proofs.scaled.power_of_ten.Goals as goal
+
+pub pow-requires : goal.pow-requires
+pow-requires c =
+    let within : 10 ^ c.args.count ≤ 10 ^ 22 = pow-le-pow_right {n = 10} (omega arith) c.requires in
+    omega (arith, within)
+
+pub returns-clause-some : goal.returns-clause-some
+returns-clause-some c =
+    let some : 1 ≤ 10 ^ c.args.count = one-le-pow c.args.count 10 (omega arith) in
+    omega (arith, some, c.pow.ensures)
+
+pub returns-clause-few : goal.returns-clause-few
+returns-clause-few c =
+    let within : 10 ^ c.args.count ≤ 10 ^ 22 = pow-le-pow_right {n = 10} (omega arith) c.requires in
+    omega (arith, within, c.pow.ensures)
+
+pub returns-clause-fewer : goal.returns-clause-fewer
+returns-clause-fewer c = λ low.
+    let within : 10 ^ c.args.count ≤ 10 ^ 11 = pow-le-pow_right {n = 10} (omega arith) low in
+    omega (arith, within, c.pow.ensures)
