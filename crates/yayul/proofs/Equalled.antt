@@ -1,7 +1,7 @@
 -- What EQUALS comes to: a value, or a name that waits.
 use Rattle.std.proofs.Common.{◌≡◌, ℕ, Bool, true, false, List, [], ◌∷◌, ◌++◌, Option, None, Some, is_some, Result, Ok, Err, refl, ap, sym}
 use Rattle.std.proofs.Common.{◌∙◌, ◌+◌, ◌-◌, arith, get_or, length, append_assoc, append-nil}
-use Rattle.std.specs.Prelude.{IfErr, OnOk, if◌then◌else◌}
+use Rattle.std.specs.Prelude.{OnOk, if◌then◌else◌}
 use Rattle.std.specs.Result.{result_unwrap_or}
 use Rattle.std.specs.List.{slice_get}
 use Rattle.std.proofs.Math.Seq.{get_or-append_seam}
@@ -10,8 +10,7 @@ use Rattle.std.proofs.lemmas.Option.{slice_get-get_or}
 use Rattle.agc_text.specs.Tables.{value_in}
 use Rattle.yayul.specs.Layout.{Promise, Layout, LineEffect, and_then, early_value, equals, is_later, promised, valued, with_promise}
 use Rattle.yayul.specs.Later.{Table, awaited, four_rounds, kept, round, settled, with_value}
-use Rattle.yayul.specs.Language.{BadOperand, FaultKind, Label, Malformed, Missing, Named, NoMemory, Num, Operand, Value}
-use Rattle.yayul.specs.Inside.Answers.{LeadsTo}
+use Rattle.yayul.specs.Language.{BadOperand, FaultKind, Label, Malformed, Missing, Named, Num, Operand, Value}
 
 -- what holds of each value and of each name that waits, holds of EQUALS
 pub by_later : (P : LineEffect → Type 0) (line : ℕ) (s : Layout) (label : Label) (operand : Option Operand)
@@ -43,18 +42,15 @@ promise_language line s Malformed operand = refl
 promise_language line s (Named name) operand = refl
 
 -- a new name that is promised, and held, waits
-pub promise_leads : (line : ℕ) (s t u : Layout) (name : List ℕ) (operand : Operand) (result : Result (Unit {0}) FaultKind)
-    → is_some (value_in s.symbols name) ≡ false → is_some (value_in s.promised name) ≡ false
+pub promise_leads : {E : Type 0} (line : ℕ) (s t u : Layout) (name : List ℕ) (operand : Operand) (result : Result (Unit {0}) E)
     → t ≡ record s { promised = s.promised ++ (name, Num 0) ∷ [] }
     → OnOk result ((before : Table) (n : List ℕ) (v : Value) → t.promised ≡ before ++ (n, v) ∷ []
     → u ≡ record t { promises = t.promises ++ record { line = line; name = n; operand = operand } ∷ [] })
-    → IfErr result (λ kind. kind ≡ NoMemory) → LeadsTo (promised line s (Named name) operand) u result
-promise_leads line s t u name operand (Ok x) undefined new with_name held err = (
-  rw (undefined, new) refl,
-  held s.promised name (Num 0) (ap (λ (l : Layout). l.promised) with_name)
-      ∙ ap (λ (l : Layout). record l { promises = l.promises ++ record { line = line; name = name; operand = operand } ∷ [] }) with_name,
-)
-promise_leads line s t u name operand (Err kind) undefined new with_name held err = λ known. absurd (known err)
+    → OnOk result (u ≡ with_promise line s (Named name) operand)
+promise_leads line s t u name operand (Ok x) with_name held =
+    held s.promised name (Num 0) (ap (λ (l : Layout). l.promised) with_name)
+    ∙ ap (λ (l : Layout). record l { promises = l.promises ++ record { line = line; name = name; operand = operand } ∷ [] }) with_name
+promise_leads line s t u name operand (Err e) with_name held = tt
 
 -- the last entry of a table
 pub last_entry : (table before : Table) (name : List ℕ) (value : Value) → table ≡ before ++ (name, value) ∷ []

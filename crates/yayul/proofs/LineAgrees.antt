@@ -2,28 +2,29 @@
 use Rattle.std.proofs.Common.{◌≡◌, ◌≢◌, ℕ, ◌+◌, ◌≤◌, true, false, cond, List, [], ◌∷◌, ◌++◌, map, replicate, Option, Some, None, Result, Ok}
 use Rattle.std.proofs.Common.{Err, refl, ap, sym, subst, ◌∙◌, inl, inr}
 use Rattle.std.proofs.lemmas.Bool.{cases_Bool}
-use Rattle.std.specs.Prelude.{OnOk, IfErr}
+use Rattle.std.specs.Prelude.{OnOk, ◌/◌}
 use Rattle.std.specs.List.{list_any}
 use Rattle.std.specs.Option.{option_map_or}
 use Rattle.std.specs.Result.{result_err, result_unwrap_or}
 use Rattle.rope.specs.Places.{Words, bank_words, stands, with_words}
 use Rattle.yayul.specs.Layout.{Request, Layout, LineEffect, width, stands_at, word_place, after_words, lacks_room, extends, is_taken}
 use Rattle.yayul.specs.Layout.{is_taken_at, is_erasable, fault_if, standing, label_faults, defined, asked, asked_here, gives, label_alone}
-use Rattle.yayul.specs.Layout.{relocated, bank_target, equals, erase, ebank, and_then, location_at, early_value}
+use Rattle.yayul.specs.Layout.{relocated, refused, bare_faults, bank_target, equals, erase, ebank, and_then, location_at, erasable_place}
+use Rattle.yayul.specs.Layout.{early_value, statement_effect}
 use Rattle.yayul.specs.Words.{request_words, request_faults, extracode_of, extracode_fault}
 use Rattle.yayul.specs.Program.{placed_from}
-use Rattle.yayul.specs.Language.{BankFull, BankRange, CodeInErasable, Content, FaultKind, Fixed, Label, Location, Malformed, Missing, Named}
-use Rattle.yayul.specs.Language.{NoMemory, Numeral, Operand, PlaceTaken, Undefined, Value}
+use Rattle.yayul.specs.Language.{BadOperand, Bank, BankFull, BankRange, CodeInErasable, Content, Ebank, Equals, Erase, FaultKind, Fixed, Gives}
+use Rattle.yayul.specs.Language.{Label, Location, Malformed, Missing, Named, Nothing, Numeral, Operand, Operation, PlaceTaken, Setloc}
+use Rattle.yayul.specs.Language.{Undefined, Unknown, UnknownOperator, Value}
 use Rattle.yayul.specs.declared.layout.Layout.{Layout as Held}
 use Rattle.yayul.specs.declared.layout.Placing.{Placing}
-use Rattle.yayul.specs.Inside.Answers.{tested_faults, least_kind, with_requests, layout_of, Keeps, Agrees, LeadsTo, LeadsOn, TakesWords}
+use Rattle.yayul.specs.Inside.Answers.{tested_faults, held_faults, least_kind, with_requests, layout_of, Keeps, Agrees, TakesWords}
 use Rattle.yayul.specs.Inside.Representation.{request_of, bank_target_by, is_undefined, holds_word_at, holds_word}
 use Rattle.yayul.specs.Inside.Sound.{meets}
 use Rattle.yayul.specs.Inside.Waiting.{lesser_on}
 use Rattle.yayul.proofs.LineRequests.{defined_keeps, free_place, here_value, meets_none, room_left, request_for}
 use Rattle.yayul.proofs.NameAdded.{holds-named, known-named}
 use Rattle.yayul.proofs.HoldsByLine.{holds-next, holds-settled, holds-put_aside, known-settled, known-put_aside}
-use Rattle.yayul.proofs.Least.{none_least}
 use Rattle.yayul.proofs.PlainLines.{Lifts, defined_after, defined_more, defined_requests, alone_lifts, relocated_lifts, ebank_lifts}
 use Rattle.yayul.proofs.PlainLines.{erase_lifts, equals_lifts, target_by_ends}
 use Rattle.yayul.proofs.WordsWhileWaiting.{stands-held}
@@ -57,65 +58,63 @@ same_keeps line s t p symbols requests keeps =
     }
 
 -- a line that asks for no words, where what it does is known without the requests before it
-agreed : (line : ℕ) (s : Layout) (l after : Held) (p : Placing) (bare e : LineEffect) (result : Result (Unit {0}) FaultKind)
-    → Agrees line s l p → Lifts s bare e
-    → LeadsTo bare (layout_of after) result → LeadsOn line e after p result
-agreed line s l after p bare e (Ok x) agrees lifts leads = (
-  sym lifts.faults ∙ leads.0,
-  record {
-    same = leads.1 ∙ lifts.after;
-    keeps = same_keeps (line + 1) (record s { symbols = s.symbols ++ lifts.symbols.0 }) e.after p lifts.symbols.1 lifts.requests
-        (next_keeps line (record s { symbols = s.symbols ++ lifts.symbols.0 }) p (named_keeps line s p lifts.symbols.0 agrees.keeps));
-  },
-)
-agreed line s l after p bare e (Err kind) agrees lifts leads = λ known. ap least_kind (sym lifts.faults) ∙ leads known
+agreed : (line : ℕ) (s : Layout) (l after : Held) (p : Placing) (bare e : LineEffect) → Agrees line s l p → Lifts s bare e
+    → layout_of after ≡ bare.after → Agrees (line + 1) e.after after p
+agreed line s l after p bare e agrees lifts leads =
+    record {
+      same = leads ∙ lifts.after;
+      keeps = same_keeps (line + 1) (record s { symbols = s.symbols ++ lifts.symbols.0 }) e.after p lifts.symbols.1 lifts.requests
+          (next_keeps line (record s { symbols = s.symbols ++ lifts.symbols.0 }) p (named_keeps line s p lifts.symbols.0 agrees.keeps));
+    }
+
+-- a line that does nothing
+pub agreed_idle : (line : ℕ) (s : Layout) (l : Held) (p : Placing) → Agrees line s l p → Agrees (line + 1) s l p
+agreed_idle line s l p agrees = record { same = agrees.same; keeps = next_keeps line s p agrees.keeps }
 
 module _ (line : ℕ) (s : Layout) (l after : Held) (p : Placing) (label : Label) (agrees : Agrees line s l p) where
-  pub agreed_alone : (result : Result (Unit {0}) FaultKind) → LeadsTo (label_alone (layout_of l) label) (layout_of after) result
-      → LeadsOn line (label_alone s label) after p result
-  agreed_alone result leads =
-      agreed line s l after p (label_alone (with_requests [] s) label) (label_alone s label) result agrees (alone_lifts s label)
-      (subst (λ t. LeadsTo (label_alone t label) (layout_of after) result) agrees.same leads)
+  pub agreed_alone : layout_of after ≡ (label_alone (layout_of l) label).after → Agrees (line + 1) (label_alone s label).after after p
+  agreed_alone leads =
+      agreed line s l after p (label_alone (with_requests [] s) label) (label_alone s label) agrees (alone_lifts s label)
+      (leads ∙ ap (λ t. (label_alone t label).after) agrees.same)
 
-  pub agreed_setloc : (operand : Option Operand) (result : Result (Unit {0}) FaultKind)
-      → LeadsTo (relocated (layout_of l) label (and_then location_at (early_value (layout_of l) operand))) (layout_of after) result
-      → LeadsOn line (relocated s label (and_then location_at (early_value s operand))) after p result
-  agreed_setloc operand result leads =
-      let target : Result Location FaultKind = and_then location_at (early_value s operand) in
-      agreed line s l after p (relocated (with_requests [] s) label target) (relocated s label target) result agrees
-      (relocated_lifts s label target)
-      (subst (λ t. LeadsTo (relocated t label (and_then location_at (early_value t operand))) (layout_of after) result) agrees.same leads)
+  pub agreed_setloc : (operand : Option Operand) (target : Result Location FaultKind)
+      → target ≡ and_then location_at (early_value (layout_of l) operand) → layout_of after ≡ (relocated (layout_of l) label target).after
+      → Agrees (line + 1) (relocated s label (and_then location_at (early_value s operand))).after after p
+  agreed_setloc operand target is leads =
+      let aim : Result Location FaultKind = and_then location_at (early_value s operand) in
+      let same : target ≡ aim = is ∙ ap (λ t. and_then location_at (early_value t operand)) agrees.same in
+      agreed line s l after p (relocated (with_requests [] s) label aim) (relocated s label aim) agrees (relocated_lifts s label aim)
+      (leads ∙ ap (λ t. (relocated t label target).after) agrees.same ∙ ap (λ to. (relocated (with_requests [] s) label to).after) same)
 
-  pub agreed_bank : (taken : BankRange) (number : Numeral) (target : Result Location FaultKind) (result : Result (Unit {0}) FaultKind)
-      → target ≡ bank_target_by p.ends taken number
-      → LeadsTo (relocated (layout_of l) label target) (layout_of after) result
-      → LeadsOn line (relocated s label (bank_target s taken number)) after p result
-  agreed_bank taken number target result is leads =
-      let same : target ≡ bank_target s taken number = is ∙ target_by_ends s p.ends taken number agrees.keeps.ends in
-      agreed line s l after p (relocated (with_requests [] s) label (bank_target s taken number))
-      (relocated s label (bank_target s taken number)) result agrees (relocated_lifts s label (bank_target s taken number))
-      (subst (λ to. LeadsTo (relocated (with_requests [] s) label to) (layout_of after) result) same
-      (subst (λ t. LeadsTo (relocated t label target) (layout_of after) result) agrees.same leads))
+  pub agreed_bank : (taken : BankRange) (number : Numeral) (target : Result Location FaultKind)
+      → target ≡ bank_target_by p.ends taken number → layout_of after ≡ (relocated (layout_of l) label target).after
+      → Agrees (line + 1) (relocated s label (bank_target s taken number)).after after p
+  agreed_bank taken number target is leads =
+      let aim : Result Location FaultKind = bank_target s taken number in
+      let same : target ≡ aim = is ∙ target_by_ends s p.ends taken number agrees.keeps.ends in
+      agreed line s l after p (relocated (with_requests [] s) label aim) (relocated s label aim) agrees (relocated_lifts s label aim)
+      (leads ∙ ap (λ t. (relocated t label target).after) agrees.same ∙ ap (λ to. (relocated (with_requests [] s) label to).after) same)
 
-  pub agreed_erase : (count : Numeral) (result : Result (Unit {0}) FaultKind)
-      → LeadsTo (erase (layout_of l) label count) (layout_of after) result → LeadsOn line (erase s label count) after p result
-  agreed_erase count result leads =
-      agreed line s l after p (erase (with_requests [] s) label count) (erase s label count) result agrees (erase_lifts s label count)
-      (subst (λ t. LeadsTo (erase t label count) (layout_of after) result) agrees.same leads)
+  pub agreed_erase : (count : Numeral) → layout_of after ≡ (erase (layout_of l) label count).after
+      → Agrees (line + 1) (erase s label count).after after p
+  agreed_erase count leads =
+      agreed line s l after p (erase (with_requests [] s) label count) (erase s label count) agrees (erase_lifts s label count)
+      (leads ∙ ap (λ t. (erase t label count).after) agrees.same)
 
-  pub agreed_equals : (operand : Option Operand) (result : Result (Unit {0}) FaultKind)
-      → LeadsTo (equals line (layout_of l) label operand) (layout_of after) result
-      → LeadsOn line (equals line s label operand) after p result
-  agreed_equals operand result leads =
-      agreed line s l after p (equals line (with_requests [] s) label operand) (equals line s label operand) result agrees
-      (equals_lifts s line label operand)
-      (subst (λ t. LeadsTo (equals line t label operand) (layout_of after) result) agrees.same leads)
+  pub agreed_equals : (operand : Option Operand) → layout_of after ≡ (equals line (layout_of l) label operand).after
+      → Agrees (line + 1) (equals line s label operand).after after p
+  agreed_equals operand leads =
+      agreed line s l after p (equals line (with_requests [] s) label operand) (equals line s label operand) agrees
+      (equals_lifts s line label operand) (leads ∙ ap (λ t. (equals line t label operand).after) agrees.same)
 
-  pub agreed_ebank : (operand : Option Operand) (result : Result (Unit {0}) FaultKind)
-      → LeadsTo (ebank (layout_of l) label operand) (layout_of after) result → LeadsOn line (ebank s label operand) after p result
-  agreed_ebank operand result leads =
-      agreed line s l after p (ebank (with_requests [] s) label operand) (ebank s label operand) result agrees (ebank_lifts s label operand)
-      (subst (λ t. LeadsTo (ebank t label operand) (layout_of after) result) agrees.same leads)
+  pub agreed_ebank : (operand : Option Operand) (place : Result ℕ FaultKind)
+      → place ≡ and_then erasable_place (early_value (layout_of l) operand)
+      → layout_of after ≡ (record (layout_of l) { eb = result_unwrap_or (and_then (λ n. Ok (n / 0o400)) place) l.eb })
+      → Agrees (line + 1) (ebank s label operand).after after p
+  agreed_ebank operand place is leads =
+      let switched : Result ℕ FaultKind → Layout = λ to. record (layout_of l) { eb = result_unwrap_or (and_then (λ n. Ok (n / 0o400)) to) l.eb } in
+      agreed line s l after p (ebank (with_requests [] s) label operand) (ebank s label operand) agrees (ebank_lifts s label operand)
+      (leads ∙ ap switched is ∙ ap (λ t. (ebank t label operand).after) agrees.same)
 
 -- ## Lines that give words
 undefined_is : (words : Result (List ℕ) FaultKind) → is_undefined words ≡ true → words ≡ Err Undefined
@@ -199,15 +198,9 @@ module _ (line : ℕ) (s : Layout) (l : Held) (p : Placing) (label : Label) (con
       by_label Malformed = refl
       by_label (Named name) = refl
 
-  -- the fault of a line that gives words
-  pub agreed_gives_fault : (after : Held) (q : Placing) (kind : FaultKind)
-      → Some kind ≡ least_kind (tested_faults (layout_of l) p.rope label (width content))
-      → LeadsOn line (gives line s label content) after q (Err kind)
-  agreed_gives_fault after q kind is = λ known. ap least_kind (sym tested) ∙ sym is
-
   -- what stands after a line that gives words
   agreed_gives : (d after : Held) (q : Placing) (bank offset : ℕ) (r : Request)
-      → None ≡ least_kind (tested_faults (layout_of l) p.rope label (width content))
+      → tested_faults (layout_of l) p.rope label (width content) ≡ []
       → word_place l.location ≡ Some (bank, offset) → layout_of d ≡ defined (layout_of l) label (Fixed bank offset)
       → r ≡ record { line = line; bank = bank; offset = offset; content = content; extracode = d.extracode; eb = d.eb }
       → layout_of after ≡ record (layout_of d) {
@@ -215,13 +208,13 @@ module _ (line : ℕ) (s : Layout) (l : Held) (p : Placing) (label : Label) (con
         extracode = extends content
             d.extracode;
       }
-      → TakesWords d.symbols r p q → LeadsOn line (gives line s label content) after q (Ok tt)
+      → TakesWords d.symbols r p q → Agrees (line + 1) (gives line s label content).after after q
   agreed_gives d after q bank offset r none here names is moved takes =
       let all : Layout = defined s label (Fixed bank offset) in
       let bare : layout_of d ≡ with_requests [] all = names ∙ ap (λ t. defined t label (Fixed bank offset)) agrees.same
       ∙ defined_after s label (Fixed bank offset) in
       let faults : (gives line s label content).faults
-      ≡ [] = sym tested ∙ none_least (tested_faults (layout_of l) p.rope label (width content)) (sym none) in
+      ≡ [] = sym tested ∙ none in
       let place : word_place s.location ≡ Some (bank, offset) = ap (λ (t : Layout). word_place t.location) (sym agrees.same) ∙ here in
       let free = free_place line s label content faults in
       let asks : r ≡ request_for line all content (bank, offset) =
@@ -241,26 +234,48 @@ module _ (line : ℕ) (s : Layout) (l : Held) (p : Placing) (label : Label) (con
       let next : (gives line s label content).after ≡ asked all (request_for line all content (bank, offset)) =
       ap (λ v. asked_here line (defined s label v) content) (here_value s.location bank offset place)
       ∙ ap (λ at. option_map_or (λ q. asked all (request_for line all content q)) at all)
-      (ap word_place (defined_keeps s label (Fixed bank offset)).0 ∙ place) in (
-        faults,
-        record {
-          same = moved ∙ ap (λ (t : Layout). record t
-              { location = after_words (width content) t.location; extracode = extends content t.extracode }) bare
-              ∙ ap (with_requests []) (sym next);
-          keeps = rw next (same_keeps (line + 1) (with_request all (request_for line all content (bank, offset)))
-              (asked all (request_for line all content (bank, offset))) q refl refl kept);
-        },
-      )
+      (ap word_place (defined_keeps s label (Fixed bank offset)).0 ∙ place) in
+      record {
+        same = moved ∙ ap (λ (t : Layout). record t
+            { location = after_words (width content) t.location; extracode = extends content t.extracode }) bare
+            ∙ ap (with_requests []) (sym next);
+        keeps = rw next (same_keeps (line + 1) (with_request all (request_for line all content (bank, offset)))
+            (asked all (request_for line all content (bank, offset))) q refl refl kept);
+      }
 
   -- the same, whatever asking for the words answers
-  pub agreed_asks : (d after : Held) (q : Placing) (bank offset : ℕ) (r : Request) (result : Result (Unit {0}) FaultKind)
-      → None ≡ least_kind (tested_faults (layout_of l) p.rope label (width content))
+  pub agreed_asks : {E : Type 0} (d after : Held) (q : Placing) (bank offset : ℕ) (r : Request) (result : Result (Unit {0}) E)
+      → tested_faults (layout_of l) p.rope label (width content) ≡ []
       → word_place l.location ≡ Some (bank, offset) → layout_of d ≡ defined (layout_of l) label (Fixed bank offset)
       → r ≡ record { line = line; bank = bank; offset = offset; content = content; extracode = d.extracode; eb = d.eb }
       → OnOk result (layout_of after ≡ record (layout_of d)
       { location = after_words (width content) d.location; extracode = extends content d.extracode })
-      → OnOk result (TakesWords d.symbols r p q) → IfErr result (λ kind. kind ≡ NoMemory)
-      → LeadsOn line (gives line s label content) after q result
-  agreed_asks d after q bank offset r (Ok x) none here names is moved takes failed = agreed_gives d after q bank offset r none here names is
-      moved takes
-  agreed_asks d after q bank offset r (Err kind) none here names is moved takes failed = λ known. absurd (known failed)
+      → OnOk result (TakesWords d.symbols r p q) → OnOk result (Agrees (line + 1) (gives line s label content).after after q)
+  agreed_asks d after q bank offset r (Ok x) none here names is moved takes = agreed_gives d after q bank offset r none here names is moved
+      takes
+  agreed_asks d after q bank offset r (Err e) none here names is moved takes = tt
+
+-- ## The faults of a line
+refused_faults : (s : Layout) (label : Label) (kind : FaultKind) → (refused (with_requests [] s) label kind).faults
+    ≡ (refused s label kind).faults
+refused_faults s Missing kind = refl
+refused_faults s Malformed kind = refl
+refused_faults s (Named name) kind = refl
+
+-- they are the same by what is held
+pub held_agrees : (line : ℕ) (s : Layout) (l : Held) (p : Placing) (label : Label) (operation : Operation) → Agrees line s l p
+    → held_faults line l p label operation ≡ (statement_effect line s label operation).faults
+held_agrees line s l p label Nothing agrees = ap (λ t. (label_alone t label).faults) agrees.same ∙ (alone_lifts s label).faults
+held_agrees line s l p label Unknown agrees =
+    ap (λ t. (refused t label UnknownOperator).faults) agrees.same ∙ refused_faults s label UnknownOperator
+held_agrees line s l p label (Setloc operand) agrees =
+    ap (λ t. (relocated t label (and_then location_at (early_value t operand))).faults) agrees.same
+held_agrees line s l p label (Bank taken number) agrees =
+    ap (λ target. standing (bare_faults label target)) (target_by_ends s p.ends taken number agrees.keeps.ends)
+held_agrees line s l p label (Erase count) agrees = ap (λ t. (erase t label count).faults) agrees.same ∙ (erase_lifts s label count).faults
+held_agrees line s l p label (Equals operand) agrees =
+    ap (λ t. (equals line t label operand).faults) agrees.same ∙ (equals_lifts s line label operand).faults
+held_agrees line s l p label (Ebank operand) agrees = ap (λ t. (ebank t label operand).faults) agrees.same
+held_agrees line s l p label (Gives None) agrees = ap (λ t. (refused t label BadOperand).faults) agrees.same
+    ∙ refused_faults s label BadOperand
+held_agrees line s l p label (Gives (Some content)) agrees = tested line s l p label content agrees

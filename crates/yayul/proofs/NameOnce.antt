@@ -9,7 +9,7 @@ use Rattle.std.specs.Result.{result_err, result_unwrap_or}
 use Rattle.agc_text.specs.Lines.{lines}
 use Rattle.agc_text.specs.Tables.{same_name, value_in}
 use Rattle.yayul.specs.Later.{first_fault, with_values}
-use Rattle.yayul.specs.Layout.{LineEffect, valued, statement_on, Layout, and_then, value_here, defined, asked, asked_here, fault_if}
+use Rattle.yayul.specs.Layout.{LineEffect, valued, statement_on, Layout, and_then, value_here, defined, asked_here, fault_if}
 use Rattle.yayul.specs.Layout.{standing, start, width, lacks_room, is_taken, is_malformed, is_missing, is_twice, is_erasable}
 use Rattle.yayul.specs.Layout.{erased_to, statement_effect, text_faults, line_effect, line_faults, layout_after, layout_faults}
 use Rattle.yayul.specs.Program.{Program, least, completed, finished, program, unless_fault}

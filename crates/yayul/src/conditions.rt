@@ -1,20 +1,22 @@
 //! The faults that a line may have, each where its condition holds.
 
-ghost use Rattle.std.specs.Prelude.{◌≡◌, ◌∷◌, [], ℕ};
+ghost use Rattle.std.specs.Prelude.{◌≡◌, ◌<◌, ◌∷◌, [], ◌++◌, ◌&&◌, not, ℕ, is_some, IfOk};
 ghost use Rattle.std.specs.Result.{result_err};
-ghost use Rattle.yayul.specs.Layout.{Layout as LaidOut, standing, statement_effect, bare_faults, label_alone, refused};
-ghost use Rattle.yayul.specs.Layout.{relocated, bank_target, erase, equals, ebank, width};
+ghost use Rattle.agc_text.specs.Tables.{value_in};
+ghost use Rattle.yayul.specs.Layout.{standing, label_faults, bare_faults, label_alone, refused, erase, equals, width};
+ghost use Rattle.yayul.specs.Layout.{lacks_room, is_missing, is_twice, and_then, location_at, erasable_place, early_value, is_later};
 ghost use Rattle.yayul.specs.Survey.{word_kinds, content_kinds, place_of_words};
-ghost use Rattle.yayul.specs.declared.language.Operation.TheVariants as operation;
-ghost use Rattle.yayul.specs.Inside.Answers.{layout_of, tested_faults, Agrees};
+ghost use Rattle.yayul.specs.Inside.Answers.{layout_of, tested_faults, held_faults};
+ghost use Rattle.yayul.specs.Inside.Representation.{holds_word};
+ghost use Rattle.yayul.specs.Inside.Sound.{IsLocation};
 
 use crate::faults::FaultKind;
-use crate::language::{Content, Label, Numeral, Operand, Operation};
+use crate::language::{Content, Label, Language, Location, Numeral, Operand, Operation, Term};
 use crate::layout::{Layout, Placing};
-use crate::line::fault_of;
+use crate::values::{erasable_place, location_at, value_of};
 use crate::word::{fault_in, words_at};
 use space::Offset;
-use symbols::{FixedBank, Symbols};
+use symbols::{FixedBank, Name, Symbols, Value};
 
 /// As many faults as the fields of a line may have.
 pub(crate) type Conditions = [Option<FaultKind>; 5];
@@ -27,8 +29,7 @@ impl Layout {
         label: &Label,
         operation: &Operation,
     ) -> Conditions
-        ensures { (line : ℕ) (s : LaidOut) → Agrees line s self.now placing.now
-            → standing result ≡ (statement_effect line s label.now operation.now).faults }
+        ensures { (line : ℕ) → standing result ≡ held_faults line self.now placing.now label.now operation.now }
     {
         match operation {
             Operation::Nothing => self.alone_conditions(label),
@@ -40,61 +41,50 @@ impl Layout {
             Operation::Erase(count) => self.erase_conditions(label, *count),
             Operation::Equals(operand) => self.equals_conditions(label, operand),
             Operation::Ebank(operand) => bare_conditions(label, &self.erasable_of(operand)),
-            Operation::Gives(content) => self.gives_conditions(placing, label, content),
+            Operation::Gives(Some(content)) => self.give_conditions(placing, label, content),
+            Operation::Gives(None) => self.refused_conditions(label, FaultKind::BadOperand),
         }
     }
 
-    // The faults of a line that gives words, where these have their form.
-    fn gives_conditions(
+    // The faults of a line that may have a label, and has these of its own.
+    fn labelled(
         &self,
-        placing: &Placing,
         label: &Label,
-        content: &Option<Content>,
+        first: Option<FaultKind>,
+        second: Option<FaultKind>,
+        third: Option<FaultKind>,
     ) -> Conditions
-        ensures { (line : ℕ) (s : LaidOut) → Agrees line s self.now placing.now
-            → standing result ≡ (statement_effect line s label.now (operation.Gives content.now)).faults }
+        ensures { standing result
+            ≡ standing (label_faults (layout_of self.now) label.now ++ first ∷ second ∷ third ∷ []) }
     {
-        match content {
-            Some(content) => self.give_conditions(placing, label, content),
-            None => self.refused_conditions(label, FaultKind::BadOperand),
-        }
+        [
+            FaultKind::BadLabel.when(label.is_malformed()),
+            FaultKind::TwiceDefined.when(self.is_twice(label)),
+            first,
+            second,
+            third,
+        ]
     }
 
     fn alone_conditions(&self, label: &Label) -> Conditions
         ensures { standing result ≡ (label_alone (layout_of self.now) label.now).faults }
     {
-        [
-            FaultKind::BadLabel.when(label.is_malformed()),
-            FaultKind::TwiceDefined.when(self.is_twice(label)),
-            FaultKind::BankFull.when(self.lacks_place(label)),
-            None,
-            None,
-        ]
+        let full = FaultKind::BankFull.when(self.lacks_place(label));
+        self.labelled(label, full, None, None)
     }
 
     // The faults of a line that may have a label, and has a fault of its own.
     fn refused_conditions(&self, label: &Label, kind: FaultKind) -> Conditions
         ensures { standing result ≡ (refused (layout_of self.now) label.now kind).faults }
     {
-        [
-            FaultKind::BadLabel.when(label.is_malformed()),
-            FaultKind::TwiceDefined.when(self.is_twice(label)),
-            Some(kind),
-            None,
-            None,
-        ]
+        self.labelled(label, Some(kind), None, None)
     }
 
     fn erase_conditions(&self, label: &Label, count: Numeral) -> Conditions
         ensures { standing result ≡ (erase (layout_of self.now) label.now count).faults }
     {
-        [
-            FaultKind::BadLabel.when(label.is_malformed()),
-            FaultKind::TwiceDefined.when(self.is_twice(label)),
-            FaultKind::BankFull.when(self.lacks_place(label)),
-            fault_of(&self.location.erased_to(count)),
-            None,
-        ]
+        let full = FaultKind::BankFull.when(self.lacks_place(label));
+        self.labelled(label, full, fault_of(&self.location.erased_to(count)), None)
     }
 
     fn equals_conditions(&self, label: &Label, operand: &Option<Operand>) -> Conditions
@@ -104,13 +94,8 @@ impl Layout {
             Some(operand) if self.is_later(operand) => None,
             _ => fault_of(&self.value_of(operand)),
         };
-        [
-            FaultKind::BadLabel.when(label.is_missing() || label.is_malformed()),
-            FaultKind::TwiceDefined.when(self.is_twice(label)),
-            fault,
-            None,
-            None,
-        ]
+        let missing = FaultKind::BadLabel.when(label.is_missing());
+        self.labelled(label, missing, fault, None)
     }
 
     // The faults of a line that gives these words.
@@ -118,13 +103,86 @@ impl Layout {
         ensures { standing result ≡ tested_faults (layout_of self.now) placing.now.rope label.now (width content.now) }
     {
         let width = content.width();
-        [
-            FaultKind::BadLabel.when(label.is_malformed()),
-            FaultKind::TwiceDefined.when(self.is_twice(label)),
+        self.labelled(
+            label,
             FaultKind::BankFull.when(self.location.lacks_room(width)),
             FaultKind::PlaceTaken.when(self.is_taken(placing, width)),
             FaultKind::CodeInErasable.when(self.location.is_erasable()),
-        ]
+        )
+    }
+
+    // Whether a label stands on an earlier line.
+    fn is_twice(&self, label: &Label) -> bool
+        ensures { result ≡ is_twice (layout_of self.now) label.now }
+    {
+        match label {
+            Label::Named(name) => self.symbols.named(name).is_some() || self.is_promised(name),
+            Label::Missing => false,
+            Label::Malformed => false,
+        }
+    }
+
+    // Whether a name waits for a value.
+    fn is_promised(&self, name: &Name) -> bool
+        ensures { result ≡ is_some (value_in self.now.promised name.now) }
+    {
+        self.promised.len() > 0 && self.promised.named(name).is_some()
+    }
+
+    // Whether a label stands where no word may.
+    fn lacks_place(&self, label: &Label) -> bool
+        ensures { result ≡ (not (is_missing label.now) && lacks_room 1 self.now.location) }
+    {
+        !label.is_missing() && self.location.is_past_end()
+    }
+
+    // Whether a word stands already where the first of so many would, or the second where there are two.
+    fn is_taken(&self, placing: &Placing, count: usize) -> bool
+        ensures { result ≡ holds_word placing.now.rope self.now.location count }
+    {
+        placing.is_taken_at(self.location)
+            || (count > 1 && placing.is_taken_at(self.location.after_word()))
+    }
+
+    // The location that an operand names.
+    pub(crate) fn target_of(&self, operand: &Option<Operand>) -> Result<Location, FaultKind>
+        ensures value { result ≡ and_then location_at (early_value (layout_of self.now) operand.now) }
+        ensures located { IfOk result IsLocation }
+    {
+        location_at(self.value_of(operand)?)
+    }
+
+    // The value of an operand, its symbols those of earlier lines.
+    pub(crate) fn value_of(&self, operand: &Option<Operand>) -> Result<Value, FaultKind>
+        ensures { result ≡ early_value (layout_of self.now) operand.now }
+    {
+        match operand {
+            Some(operand) => value_of(
+                FaultKind::UsedTooEarly,
+                &self.symbols,
+                self.location,
+                operand,
+            ),
+            None => Err(FaultKind::BadOperand),
+        }
+    }
+
+    // The erasable place that an operand names.
+    pub(crate) fn erasable_of(&self, operand: &Option<Operand>) -> Result<u16, FaultKind>
+        ensures value { result ≡ and_then erasable_place (early_value (layout_of self.now) operand.now) }
+        ensures range { IfOk result (λ place. place < 0o4000) }
+    {
+        erasable_place(self.value_of(operand)?)
+    }
+
+    /// Whether an operand is a symbol that a later line may define.
+    pub(crate) fn is_later(&self, operand: &Operand) -> bool
+        ensures { result ≡ is_later (layout_of self.now) operand.now }
+    {
+        match (self.language, &operand.term) {
+            (Language::Flight, Term::Named(name)) => self.symbols.named(name).is_none(),
+            _ => false,
+        }
     }
 
     /// The word faults of a line's fields, by the symbols of the whole source; of words whose operand has no form those
@@ -181,4 +239,13 @@ fn bare_conditions<T>(label: &Label, outcome: &Result<T, FaultKind>) -> Conditio
         None,
         None,
     ]
+}
+
+fn fault_of<T>(outcome: &Result<T, FaultKind>) -> Option<FaultKind>
+    ensures { result ≡ result_err outcome.now }
+{
+    match outcome {
+        Ok(_) => None,
+        Err(kind) => Some(*kind),
+    }
 }

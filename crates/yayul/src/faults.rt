@@ -98,6 +98,7 @@ impl FaultKind {
 }
 
 /// The fault with the least number of those that stand.
+#[inline(always)]
 pub(crate) fn least_fault(conditions: &[Option<FaultKind>]) -> Option<FaultKind>
     ensures { result ≡ least_kind (standing conditions.now) }
 {
@@ -108,6 +109,7 @@ pub(crate) fn least_fault(conditions: &[Option<FaultKind>]) -> Option<FaultKind>
     least
 }
 
+#[inline(always)]
 fn lesser_fault(least: Option<FaultKind>, other: Option<FaultKind>) -> Option<FaultKind>
     ensures { result ≡ lesser_if least other }
 {

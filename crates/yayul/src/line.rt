@@ -1,38 +1,30 @@
 //! What each line does to the layout: the symbols of a source, and the words that its lines ask for.
 
-ghost use Rattle.std.specs.Prelude.{◌≡◌, ◌<◌, ◌≤◌, length, ◌∷◌, [], ◌++◌, ℕ, List, false, ◌&&◌, not, is_some, IfOk};
-ghost use Rattle.std.specs.Prelude.{IfErr, OnOk, Some};
+ghost use Rattle.std.specs.Prelude.{◌≡◌, ◌≤◌, ◌<◌, ◌+◌, ◌/◌, length, ◌∷◌, [], ◌++◌, ℕ, List, false, IfOk, OnOk, Ok, Some};
 ghost use Rattle.std.specs.List.{list_all};
+ghost use Rattle.std.specs.Result.{result_unwrap_or};
 ghost use Rattle.agc_text.specs.Bytes.{is_text_byte};
-ghost use Rattle.agc_text.specs.Tables.{value_in};
 ghost use Rattle.symbols.specs.declared.values.Value.{Value as Symbol};
-ghost use Rattle.yayul.specs.declared.language.Label.TheVariants.{Named};
-ghost use Rattle.std.specs.Result.{result_err};
-ghost use Rattle.yayul.specs.Layout.{Layout as LaidOut, fault_if, standing, start, word_place, width, lacks_room};
-ghost use Rattle.yayul.specs.Layout.{is_missing, is_twice, label_alone, refused, bare_faults, relocated, and_then};
-ghost use Rattle.yayul.specs.Layout.{location_at, erasable_place, early_value, valued, is_later, promised, equals};
-ghost use Rattle.yayul.specs.Layout.{ebank, erase, gives, statement_effect, statement_on, text_faults};
-ghost use Rattle.yayul.specs.declared.faults.FaultKind.TheVariants.{BankFull};
-ghost use Rattle.yayul.specs.Inside.Answers.{layout_of, least_kind, labelled, words_faults, LeadsTo, Agrees, LeadsOn};
+ghost use Rattle.yayul.specs.Layout.{Layout as LaidOut, standing, start, word_place, width, lacks_room, is_twice};
+ghost use Rattle.yayul.specs.Layout.{label_alone, and_then, promised, with_promise, equals, erase, gives, defined};
+ghost use Rattle.yayul.specs.Layout.{statement_effect, statement_on, text_faults};
+ghost use Rattle.yayul.specs.Inside.Answers.{layout_of, least_kind, held_faults, tested_faults, Agrees, LeadsOn};
 ghost use Rattle.yayul.specs.Inside.Answers.{LineLeadsOn, TakesWords, passed};
 ghost use Rattle.yayul.specs.Inside.Representation.{request_of, holds_word};
 ghost use Rattle.yayul.specs.Inside.Sound.{IsLocation};
 
 use crate::bank::ErasableBank;
-use crate::faults::{FaultKind, least_fault, lesser_kind};
+use crate::faults::{FaultKind, least_fault};
 use crate::flight::{flight_statement, measured, most_lines};
-use crate::language::{
-    Content, Label, Language, Location, Numeral, Operand, Operation, Statement, Term,
-};
+use crate::language::{Content, Label, Language, Location, Numeral, Operand, Operation, Statement};
 use crate::layout::{Layout, Placing};
 use crate::mark::Mark;
 use crate::request::{Promise, WordRequest};
 use crate::statement::statement_of;
-use crate::values::{erasable_place, location_at, value_of};
 use agc_text::{LINE_LENGTH, is_text};
 use arrayvec::ArrayVec;
-use std::alloc::Global;
-use symbols::{FixedBank, NAME_LENGTH, Name, Symbols, Value};
+use std::alloc::{AllocError, Global};
+use symbols::{FixedBank, NAME_LENGTH, Symbols, Value};
 use words::Word;
 
 impl Layout {
@@ -81,7 +73,8 @@ impl Layout {
         }
     }
 
-    // Does what a line's fields say.
+    // Does what a line's fields say, or tells the least of their faults.
+    #[inline(always)]
     pub(crate) fn operation(
         &mut self,
         placing: &mut Placing,
@@ -92,174 +85,121 @@ impl Layout {
         ensures { (s : LaidOut) → Agrees line s self.old placing.old
             → LeadsOn line (statement_effect line s label operation) self.new placing.new result }
     {
+        if let Some(kind) = least_fault(&self.conditions(placing, &label, &operation)) {
+            return Err(kind);
+        }
+        match self.perform(placing, line, label, operation) {
+            Ok(()) => Ok(()),
+            Err(_) => Err(FaultKind::NoMemory),
+        }
+    }
+
+    // Does what a line says on which no fault stands.
+    fn perform(
+        &mut self,
+        placing: &mut Placing,
+        line: u32,
+        label: Label,
+        operation: Operation,
+    ) -> Result<(), AllocError>
+        requires { held_faults line self.old placing.old label operation ≡ [] }
+        ensures { (s : LaidOut) → Agrees line s self.old placing.old
+            → OnOk result (Agrees (line + 1) (statement_effect line s label operation).after self.new placing.new) }
+    {
         match operation {
             Operation::Nothing => self.label_alone(label),
-            Operation::Unknown => Err(self.refused(&label, FaultKind::UnknownOperator)),
-            Operation::Setloc(operand) => self.setloc(&label, operand),
+            Operation::Setloc(operand) => {
+                let target = self.target_of(&operand);
+                self.relocate(target);
+                Ok(())
+            }
             Operation::Bank(range, number) => {
-                self.relocate(&label, placing.bank_target(range, number))
+                self.relocate(placing.bank_target(range, number));
+                Ok(())
             }
             Operation::Erase(count) => self.erase(label, count),
             Operation::Equals(operand) => self.equals(line, label, operand),
-            Operation::Ebank(operand) => self.ebank(&label, operand),
+            Operation::Ebank(operand) => {
+                let place = self.erasable_of(&operand);
+                self.switch(place);
+                Ok(())
+            }
             Operation::Gives(Some(content)) => self.give(placing, line, label, content),
-            Operation::Gives(None) => Err(self.refused(&label, FaultKind::BadOperand)),
+            Operation::Unknown | Operation::Gives(None) => Ok(()),
         }
     }
 
     // A line with a label alone, or without a field.
-    fn label_alone(&mut self, label: Label) -> Result<(), FaultKind>
-        ensures { LeadsTo (label_alone (layout_of self.old) label) (layout_of self.new) result }
+    fn label_alone(&mut self, label: Label) -> Result<(), AllocError>
+        requires { (label_alone (layout_of self.old) label).faults ≡ [] }
+        ensures { OnOk result (layout_of self.new ≡ (label_alone (layout_of self.old) label).after) }
     {
-        if self.lacks_place(&label) {
-            return Err(self.refused(&label, FaultKind::BankFull));
-        }
         match self.location.value() {
             Some(value) => self.define(label, value),
             None => Ok(()),
         }
     }
 
-    // Whether a label stands where no word may.
-    pub(crate) fn lacks_place(&self, label: &Label) -> bool
-        ensures { result ≡ (not (is_missing label.now) && lacks_room 1 self.now.location) }
-    {
-        !label.is_missing() && self.location.is_past_end()
-    }
-
-    // The least fault of a line that may have a label, and has a fault of its own.
-    fn refused(&self, label: &Label, kind: FaultKind) -> FaultKind
-        ensures { least_kind (refused (layout_of self.now) label.now kind).faults ≡ Some result }
-    {
-        if label.is_malformed() {
-            lesser_kind(FaultKind::BadLabel, kind)
-        } else if self.is_twice(label) {
-            lesser_kind(FaultKind::TwiceDefined, kind)
-        } else {
-            kind
-        }
-    }
-
-    // SETLOC: the location becomes that of the operand.
-    fn setloc(&mut self, label: &Label, operand: Option<Operand>) -> Result<(), FaultKind>
-        ensures { LeadsTo (relocated (layout_of self.old) label.now
-            (and_then location_at (early_value (layout_of self.old) operand))) (layout_of self.new) result }
-    {
-        let target = self.target_of(&operand);
-        self.relocate(label, target)
-    }
-
-    // Moves the location to a target.
-    fn relocate(
-        &mut self,
-        label: &Label,
-        target: Result<Location, FaultKind>,
-    ) -> Result<(), FaultKind>
+    // Moves the location to a target, where there is one.
+    fn relocate(&mut self, target: Result<Location, FaultKind>)
         requires { IfOk target IsLocation }
-        ensures { LeadsTo (relocated (layout_of self.old) label.now target) (layout_of self.new) result }
+        ensures { layout_of self.new
+            ≡ (record (layout_of self.old) { location = result_unwrap_or target self.old.location }) }
     {
-        match (bare_fault(label, &target), target) {
-            (Some(kind), _) => Err(kind),
-            (None, Ok(location)) => {
-                self.location = location;
-                Ok(())
-            }
-            (None, Err(_)) => unreachable!(),
-        }
-    }
-
-    // The location that an operand names.
-    pub(crate) fn target_of(&self, operand: &Option<Operand>) -> Result<Location, FaultKind>
-        ensures value { result ≡ and_then location_at (early_value (layout_of self.now) operand.now) }
-        ensures located { IfOk result IsLocation }
-    {
-        location_at(self.value_of(operand)?)
-    }
-
-    // The value of an operand, its symbols those of earlier lines.
-    pub(crate) fn value_of(&self, operand: &Option<Operand>) -> Result<Value, FaultKind>
-        ensures { result ≡ early_value (layout_of self.now) operand.now }
-    {
-        match operand {
-            Some(operand) => value_of(
-                FaultKind::UsedTooEarly,
-                &self.symbols,
-                self.location,
-                operand,
-            ),
-            None => Err(FaultKind::BadOperand),
+        if let Ok(location) = target {
+            self.location = location;
         }
     }
 
     // EQUALS and =: the label has the value of the operand, or waits for it.
-    fn equals(&mut self, line: u32, label: Label, operand: Option<Operand>) -> Result<(), FaultKind>
-        ensures { LeadsTo (equals line (layout_of self.old) label operand) (layout_of self.new) result }
+    fn equals(
+        &mut self,
+        line: u32,
+        label: Label,
+        operand: Option<Operand>,
+    ) -> Result<(), AllocError>
+        requires { (equals line (layout_of self.old) label operand).faults ≡ [] }
+        ensures { OnOk result (layout_of self.new ≡ (equals line (layout_of self.old) label operand).after) }
     {
         match operand {
-            Some(operand) => {
-                if self.is_later(&operand) {
-                    self.promise(line, label, operand)
-                } else {
-                    self.equals_known(label, Some(operand))
-                }
-            }
-            None => self.equals_known(label, None),
-        }
-    }
-
-    /// Whether an operand is a symbol that a later line may define.
-    pub(crate) fn is_later(&self, operand: &Operand) -> bool
-        ensures { result ≡ is_later (layout_of self.now) operand.now }
-    {
-        match (self.language, &operand.term) {
-            (Language::Flight, Term::Named(name)) => self.symbols.named(name).is_none(),
-            _ => false,
+            Some(operand) if self.is_later(&operand) => self.promise(line, label, operand),
+            operand => match self.value_of(&operand) {
+                Ok(value) => self.define(label, value),
+                Err(_) => Ok(()),
+            },
         }
     }
 
     // The label waits for the value of an operand.
-    fn promise(&mut self, line: u32, label: Label, operand: Operand) -> Result<(), FaultKind>
-        ensures { LeadsTo (promised line (layout_of self.old) label operand) (layout_of self.new) result }
+    fn promise(&mut self, line: u32, label: Label, operand: Operand) -> Result<(), AllocError>
+        requires { (promised line (layout_of self.old) label operand).faults ≡ [] }
+        ensures { OnOk result (layout_of self.new ≡ with_promise line (layout_of self.old) label operand) }
     {
         match label {
-            Label::Named(name) => self.promise_name(line, name, operand),
-            Label::Missing | Label::Malformed => Err(FaultKind::BadLabel),
-        }
-    }
-
-    // A name waits for the value of an operand.
-    fn promise_name(&mut self, line: u32, name: Name, operand: Operand) -> Result<(), FaultKind>
-        ensures { LeadsTo (promised line (layout_of self.old) (Named name) operand) (layout_of self.new) result }
-    {
-        if self.symbols.named(&name).is_some() {
-            return Err(FaultKind::TwiceDefined);
-        }
-        match self.promised.define(name, Value::Num(Word::ZERO)) {
-            Ok(true) => self.hold(line, operand),
-            Ok(false) => Err(FaultKind::TwiceDefined),
-            Err(_) => Err(FaultKind::NoMemory),
+            Label::Named(name) => {
+                self.promised.define(name, Value::Num(Word::ZERO))?;
+                self.hold(line, operand)
+            }
+            Label::Missing | Label::Malformed => Ok(()),
         }
     }
 
     // Holds the promise of the name that was promised last.
-    fn hold(&mut self, line: u32, operand: Operand) -> Result<(), FaultKind>
-        ensures held { OnOk result ((before : List (List ℕ × Symbol)) (name : List ℕ) (value : Symbol)
+    fn hold(&mut self, line: u32, operand: Operand) -> Result<(), AllocError>
+        ensures { OnOk result ((before : List (List ℕ × Symbol)) (name : List ℕ) (value : Symbol)
             → self.old.promised ≡ before ++ (name, value) ∷ []
             → layout_of self.new ≡ (record (layout_of self.old) {
               promises = (layout_of self.old).promises ++ record { line = line; name = name; operand = operand }
                   ∷ [];
             })) }
-        ensures err { IfErr result (λ kind. kind ≡ FaultKind.NoMemory) }
     {
-        let promise = Promise {
+        let name = self.last_promised();
+        self.promises.push(Promise {
             line,
-            name: self.last_promised(),
+            name,
             operand,
-        };
-        match self.promises.push(promise) {
-            Ok(()) => Ok(()),
-            Err(_) => Err(FaultKind::NoMemory),
-        }
+        })?;
+        Ok(())
     }
 
     // The name that was promised last.
@@ -274,69 +214,32 @@ impl Layout {
         }
     }
 
-    // The label has the value of the operand, its symbols those of earlier lines.
-    fn equals_known(&mut self, label: Label, operand: Option<Operand>) -> Result<(), FaultKind>
-        ensures { LeadsTo (valued (layout_of self.old) label (early_value (layout_of self.old) operand))
-            (layout_of self.new) result }
+    // The erasable bank of 2CADR becomes that of a place, where there is one.
+    fn switch(&mut self, place: Result<u16, FaultKind>)
+        requires { IfOk place (λ place. place < 0o4000) }
+        ensures { layout_of self.new ≡ (record (layout_of self.old) {
+          eb = result_unwrap_or (and_then (λ n. Ok (n / 0o400)) place) self.old.eb;
+        }) }
     {
-        if label.is_missing() {
-            return Err(FaultKind::BadLabel);
+        if let Ok(place) = place {
+            self.eb = ErasableBank::of_place(place);
         }
-        match self.value_of(&operand) {
-            Ok(value) => self.define(label, value),
-            Err(kind) => Err(self.refused(&label, kind)),
-        }
-    }
-
-    // EBANK=: the erasable bank of 2CADR becomes that of the operand's place.
-    fn ebank(&mut self, label: &Label, operand: Option<Operand>) -> Result<(), FaultKind>
-        ensures { LeadsTo (ebank (layout_of self.old) label.now operand) (layout_of self.new) result }
-    {
-        let place = self.erasable_of(&operand);
-        match (bare_fault(label, &place), place) {
-            (Some(kind), _) => Err(kind),
-            (None, Ok(place)) => {
-                self.eb = ErasableBank::of_place(place);
-                Ok(())
-            }
-            (None, Err(_)) => unreachable!(),
-        }
-    }
-
-    // The erasable place that an operand names.
-    pub(crate) fn erasable_of(&self, operand: &Option<Operand>) -> Result<u16, FaultKind>
-        ensures value { result ≡ and_then erasable_place (early_value (layout_of self.now) operand.now) }
-        ensures range { IfOk result (λ place. place < 0o4000) }
-    {
-        erasable_place(self.value_of(operand)?)
     }
 
     // ERASE: passes erasable words.
-    fn erase(&mut self, label: Label, count: Numeral) -> Result<(), FaultKind>
-        ensures { LeadsTo (erase (layout_of self.old) label count) (layout_of self.new) result }
+    fn erase(&mut self, label: Label, count: Numeral) -> Result<(), AllocError>
+        requires { (erase (layout_of self.old) label count).faults ≡ [] }
+        ensures { OnOk result (layout_of self.new ≡ (erase (layout_of self.old) label count).after) }
     {
-        let end = self.location.erased_to(count);
-        match (self.erase_fault(&label, &end), self.location.value(), end) {
-            (Some(kind), _, _) => Err(self.refused(&label, kind)),
-            (None, Some(value), Ok(end)) => {
-                self.define(label, value)?;
-                self.location = end;
-                Ok(())
-            }
-            (None, _, _) => unreachable!(),
-        }
-    }
-
-    // The least fault of ERASE, which comes to an end, besides those of its label.
-    fn erase_fault(&self, label: &Label, end: &Result<Location, FaultKind>) -> Option<FaultKind>
-        ensures { result ≡ least_kind (standing
-            (fault_if (not (is_missing label.now) && lacks_room 1 self.now.location) BankFull ∷ result_err end.now
-            ∷ [])) }
-    {
-        least_fault(&[
-            FaultKind::BankFull.when(self.lacks_place(label)),
-            fault_of(end),
-        ])
+        let Some(value) = self.location.value() else {
+            unreachable!()
+        };
+        let Ok(end) = self.location.erased_to(count) else {
+            unreachable!()
+        };
+        self.define(label, value)?;
+        self.location = end;
+        Ok(())
     }
 
     // A line that gives words.
@@ -346,104 +249,52 @@ impl Layout {
         line: u32,
         label: Label,
         content: Content,
-    ) -> Result<(), FaultKind>
+    ) -> Result<(), AllocError>
+        requires { tested_faults (layout_of self.old) placing.old.rope label (width content) ≡ [] }
         ensures { (s : LaidOut) → Agrees line s self.old placing.old
-            → LeadsOn line (gives line s label content) self.new placing.new result }
+            → OnOk result (Agrees (line + 1) (gives line s label content).after self.new placing.new) }
     {
-        let fault = self.give_fault(placing, &content);
-        match (fault, self.location.word_place()) {
-            (Some(kind), _) => Err(self.refused(&label, kind)),
-            (None, Some(place)) => {
-                self.define(label, Value::Fixed(place.0, place.1))?;
-                let request = WordRequest {
-                    line,
-                    bank: place.0,
-                    offset: place.1,
-                    content,
-                    extracode: self.extracode,
-                    eb: self.eb,
-                };
-                self.ask(placing, request)
-            }
-            (None, None) => unreachable!(),
-        }
-    }
-
-    // The least fault of a line that gives words, besides those of its label.
-    fn give_fault(&self, placing: &Placing, content: &Content) -> Option<FaultKind>
-        ensures { result ≡ least_kind (standing
-            (words_faults (layout_of self.now) placing.now.rope (width content.now))) }
-    {
-        let width = content.width();
-        least_fault(&[
-            FaultKind::BankFull.when(self.location.lacks_room(width)),
-            FaultKind::PlaceTaken.when(self.is_taken(placing, width)),
-            FaultKind::CodeInErasable.when(self.location.is_erasable()),
-        ])
-    }
-
-    // Whether a word stands already where the first of so many would, or the second where there are two.
-    pub(crate) fn is_taken(&self, placing: &Placing, count: usize) -> bool
-        ensures { result ≡ holds_word placing.now.rope self.now.location count }
-    {
-        placing.is_taken_at(self.location)
-            || (count > 1 && placing.is_taken_at(self.location.after_word()))
+        let Some(place) = self.location.word_place() else {
+            unreachable!()
+        };
+        self.define(label, Value::Fixed(place.0, place.1))?;
+        let request = WordRequest {
+            line,
+            bank: place.0,
+            offset: place.1,
+            content,
+            extracode: self.extracode,
+            eb: self.eb,
+        };
+        self.ask(placing, request)
     }
 
     // Asks for words from the location on, and moves past them.
-    fn ask(&mut self, placing: &mut Placing, request: WordRequest) -> Result<(), FaultKind>
+    fn ask(&mut self, placing: &mut Placing, request: WordRequest) -> Result<(), AllocError>
         requires here { word_place self.old.location ≡ Some (request.bank, request.offset) }
         requires room { lacks_room (width request.content) self.old.location ≡ false }
         requires free { holds_word placing.old.rope self.old.location (width request.content) ≡ false }
         ensures layout { OnOk result (layout_of self.new ≡ passed (layout_of self.old) request.content) }
         ensures words { OnOk result (TakesWords self.old.symbols (request_of request) placing.old placing.new) }
-        ensures err { IfErr result (λ kind. kind ≡ FaultKind.NoMemory) }
     {
         let bank = request.bank;
         let end = request.offset.number() + request.content.width() as u16;
         let extracode = request.content.extends(self.extracode);
-        match placing.take(&self.symbols, request) {
-            Ok(()) => {
-                self.location = Location::Fixed(bank, end);
-                self.extracode = extracode;
-                Ok(())
-            }
-            Err(_) => Err(FaultKind::NoMemory),
-        }
+        placing.take(&self.symbols, request)?;
+        self.location = Location::Fixed(bank, end);
+        self.extracode = extracode;
+        Ok(())
     }
 
-    // Gives a name its value, where it has none yet.
-    fn define(&mut self, label: Label, value: Value) -> Result<(), FaultKind>
-        ensures { LeadsTo (labelled (layout_of self.old) label value) (layout_of self.new) result }
+    // Gives the name of a label its value.
+    fn define(&mut self, label: Label, value: Value) -> Result<(), AllocError>
+        requires { is_twice (layout_of self.old) label ≡ false }
+        ensures { OnOk result (layout_of self.new ≡ defined (layout_of self.old) label value) }
     {
-        match label {
-            Label::Named(name) if self.is_promised(&name) => Err(FaultKind::TwiceDefined),
-            Label::Named(name) => match self.symbols.define(name, value) {
-                Ok(true) => Ok(()),
-                Ok(false) => Err(FaultKind::TwiceDefined),
-                Err(_) => Err(FaultKind::NoMemory),
-            },
-            Label::Missing => Ok(()),
-            Label::Malformed => Err(FaultKind::BadLabel),
+        if let Label::Named(name) = label {
+            self.symbols.define(name, value)?;
         }
-    }
-
-    // Whether a label stands on an earlier line.
-    pub(crate) fn is_twice(&self, label: &Label) -> bool
-        ensures { result ≡ is_twice (layout_of self.now) label.now }
-    {
-        match label {
-            Label::Named(name) => self.symbols.named(name).is_some() || self.is_promised(name),
-            Label::Missing => false,
-            Label::Malformed => false,
-        }
-    }
-
-    // Whether a name waits for a value.
-    fn is_promised(&self, name: &Name) -> bool
-        ensures { result ≡ is_some (value_in self.now.promised name.now) }
-    {
-        self.promised.len() > 0 && self.promised.named(name).is_some()
+        Ok(())
     }
 }
 
@@ -456,25 +307,6 @@ fn copy_of(name: &[u8]) -> ArrayVec<u8, NAME_LENGTH>
     match copy.try_extend_from_slice(name) {
         Ok(()) => copy,
         Err(_) => unreachable!(),
-    }
-}
-
-// The least fault of a line that takes no label and comes to something.
-fn bare_fault<T>(label: &Label, outcome: &Result<T, FaultKind>) -> Option<FaultKind>
-    ensures { result ≡ least_kind (standing (bare_faults label.now outcome.now)) }
-{
-    least_fault(&[
-        FaultKind::BadLabel.when(!label.is_missing()),
-        fault_of(outcome),
-    ])
-}
-
-pub(crate) fn fault_of<T>(outcome: &Result<T, FaultKind>) -> Option<FaultKind>
-    ensures { result ≡ result_err outcome.now }
-{
-    match outcome {
-        Ok(_) => None,
-        Err(kind) => Some(*kind),
     }
 }
 

@@ -4,17 +4,18 @@ use Rattle.std.specs.Prelude.{Err, if◌then◌else◌}
 use Rattle.std.specs.List.{flat_map}
 use Rattle.std.specs.Result.{result_err, result_unwrap_or}
 use Rattle.rope.specs.Places.{Words, banks, no_words, with_words}
-use Rattle.yayul.specs.Layout.{Request, Layout, LineEffect, start, standing, fault_if, label_faults, defined, lacks_room, is_erasable}
+use Rattle.yayul.specs.Layout.{Request, Layout, LineEffect, start, standing, fault_if, label_faults, lacks_room, is_erasable}
 use Rattle.yayul.specs.Layout.{after_words, extends, width, fault_number, line_faults, statement_on, line_effect, layout_after}
-use Rattle.yayul.specs.Layout.{layout_faults}
+use Rattle.yayul.specs.Layout.{layout_faults, relocated, statement_effect}
 use Rattle.yayul.specs.Listing.{shown}
 use Rattle.yayul.specs.Program.{placed, placed_from, least, no_memory}
 use Rattle.yayul.specs.Words.{extracode_of, extracode_fault, request_words, word_faults}
-use Rattle.yayul.specs.Language.{BankFull, CodeInErasable, Content, Fault, FaultKind, Label, Language, NoMemory, PlaceTaken, Value}
+use Rattle.yayul.specs.Language.{Bank, BankFull, CodeInErasable, Content, Fault, FaultKind, Gives, Label, Language, NoMemory, Operation}
+use Rattle.yayul.specs.Language.{PlaceTaken, Value}
 use Rattle.yayul.specs.declared.layout.Layout.{Layout as Held}
 use Rattle.yayul.specs.declared.layout.Placing.{Placing}
 use Rattle.yayul.specs.declared.mark.Mark.{Mark}
-use Rattle.yayul.specs.Inside.Representation.{promise_of, request_of, is_undefined, holds_word, shown_by_mark}
+use Rattle.yayul.specs.Inside.Representation.{promise_of, request_of, is_undefined, bank_target_by, holds_word, shown_by_mark}
 use Rattle.yayul.specs.Inside.Sound.{AreEnds}
 use Rattle.yayul.specs.Inside.Waiting.{Holds, AreKnown, lesser_on}
 
@@ -62,11 +63,6 @@ pub record Agrees (line : ℕ) (s : Layout) (l : Held) (p : Placing) : Type 0 wh
   pub same : layout_of l ≡ with_requests [] s
   pub keeps : Keeps line s p
 
--- a statement without a fault leads to the layout after it; of one with faults the least is told, unless memory ran out
-abbrev pub LeadsTo : LineEffect → Layout → Result (Unit {0}) FaultKind → Type 0
-LeadsTo e after (Ok x) = (e.faults ≡ []) × (after ≡ e.after)
-LeadsTo e after (Err kind) = kind ≢ NoMemory → least_kind e.faults ≡ Some kind
-
 -- a statement of a line without a fault leads to what agrees with the layout after it; of one with faults the least is told, unless memory
 -- ran out
 abbrev pub LeadsOn : ℕ → LineEffect → Held → Placing → Result (Unit {0}) FaultKind → Type 0
@@ -80,10 +76,6 @@ LineLeadsOn line s text l p (Ok mark) =
     × (shown_by_mark mark ≡ shown s.location (statement_on s text)))
 LineLeadsOn line s text l p (Err kind) = kind ≢ NoMemory → least_kind (line_faults line s text) ≡ Some kind
 
--- a label that is given a value
-abbrev pub labelled : Layout → Label → Value → LineEffect
-labelled s label value = record { faults = standing (label_faults s label); after = defined s label value }
-
 -- the conditions on so many words, where these stand before them
 abbrev pub words_faults : Layout → Words → ℕ → List (Option FaultKind)
 words_faults s words count =
@@ -93,6 +85,12 @@ words_faults s words count =
 -- the faults of a line that gives so many words, where these stand before it
 abbrev pub tested_faults : Layout → Words → Label → ℕ → List FaultKind
 tested_faults s words label count = standing (label_faults s label ++ words_faults s words count)
+
+-- the layout faults of what a line says, by what is held before it
+abbrev pub held_faults : ℕ → Held → Placing → Label → Operation → List FaultKind
+held_faults line l p label (Bank taken number) = (relocated (layout_of l) label (bank_target_by p.ends taken number)).faults
+held_faults line l p label (Gives (Some content)) = tested_faults (layout_of l) p.rope label (width content)
+held_faults line l p label operation = (statement_effect line (layout_of l) label operation).faults
 
 -- what stands after the words of a content, besides these
 abbrev pub passed : Layout → Content → Layout

@@ -1,38 +1,23 @@
-use Rattle.yayul.proofs.LineAgrees.{agreed_alone, agreed_setloc, agreed_bank, agreed_erase, agreed_equals, agreed_ebank}
+use Rattle.std.proofs.Common.{◌∙◌, ap, sym}
+use Rattle.yayul.specs.Layout.{standing}
+use Rattle.yayul.specs.Inside.Answers.{least_kind}
+use Rattle.yayul.proofs.Least.{none_least}
+use Rattle.yayul.proofs.LineAgrees.{held_agrees}
 use Rattle.yayul.proofs.layout.Layout.operation.Goals as goal
 
-pub returns-in-Nothing : goal.returns-in-Nothing
-returns-in-Nothing c = λ s agrees.
-    rw c.in-Nothing.is
-    (agreed_alone c.args.line s c.args.self.now c.label_alone.new.self c.args.placing.now c.args.label agrees c.label_alone.result
-    c.label_alone.ensures)
+pub perform-requires : goal.perform-requires
+perform-requires c =
+    sym (c.conditions.ensures c.args.line) ∙ none_least (standing c.conditions.result) (sym c.least_fault.ensures ∙ c.in_default.is)
 
-pub returns-in-Setloc : goal.returns-in-Setloc
-returns-in-Setloc c = λ s agrees.
-    rw c.in-Setloc.is
-    (agreed_setloc c.args.line s c.args.self.now c.setloc.new.self c.args.placing.now c.args.label agrees c.in-Setloc.operand
-    c.setloc.result c.setloc.ensures)
+pub returns-in-Some : goal.returns-in-Some
+returns-in-Some c = λ s agrees known.
+    ap least_kind (sym (c.conditions.ensures c.args.line
+    ∙ held_agrees c.args.line s c.args.self.now c.args.placing.now c.args.label c.args.operation agrees))
+    ∙ sym c.least_fault.ensures ∙ c.in-Some.is
 
-pub returns-in-Erase : goal.returns-in-Erase
-returns-in-Erase c = λ s agrees.
-    rw c.in-Erase.is
-    (agreed_erase c.args.line s c.args.self.now c.erase.new.self c.args.placing.now c.args.label agrees c.in-Erase.count c.erase.result
-    c.erase.ensures)
-
-pub returns-in-Equals : goal.returns-in-Equals
-returns-in-Equals c = λ s agrees.
-    rw c.in-Equals.is
-    (agreed_equals c.args.line s c.args.self.now c.equals.new.self c.args.placing.now c.args.label agrees c.in-Equals.operand
-    c.equals.result c.equals.ensures)
-
-pub returns-in-Ebank : goal.returns-in-Ebank
-returns-in-Ebank c = λ s agrees.
-    rw c.in-Ebank.is
-    (agreed_ebank c.args.line s c.args.self.now c.ebank.new.self c.args.placing.now c.args.label agrees c.in-Ebank.operand c.ebank.result
-    c.ebank.ensures)
-
-pub returns-in-Bank : goal.returns-in-Bank
-returns-in-Bank c = λ s agrees.
-    rw c.in-Bank.is
-    (agreed_bank c.args.line s c.args.self.now c.relocate.new.self c.args.placing.now c.args.label agrees c.in-Bank.range c.in-Bank.number
-    c.bank_target.result c.relocate.result c.bank_target.ensures.value c.relocate.ensures)
+pub returns-in-Ok : goal.returns-in-Ok
+returns-in-Ok c = λ s agrees. (
+  sym (held_agrees c.args.line s c.args.self.now c.args.placing.now c.args.label c.args.operation agrees)
+      ∙ sym (c.conditions.ensures c.args.line) ∙ none_least (standing c.conditions.result) (sym c.least_fault.ensures ∙ c.in_default.is),
+  c.in-Ok.ensures s agrees,
+)
