@@ -79,6 +79,24 @@ fn open_loaded(alloc: Global, loaded: Loaded) -> Result<(Opened, SourceRows), Wo
     Ok((opened, loaded.rows))
 }
 
+/// Assembles the source, reads the feed, and answers the commands: see `debug_program`.
+pub fn debug_engine<S: Read, F: Read, R: Read, W: Write>(
+    alloc: Global,
+    source: &mut S,
+    feed: &mut F,
+    commands: &mut R,
+    out: &mut W,
+) -> Result<(), WorkshopFault>
+    ensures { DebugsProgram (Origin.Source Standard)
+        (in_session (reader S.Read source.old) (reader F.Read feed.old)
+        (reader R.Read commands.old) (writer W.Write out.old))
+        (in_session (reader S.Read source.new) (reader F.Read feed.new)
+        (reader R.Read commands.new) (writer W.Write out.new)) result }
+{
+    let origin = Origin::Source(Language::Standard);
+    debug_program(alloc, origin, source, feed, commands, out)
+}
+
 /// Reads a program and then a feed, and answers the commands over a session of them: see `debug_session`.
 ///
 /// The first fault of the program is answered, else that of the feed; then no command is read, and nothing written.

@@ -11,17 +11,20 @@ ghost use Rattle.workshop.specs.Runs.{Runs, Makes, loaded_steps, outputs_after, 
 ghost use Rattle.workshop.specs.Loading.{program_and_feed};
 ghost use Rattle.cpu.specs.Next.{next};
 ghost use Rattle.cpu.specs.Run.{outs, run};
+ghost use Rattle.yayul.specs.declared.language.Language.TheVariants.{Standard};
 ghost use Rattle.cpu.specs.State.{FitsRun, Scenario};
 
 use crate::fault::WorkshopFault;
 use crate::inputs::load;
 use crate::origin::Origin;
+use crate::progress::Unheard;
 use crate::stepper::{OutputLines, run_all};
 use cpu::{Machine, Output, Processor, write_channel_line};
 use idle::steps_until_idle;
 use space::{Chan, Eras};
 use std::alloc::Global;
 use words::{Read, Word, Write, WriteFailed};
+use yayul::Language;
 
 /// What a run has come to.
 #[derive(Clone, Copy, PartialEq, Eq, Debug, Drop)]
@@ -70,6 +73,34 @@ pub enum RunEnd {
     /// When it idles, as `idle::steps_until_idle` says, or after all its steps. These are made twice: to find the last,
     /// before anything is written, and to write what they put out.
     Idle,
+}
+
+/// Assembles the source, reads the feed, and runs the program for some steps: see `run_program`.
+pub fn run_engine<S: Read, F: Read, W: Write>(
+    alloc: Global,
+    source: &mut S,
+    feed: &mut F,
+    steps: u64,
+    out: &mut W,
+) -> Result<Summary, WorkshopFault>
+    requires { steps ≤ 2 ^ 40 - 2 }
+    ensures runs { Runs (Origin.Source Standard) RunEnd.Steps steps
+        (running (reader S.Read source.old) (reader F.Read feed.old) (writer W.Write out.old))
+        (running (reader S.Read source.new) (reader F.Read feed.new) (writer W.Write out.new)) result }
+    ensures handed_on { W.told ≡ true → 0 < steps → OnOk result (W.handed_on out.new ≡ W.written out.new) }
+{
+    let origin = Origin::Source(Language::Standard);
+    let progress = &mut Unheard;
+    run_program(
+        alloc,
+        origin,
+        source,
+        feed,
+        RunEnd::Steps,
+        steps,
+        out,
+        progress,
+    )
 }
 
 /// Reads a program and then a feed, and runs the program for some steps, or until it idles: the line of each output is

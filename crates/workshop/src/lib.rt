@@ -49,12 +49,12 @@ pub use covering::cover_program;
 pub use crossing::xref_engine;
 pub use debugger::{debug_session, extended_session};
 pub use debugging::{
-    Opened, debug_extended, debug_program, follow_source, open_program, open_session,
+    Opened, debug_engine, debug_extended, debug_program, follow_source, open_program, open_session,
 };
 pub use delaying::delays_program;
 pub use differing::{Side, differ_program};
 pub use ending::write_end;
-pub use engine::{MOST_STEPS, RunEnd, Summary, may_run, run_program};
+pub use engine::{MOST_STEPS, RunEnd, Summary, may_run, run_engine, run_program};
 pub use expect::{Asked, Expectation, Refusal as TextRefusal, expectation_in};
 pub use expecting::{Judged, judge_program};
 pub use explain::{
