@@ -48,8 +48,8 @@ fn parities_in_all(image: &Dump) -> (u32, u32)
     (counted, even)
 }
 
-/// Of how many words of a bank the parities count, and how many of these have two bytes with an even number of one bits:
-/// of none where all are one.
+/// Of how many words of a bank the parities count, and how many of these have two bytes with an even number of one
+/// bits: of none where all are one.
 fn parities_in(image: &Dump, bank: Bank) -> (u32, u32)
     requires { bank < banks }
     ensures counted { result.0 ≡ counted_words image.now bank }

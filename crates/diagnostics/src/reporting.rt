@@ -168,7 +168,8 @@ fn push_interpretive(
     count: usize,
     first: &Finding,
 ) -> Result<(), AllocError>
-    ensures { OnOk result (out.new.items ≡ out.old.items ++ interpretive_text source.now.notation (language_in source.now)
+    ensures { OnOk result (out.new.items ≡ out.old.items
+        ++ interpretive_text source.now.notation (language_in source.now)
         source.now.name.now (all_lines source.now) count first.now) }
 {
     let (text, parts) = line_at(source.read, u64::from(first.line));
@@ -435,7 +436,8 @@ fn line_below(
     parts: &Reading<'_>,
     fault: &Finding,
 ) -> Option<u64>
-    ensures { result ≡ line_below (language_in source.now) labels.now (all_lines source.now) (parts_in parts.now) fault.now }
+    ensures { result ≡ line_below (language_in source.now) labels.now (all_lines source.now) (parts_in parts.now)
+        fault.now }
 {
     let symbol = text_of(parts.operand);
     if !matches!(fault.kind, FaultKind::UsedTooEarly)
@@ -499,7 +501,8 @@ fn line_beside(
     parts: &Reading<'_>,
     fault: &Finding,
 ) -> Option<u64>
-    ensures { result ≡ line_beside (language_in source.now) labels.now (all_lines source.now) (parts_in parts.now) fault.now }
+    ensures { result ≡ line_beside (language_in source.now) labels.now (all_lines source.now) (parts_in parts.now)
+        fault.now }
 {
     match fault.taken_by {
         Some(line) => Some(u64::from(line)),

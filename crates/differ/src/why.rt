@@ -5,7 +5,8 @@ ghost use Rattle.arrayvec.specs.ArrayVec.{array_vec_len};
 ghost use Rattle.words.specs.Devices.{Writes, failures_after};
 ghost use Rattle.cpu.specs.State.{FitsRun};
 ghost use Rattle.differ.specs.Causes.{same_text, way_text};
-ghost use Rattle.differ.specs.DifferText.{Keeps, end_by, followed_on, link_part, named, next_after, next_of, number_text};
+ghost use Rattle.differ.specs.DifferText.{Keeps, end_by, followed_on, link_part, named, next_after, next_of};
+ghost use Rattle.differ.specs.DifferText.{number_text};
 ghost use Rattle.differ.specs.DifferText.{part_line, why_line, why_part, why_text};
 
 use crate::causes::{Followed, first_read, following, last_writer};

@@ -253,8 +253,8 @@ impl Notebook {
         record_plain_steps(self, processor, machine, done, stop)
     }
 
-    /// Makes the step behind step `done`, of so many quiet ones, and counts it, where nothing is told of it but, it may be,
-    /// that it reaches another bank; else leaves all as it is.
+    /// Makes the step behind step `done`, of so many quiet ones, and counts it, where nothing is told of it but, it may
+    /// be, that it reaches another bank; else leaves all as it is.
     #[inline(always)]
     fn record_reaching(
         &mut self,
@@ -319,8 +319,8 @@ impl Notebook {
         self.record_reaching(processor, machine, &fetched, reaches, done, quiet)
     }
 
-    /// Makes the step behind step `done`, of so many quiet ones, and counts it, where it is at Q, to which RETURN leads,
-    /// a way back to fixed memory; else leaves all as it is.
+    /// Makes the step behind step `done`, of so many quiet ones, and counts it, where it is at Q, to which RETURN
+    /// leads, a way back to fixed memory; else leaves all as it is.
     #[inline(never)]
     fn record_return(
         &mut self,

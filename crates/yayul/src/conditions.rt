@@ -4,7 +4,8 @@ ghost use Rattle.std.specs.Prelude.{◌≡◌, ◌<◌, ◌∷◌, [], ◌++◌,
 ghost use Rattle.std.specs.Result.{result_err};
 ghost use Rattle.agc_text.specs.Tables.{value_in};
 ghost use Rattle.yayul.specs.Layout.{standing, label_faults, bare_faults, label_alone, refused, erase, equals, width};
-ghost use Rattle.yayul.specs.Layout.{lacks_room, is_missing, is_twice, and_then, location_at, erasable_place, early_value, is_later};
+ghost use Rattle.yayul.specs.Layout.{lacks_room, is_missing, is_twice, and_then, location_at, erasable_place};
+ghost use Rattle.yayul.specs.Layout.{early_value, is_later};
 ghost use Rattle.yayul.specs.Survey.{word_kinds, content_kinds, place_of_words};
 ghost use Rattle.yayul.specs.Inside.Answers.{layout_of, tested_faults, held_faults};
 ghost use Rattle.yayul.specs.Inside.Representation.{holds_word};

@@ -1,6 +1,7 @@
 //! What each line does to the layout: the symbols of a source, and the words that its lines ask for.
 
-ghost use Rattle.std.specs.Prelude.{◌≡◌, ◌≤◌, ◌<◌, ◌+◌, ◌/◌, length, ◌∷◌, [], ◌++◌, ℕ, List, false, IfOk, OnOk, Ok, Some};
+ghost use Rattle.std.specs.Prelude.{◌≡◌, ◌≤◌, ◌<◌, ◌+◌, ◌/◌, length, ◌∷◌, [], ◌++◌, ℕ, List, false, IfOk, OnOk, Ok};
+ghost use Rattle.std.specs.Prelude.{Some};
 ghost use Rattle.std.specs.List.{list_all};
 ghost use Rattle.std.specs.Result.{result_unwrap_or};
 ghost use Rattle.agc_text.specs.Bytes.{is_text_byte};

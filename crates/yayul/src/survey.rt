@@ -201,7 +201,8 @@ impl Survey {
 
     // Does what a line without a fault says.
     fn lay(&mut self, line: u32, label: Label, operation: Operation) -> Result<(), Fault>
-        requires { (line : ℕ) (s : Surveyed) → Surveys line s self.old → layout_kinds line s.layout label operation ≡ [] }
+        requires { (line : ℕ) (s : Surveyed) → Surveys line s self.old
+            → layout_kinds line s.layout label operation ≡ [] }
         ensures leads { (s : Surveyed) → Surveys line s self.old
             → OnOk result (Surveys (line + 1) (laid line s label operation) self.new) }
         ensures known { self.new.known ≡ self.old.known }
