@@ -51,19 +51,15 @@ pub fn show_words(rt: &HostRuntime, words: &Words<'_>) -> Result<u8, WorkshopFau
 
 /// Writes the words of an image as they are to be shown.
 fn write_words(rt: &HostRuntime, words: &Words<'_>) -> Result<(), WorkshopFault> {
-    let (image, bank) = (&words.image, words.bank);
-    if let Shown::Named(table) | Shown::NamedSource(table) | Shown::Crossed(table) = words.shown {
-        return write_named_words(rt, table, words);
+    match words.shown {
+        Shown::Named(table) => write_named_words(rt, table, words),
+        Shown::NamedSource(table) => write_named_words(rt, table, words),
+        Shown::Crossed(table) => write_named_words(rt, table, words),
+        Shown::Holed(source) => write_holed_words(rt, source, words),
+        Shown::Source => write_shown(rt, &words.image, RopeText::Source(words.bank)),
+        Shown::Octals => write_shown(rt, &words.image, RopeText::Octals(words.bank)),
+        Shown::Instructions => write_shown(rt, &words.image, RopeText::Words(words.bank)),
     }
-    if let Shown::Holed(source) = words.shown {
-        return write_holed_words(rt, source, words);
-    }
-    let text = match words.shown {
-        Shown::Source => RopeText::Source(bank),
-        Shown::Octals => RopeText::Octals(bank),
-        _ => RopeText::Words(bank),
-    };
-    write_shown(rt, image, text)
 }
 
 /// Writes what is to be shown of the words of an image.
